@@ -1,0 +1,3 @@
+pub mod Plot
+pub mod Money
+pub mod Label

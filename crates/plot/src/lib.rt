@@ -1,0 +1,140 @@
+// Plots and money: a record's limits, what is left of a price, and the labels of keys.
+ghost use mathlib.Core.Path.{_≡_};
+ghost use Prim.Native.Nat.{_*_};
+ghost use Rattle.plot.specs.Plot.{lawfulDay, lawfulTerm, lawful};
+ghost use Rattle.plot.specs.Money.{daysLeft, reply, balanceReply};
+ghost use Rattle.plot.specs.Label.{lawfulLabel, keyReply, keyOfReply, labelReply, labelOfReply};
+
+// What is held of a plot: its key, the price in pence, the lease days (0: perpetual) and the last day.
+pub struct Record {
+    pub key: u32,
+    pub price: u32,
+    pub lease: u32,
+    pub last: u32,
+}
+
+pub enum BalanceAnswer {
+    Pence(u32),
+    OutsideLimits,
+}
+
+pub struct Label {
+    pub section: u32,
+    pub row: u32,
+    pub place: u32,
+}
+
+pub enum KeyAnswer {
+    Key(u32),
+    NoKey,
+}
+
+pub enum LabelAnswer {
+    Labelled(Label),
+    NoLabel,
+}
+
+// Whether a number is a day number.
+pub fn lawful_day(day: u32) -> bool
+    ensures { λ r. ⌜ r ≡ lawfulDay day ⌝ }
+{
+    day <= 99999
+}
+
+// Whether lease days and a last day are within their limits.
+pub fn lawful_term(lease: u32, last: u32) -> bool
+    ensures { λ r. ⌜ r ≡ lawfulTerm lease last ⌝ }
+{
+    if lease == 0 {
+        return last == 0;
+    }
+    if lease > 36525 {
+        return false;
+    }
+    lawful_day(last)
+}
+
+// Whether a record may be held.
+pub fn lawful_record(record: Record) -> bool
+    ensures { λ r. ⌜ r ≡ lawful «record» ⌝ }
+{
+    if record.key == 0 {
+        return false;
+    }
+    lawful_term(record.lease, record.last)
+}
+
+// The days of a lease that are left today.
+pub fn days_left(lease: u32, last: u32, today: u32) -> u32
+    ensures { λ r. ⌜ r ≡ daysLeft lease last today ⌝ }
+{
+    if today >= last {
+        return 0;
+    }
+    let left = last - today;
+    if left >= lease {
+        return lease;
+    }
+    left
+}
+
+// The product of two 32-bit numbers, with nothing lost.
+fn wide_product(a: u32, b: u32) -> u64
+    ensures { λ r. ⌜ r ≡ a * b ⌝ }
+{
+    (a as u64) * (b as u64)
+}
+
+// What is left of a price: price × days left / lease days, rounded down, the product in 64 bits.
+pub fn balance(price: u32, lease: u32, last: u32, today: u32) -> BalanceAnswer
+    ensures { λ r. ⌜ reply r ≡ balanceReply price lease last today ⌝ }
+{
+    if !lawful_term(lease, last) {
+        return BalanceAnswer::OutsideLimits;
+    }
+    if !lawful_day(today) {
+        return BalanceAnswer::OutsideLimits;
+    }
+    if lease == 0 {
+        return BalanceAnswer::Pence(0);
+    }
+    let left = days_left(lease, last, today);
+    let product = wide_product(price, left);
+    BalanceAnswer::Pence((product / (lease as u64)) as u32)
+}
+
+// The key of a label.
+pub fn key_of(label: Label) -> KeyAnswer
+    ensures { λ r. ⌜ keyReply r ≡ keyOfReply label ⌝ }
+{
+    let section = label.section;
+    let row = label.row;
+    let place = label.place;
+    if section < 1 {
+        return KeyAnswer::NoKey;
+    }
+    if section > 255 {
+        return KeyAnswer::NoKey;
+    }
+    if row > 4095 {
+        return KeyAnswer::NoKey;
+    }
+    if place > 4095 {
+        return KeyAnswer::NoKey;
+    }
+    KeyAnswer::Key(section * 16777216 + row * 4096 + place)
+}
+
+// The label of a key.
+pub fn label_of(key: u32) -> LabelAnswer
+    ensures { λ r. ⌜ labelReply r ≡ labelOfReply key ⌝ }
+{
+    if key < 16777216 {
+        return LabelAnswer::NoLabel;
+    }
+    LabelAnswer::Labelled(Label {
+        section: key / 16777216,
+        row: key / 4096 % 4096,
+        place: key % 4096,
+    })
+}
