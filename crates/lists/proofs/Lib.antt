@@ -1,0 +1,5 @@
+pub mod Cases
+pub mod Powers
+pub mod BitLaws
+pub mod ListLaws
+pub mod KeyedLaws

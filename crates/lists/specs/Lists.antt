@@ -1,0 +1,24 @@
+-- Lists: what holds of every element, and filtering by a test.
+--   All P xs      == P holds of each element
+--   Pairwise P xs == P x y holds of each element x and each later element y
+--   filter f xs   == the elements that pass the test f, in order
+--   all f xs      == each element passes the test f, as a Bool
+use mathlib.Core.Bool.{Bool, true, false, _&&_}
+use mathlib.Core.List.{List, [], _∷_}
+
+module _ {A : Type 0} where
+  abbrev pub All : (A → Type 0) → List A → Type 0
+  All P [] = Unit {0}
+  All P (x ∷ xs) = P x × All P xs
+
+  abbrev pub Pairwise : (A → A → Type 0) → List A → Type 0
+  Pairwise P [] = Unit {0}
+  Pairwise P (x ∷ xs) = All (P x) xs × Pairwise P xs
+
+  abbrev pub filter : (A → Bool) → List A → List A
+  filter f [] = []
+  filter f (x ∷ xs) = elim (f x) [ true ↦ x ∷ filter f xs | false ↦ filter f xs ]
+
+  abbrev pub all : (A → Bool) → List A → Bool
+  all f [] = true
+  all f (x ∷ xs) = f x && all f xs
