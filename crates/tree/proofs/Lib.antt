@@ -1,0 +1,4 @@
+pub mod Checks
+pub mod TrieLaws
+pub mod TowerLaws
+pub mod CarryLaws

@@ -1,0 +1,70 @@
+-- The starred desk checks of document 01 about the tree and the book, as rows of one table.
+--   Check  == a row: a tree's figures, what the book replies last, or L
+--   holds  == the definitions give what the row says
+--   table  == the rows
+use mathlib.Core.Bool.{Bool, _&&_}
+use mathlib.Core.List.{List, [], _∷_}
+use Prim.Native.Nat.{ℕ}
+use lib.Dec.{eqb}
+use Rattle.plot.specs.declared.Record.{Record}
+use Rattle.tree.specs.Trie.{shape}
+use Rattle.tree.specs.Tower.{levels, nodes}
+use Rattle.tree.specs.Build.{build, pages}
+use Rattle.tree.specs.Book.{plotFormat, Sizes, Reply, refused, book, levelBound}
+
+pub data Check : Type 0 where
+  figures : (width theta capacity : ℕ) (keys : List ℕ) (levels nodes pages : ℕ) → Check
+  replies : Sizes → (keys : List ℕ) → Reply → Check
+  bound : (width theta capacity : ℕ) (levels : ℕ) → Check
+
+abbrev perpetual : ℕ → Record
+perpetual k = record { key = k; price = 0; lease = 0; last = 0 }
+
+abbrev records : List ℕ → List Record
+records [] = []
+records (k ∷ ks) = perpetual k ∷ records ks
+
+abbrev last : Reply → List Reply → Reply
+last r [] = r
+last r (x ∷ xs) = last x xs
+
+abbrev sameReply : Reply → Reply → Bool
+sameReply a b =
+    eqb (a .number) (b .number) && (eqb (a .key) (b .key) && (eqb (a .levels) (b .levels) && (eqb (a .nodes) (b .nodes) && eqb (a .pages) (b .pages))))
+
+unfoldable pub holds : Check → Bool
+holds (figures w θ C ks l n p) =
+    let t = build (λ (k : ℕ). k) C w ks in eqb (levels θ (shape t)) l && (eqb (nodes θ (shape t)) n && eqb (pages t) p)
+holds (replies s ks r) = sameReply (last (refused 0) (book plotFormat s [] (records ks) .replies)) r
+holds (bound w θ C l) = eqb (levelBound w θ C) l
+
+abbrev sizes : ℕ → ℕ → ℕ → ℕ → Sizes
+sizes θ C N P = record { theta = θ; capacity = C; nodeBlocks = N; pageBlocks = P }
+
+abbrev reply : ℕ → ℕ → ℕ → ℕ → ℕ → Reply
+reply a k l n p = record { number = a; key = k; levels = l; nodes = n; pages = p }
+
+abbrev topTwo : List ℕ
+topTwo = 4294967294 ∷ 4294967295 ∷ []
+
+abbrev three : List ℕ
+three = 1073741824 ∷ 2147483648 ∷ 3221225472 ∷ []
+
+unfoldable pub table : List Check
+table =
+    -- "The empty set: 1 level, 1 node, 0 pages."
+    figures 32 1 1 [] 1 1 0
+    -- "The three keys above, θ = 1, C = 1: 2 levels, 3 nodes, 3 pages."
+    ∷ figures 32 1 1 three 2 3 3
+    -- "Keys 4,294,967,294 and 4,294,967,295, θ = 6, C = 1: 6 levels, 76 nodes, 2 pages."
+    ∷ figures 32 6 1 topTwo 6 76 2
+    -- "With P = 2, N = 75 refuses the second with 10; N = 76 takes it."
+    ∷ replies (sizes 6 1 75 2) topTwo (refused 10)
+    ∷ replies (sizes 6 1 76 2) topTwo (reply 0 4294967295 6 76 2)
+    -- "The same two, θ = 1: 32 levels, 528 nodes."
+    ∷ figures 32 1 1 topTwo 32 528 2
+    -- the same two at a key width of 64
+    ∷ figures 64 1 1 topTwo 64 2080 2
+    -- "L for θ = 6, C = 64 is 5."
+    ∷ bound 32 6 64 5
+    ∷ []
