@@ -1,13 +1,13 @@
 -- What holds of every element passes to filters, sublists and permutations.
 use mathlib.Core.Path.{_≡_, refl, sym, ap, _∙_, subst}
-use mathlib.Core.Bool.{Bool, true, false, not}
+use mathlib.Core.Bool.{Bool, true, false, not, true≢false, false≢true}
 use mathlib.Core.List.{List, [], _∷_, Sublistᴰ, List·Permᴰ}
 use mathlib.Core.List.{Sublistᴰ·slnil, Sublistᴰ·cons, Sublistᴰ·cons-cons, List·Permᴰ·nil, List·Permᴰ·cons, List·Permᴰ·swap, List·Permᴰ·trans}
 use mathlib.Core.Logic.{inl, inr}
-use Prim.Native.Nat.{ℕ, suc, _+_, _≤_}
+use Prim.Native.Nat.{ℕ, suc, _+_, _≤_, _<_}
 use native.Mathlib.Omega.{arith}
 use lib.ListN.{length}
-use Rattle.lists.specs.Lists.{All, Pairwise, filter}
+use Rattle.lists.specs.Lists.{All, Pairwise, filter, all}
 use Rattle.lists.proofs.Cases.{bool-cases}
 
 module _ {A : Type 0} (f : A → Bool) where
@@ -30,12 +30,37 @@ module _ {A : Type 0} (f : A → Bool) where
         | inr e ↦ rw (filter-false a xs e, filter-false b ys (ap f (sym p) ∙ e)) (filter-sublist s)
       ]
 
+  pub length-filter : (xs : List A) → length (filter f xs) ≤ length xs
+  length-filter [] = omega arith
+  length-filter (x ∷ xs) =
+      elim (bool-cases (f x)) [
+        | inl e ↦ rw (filter-true x xs e) (omega (arith, length-filter xs))
+        | inr e ↦ rw (filter-false x xs e) (omega (arith, length-filter xs))
+      ]
+
   pub filter-not : (xs : List A) → length (filter (λ x. not (f x)) xs) + length (filter f xs) ≡ length xs
   filter-not [] = omega arith
   filter-not (x ∷ xs) =
       elim (bool-cases (f x)) [
         | inl e ↦ rw (e, filter) (omega (arith, filter-not xs))
         | inr e ↦ rw (e, filter) (omega (arith, filter-not xs))
+      ]
+
+  -- every element passes the test, or the filter drops one
+  pub filter-all : (xs : List A) → all f xs ≡ true → filter f xs ≡ xs
+  filter-all [] e = refl
+  filter-all (x ∷ xs) e =
+      elim (bool-cases (f x)) [
+        | inl t ↦ rw (filter-true x xs t) (ap (λ (l : List A). x ∷ l) (filter-all xs (rw t at e)))
+        | inr t ↦ absurd (false≢true (rw t at e))
+      ]
+
+  pub filter-some : (xs : List A) → all f xs ≡ false → length (filter f xs) < length xs
+  filter-some [] e = absurd (true≢false e)
+  filter-some (x ∷ xs) e =
+      elim (bool-cases (f x)) [
+        | inl t ↦ rw (filter-true x xs t) (omega (arith, filter-some xs (rw t at e)))
+        | inr t ↦ rw (filter-false x xs t) (omega (arith, length-filter xs))
       ]
 
   module _ (P : A → Type 0) where
