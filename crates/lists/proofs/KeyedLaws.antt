@@ -17,6 +17,12 @@ use Rattle.lists.specs.Keyed.{Sorted, Distinct, Lacks, Bounded, Prefix, 
 use Rattle.lists.proofs.Cases.{bool-cases}
 use Rattle.lists.proofs.ListLaws.{filter-true, filter-false, all-filter, all-map, all-sublist, all-perm}
 
+or-left-comm : (a b c : Bool) → (a || (b || c)) ≡ (b || (a || c))
+or-left-comm true true c = refl
+or-left-comm true false c = refl
+or-left-comm false true c = refl
+or-left-comm false false c = refl
+
 module _ {R : Type 0} (key : R → ℕ) where
   pub insert-lt : (r x : R) (xs : List R) → key r < key x → insert key r (x ∷ xs) ≡ r ∷ x ∷ xs
   unfolding insert
@@ -204,6 +210,35 @@ module _ {R : Type 0} (key : R → ℕ) where
   unfolding contains
   lacks-contains k [] a = refl
   lacks-contains k (x ∷ xs) a = rw (ne-eqb (key x) k (a .0)) (lacks-contains k xs (a .1))
+
+  pub contains-insert : (k : ℕ) (r : R) (xs : List R) → contains key k (insert key r xs) ≡ (eqb (key r) k || contains key k xs)
+  unfolding contains insert
+  contains-insert k r [] = refl
+  contains-insert k r (x ∷ xs) =
+      elim (decLt (key r) (key x)) [
+        | yes h ↦ rw (insert-lt r x xs h)
+        | no h ↦ rw (insert-ge r x xs (omega arith), contains-insert k r xs) (or-left-comm (eqb (key x) k) (eqb (key r) k) (contains key k xs))
+      ]
+
+  -- records inserted one after another
+  abbrev pub insertAll : List R → List R → List R
+  insertAll xs [] = xs
+  insertAll xs (r ∷ rs) = insertAll (insert key r xs) rs
+
+  pub sublist-insertAll : (xs rs : List R) → Sublistᴰ xs (insertAll xs rs)
+  sublist-insertAll xs [] = Sublistᴰ·refl xs
+  sublist-insertAll xs (r ∷ rs) = Sublistᴰ·trans (sublist-insert r xs) (sublist-insertAll (insert key r xs) rs)
+
+  insertAll-insert : (r : R) (xs rs : List R) → All (λ y. key r ≡ key y → ⊥) rs → insertAll (insert key r xs) rs ≡ insert key r (insertAll xs rs)
+  insertAll-insert r xs [] d = refl
+  insertAll-insert r xs (x ∷ rs) d =
+      ap (λ (l : List R). insertAll l rs) (insert-swap x r xs (λ e. d .0 (sym e))) ∙ insertAll-insert r (insert key x xs) rs (d .1)
+
+  pub insertAll-ascending : (rs : List R) → Distinct key rs → insertAll [] rs ≡ ascending key rs
+  unfolding ascending
+  insertAll-ascending [] d = refl
+  insertAll-ascending (r ∷ rs) d =
+      insertAll-insert r [] rs (d .0) ∙ ap (insert key r) (insertAll-ascending rs (d .1))
 
   pub bounded-prefix : (W : ℕ) (xs : List R) → Bounded key (2 ^ W) xs → Prefix key W 0 xs
   bounded-prefix W xs = all-map (λ x. key x < 2 ^ W) (λ x. key x / 2 ^ W ≡ 0) xs (λ x h. div-eq-of-lt h)

@@ -92,6 +92,10 @@ module _ {A : Type 0} where
     all-map Q [] g a = tt
     all-map Q (x ∷ xs) g a = (g x (a .0), all-map Q xs g (a .1))
 
+    pub all-both : (Q Z : A → Type 0) (xs : List A) → ((x : A) → P x → Q x → Z x) → All P xs → All Q xs → All Z xs
+    all-both Q Z [] g a b = tt
+    all-both Q Z (x ∷ xs) g a b = (g x (a .0) (b .0), all-both Q Z xs g (a .1) (b .1))
+
     pub all-sublist : {xs ys : List A} → Sublistᴰ xs ys → All P ys → All P xs
     all-sublist Sublistᴰ·slnil a = tt
     all-sublist (Sublistᴰ·cons s) a = all-sublist s (a .1)

@@ -5,3 +5,5 @@ pub mod CarryLaws
 pub mod BuildLaws
 pub mod InsertLaws
 pub mod Growth
+pub mod LevelLaws
+pub mod BookLaws

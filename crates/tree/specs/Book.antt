@@ -8,11 +8,15 @@
 --   Reply            == an answer's number with key, levels, nodes and pages
 --   entered F p S r  == what one call replies and the records after it
 --   book F p S rs    == the same for a list of calls, from the records S
+--   accepts F p S r  == the record r joins the book that holds S
+--   accepted F p S rs == the records of a list of calls that join the book, in the order of the calls
+--   Narrow F         == every lawful key fits the key width
 --   log2 C           == the largest f with 2^f ≤ C
 --   levelBound W θ C == document 01's L
-use mathlib.Core.Bool.{Bool, true, false, _&&_}
+use mathlib.Core.Path.{_≡_}
+use mathlib.Core.Bool.{Bool, true, false, not, _&&_}
 use mathlib.Core.List.{List, [], _∷_}
-use Prim.Native.Nat.{ℕ, zero, suc, _+_, _-_, _/_, _^_}
+use Prim.Native.Nat.{ℕ, zero, suc, _+_, _-_, _/_, _^_, _<_}
 use lib.Dec.{leb}
 use Rattle.plot.specs.declared.Record.{Record}
 use Rattle.plot.specs.Plot.{lawful}
@@ -106,6 +110,17 @@ module _ {R : Type 0} (F : Format R) (p : Sizes) where
       let e = entered S r in
       let b = book (e .held) rs in
       record { replies = e .reply ∷ b .replies; held = b .held }
+
+  unfoldable pub accepts : List R → R → Bool
+  accepts S r = F .lawful r && (not (contains (F .key) (F .key r) S) && fits (insert (F .key) r S))
+
+  -- "Accepted records are those in the book."
+  unfoldable pub accepted : List R → List R → List R
+  accepted S [] = []
+  accepted S (r ∷ rs) = elim (accepts S r) [ true ↦ r ∷ accepted (insert (F .key) r S) rs | false ↦ accepted S rs ]
+
+abbrev pub Narrow : {R : Type 0} → Format R → Type 0
+Narrow {R} F = (r : R) → F .lawful r ≡ true → F .key r < 2 ^ F .width
 
 -- the largest f ≤ n with 2^f ≤ C
 unfoldable pub logBelow : ℕ → ℕ → ℕ
