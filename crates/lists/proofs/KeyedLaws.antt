@@ -161,9 +161,10 @@ module _ {R : Type 0} (key : R → ℕ) where
   distinct-perm List·Permᴰ·nil d = tt
   distinct-perm (List·Permᴰ·cons {a = a} {b = b} {l₂ = ys} e p) d =
       (subst (λ (x : R). All (λ y. key x ≡ key y → ⊥) ys) e (all-perm (λ y. key a ≡ key y → ⊥) p (d .0)), distinct-perm p (d .1))
-  distinct-perm (List·Permᴰ·swap {a = a} {b = b} {a′ = a′} {b′ = b′} {l = l} e e′) d =
-      ((λ q. d .0 .0 (ap key e ∙ sym q ∙ ap key (sym e′)), subst (λ (x : R). All (λ y. key x ≡ key y → ⊥) l) e′ (d .1 .0)),
-      (subst (λ (x : R). All (λ y. key x ≡ key y → ⊥) l) e (d .0 .1), d .1 .1))
+  distinct-perm (List·Permᴰ·swap {a = a} {b = b} {a′ = a′} {b′ = b′} {l = l} e e′) d = (
+    (λ q. d .0 .0 (ap key e ∙ sym q ∙ ap key (sym e′)), subst (λ (x : R). All (λ y. key x ≡ key y → ⊥) l) e′ (d .1 .0)),
+    (subst (λ (x : R). All (λ y. key x ≡ key y → ⊥) l) e (d .0 .1), d .1 .1),
+  )
   distinct-perm (List·Permᴰ·trans p q) d = distinct-perm q (distinct-perm p d)
 
   -- the ascending list does not depend on the order

@@ -3,3 +3,4 @@ pub mod Powers
 pub mod BitLaws
 pub mod ListLaws
 pub mod KeyedLaws
+pub mod Parts

@@ -1,10 +1,13 @@
--- Lists: what holds of every element, and filtering by a test.
+-- Lists: what holds of every element, filtering by a test, and replacing a part.
 --   All P xs      == P holds of each element
 --   Pairwise P xs == P x y holds of each element x and each later element y
 --   filter f xs   == the elements that pass the test f, in order
 --   all f xs      == each element passes the test f, as a Bool
+--   replaced a n ys xs == xs with its n elements from index a on replaced by ys
 use mathlib.Core.Bool.{Bool, true, false, _&&_}
-use mathlib.Core.List.{List, [], _∷_}
+use mathlib.Core.List.{List, [], _∷_, _++_}
+use Prim.Native.Nat.{ℕ, _+_}
+use lib.ListN.{take, drop}
 
 module _ {A : Type 0} where
   abbrev pub All : (A → Type 0) → List A → Type 0
@@ -22,3 +25,6 @@ module _ {A : Type 0} where
   abbrev pub all : (A → Bool) → List A → Bool
   all f [] = true
   all f (x ∷ xs) = f x && all f xs
+
+  unfoldable pub replaced : ℕ → ℕ → List A → List A → List A
+  replaced a n ys xs = take a xs ++ (ys ++ drop (a + n) xs)

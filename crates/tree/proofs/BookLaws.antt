@@ -31,8 +31,10 @@ module _ {R : Type 0} (F : Format R) (p : Sizes) where
   unfolding fits
   fits-le S T n g e =
       let f = and-true (leb (nodesOf F p T) (p .nodeBlocks)) (leb (pagesOf F p T) (p .pageBlocks)) e in
-      rw (le-leb (nodesOf F p S) (p .nodeBlocks) (omega (arith, leb-true (nodesOf F p T) (p .nodeBlocks) (f .0))),
-        le-leb (pagesOf F p S) (p .pageBlocks) (omega (arith, leb-true (pagesOf F p T) (p .pageBlocks) (f .1))))
+      rw (
+        le-leb (nodesOf F p S) (p .nodeBlocks) (omega (arith, leb-true (nodesOf F p T) (p .nodeBlocks) (f .0))),
+        le-leb (pagesOf F p S) (p .pageBlocks) (omega (arith, leb-true (pagesOf F p T) (p .pageBlocks) (f .1))),
+      )
 
   pub fits-sublist : (S T : List R) → Sublistᴰ S T → fits F p T ≡ true → fits F p S ≡ true
   fits-sublist S T d =

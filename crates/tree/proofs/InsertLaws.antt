@@ -20,7 +20,7 @@ use Rattle.lists.proofs.KeyedLaws.{length-insert}
 use Rattle.tree.specs.Trie.{Trie, leaf, fork, Shape, tip, Key, shape, height, leafAt, depth, rest, graft, pair, split}
 use Rattle.tree.specs.Build.{same, side, build, rounds, target, halve, put, roundsAt, filled, pages, pagesAt}
 use Rattle.tree.specs.Carry.{splits}
-use Rattle.tree.proofs.TrieLaws.{graft-graft, leafAt-graft, depth-graft, depth-pair, depth-le-height, rest-bits, shape-graft, rest-shape}
+use Rattle.tree.proofs.TrieLaws.{graft-leafAt, graft-graft, leafAt-graft, depth-graft, depth-pair, depth-le-height, rest-bits, shape-graft, rest-shape}
 use Rattle.tree.proofs.BuildLaws.{length-sides, sorted-side, all-side, side-insert, side-insert-off, prefix-side, build-le, build-gt, height-build, leaf-all, leaf-sorted, leaf-prefix, leaf-small, build-insert}
 
 -- halvings at a key stay on the key's side, and in the leaf at the key
@@ -36,14 +36,8 @@ splits-graft : (d : ℕ) (t c : Shape) (k : Key) → splits d (graft t k c) k �
 splits-graft zero t c k = refl
 splits-graft (suc d) t c k = ap (λ (s : Shape). splits d s k) (graft-graft t k c (pair tt tt)) ∙ splits-graft d t (split c (rest t k)) k
 
-graft-tip : (t : Shape) (k : Key) → graft t k tip ≡ t
-graft-tip (leaf x) k = refl
-graft-tip (fork l r) [] = ap (λ (s : Shape). fork s r) (graft-tip l [])
-graft-tip (fork l r) (false ∷ k) = ap (λ (s : Shape). fork s r) (graft-tip l k)
-graft-tip (fork l r) (true ∷ k) = ap (λ (s : Shape). fork l s) (graft-tip r k)
-
 pub splits-at : (d : ℕ) (t : Shape) (k : Key) → splits d t k ≡ graft t k (splits d tip (rest t k))
-splits-at d t k = ap (λ (s : Shape). splits d s k) (sym (graft-tip t k)) ∙ splits-graft d t tip k
+splits-at d t k = ap (λ (s : Shape). splits d s k) (sym (graft-leafAt t k)) ∙ splits-graft d t tip k
 
 pub filled-le : {R : Type 0} (ls : List R) → filled ls ≤ 1
 filled-le [] = omega arith
@@ -90,14 +84,22 @@ module _ {R : Type 0} (key : R → ℕ) where
     full-low : (w : ℕ) (r : R) (ls : List R) → Sorted key ls → length ls ≡ C → bit w (key r) ≡ false
         → build key C (suc w) (insert key r ls) ≡ fork (build key C w (insert key r (side key false w ls))) (leaf (side key true w ls))
     full-low w r ls s f e =
-        rw (build-gt key C w (insert key r ls) (omega (arith, length-insert key r ls)), side-insert key false w r ls e s, side-insert-off key true w r ls e,
-          build-le key C w (side key true w ls) (omega (arith, length-side true w ls)))
+        rw (
+          build-gt key C w (insert key r ls) (omega (arith, length-insert key r ls)),
+          side-insert key false w r ls e s,
+          side-insert-off key true w r ls e,
+          build-le key C w (side key true w ls) (omega (arith, length-side true w ls)),
+        )
 
     full-high : (w : ℕ) (r : R) (ls : List R) → Sorted key ls → length ls ≡ C → bit w (key r) ≡ true
         → build key C (suc w) (insert key r ls) ≡ fork (leaf (side key false w ls)) (build key C w (insert key r (side key true w ls)))
     full-high w r ls s f e =
-        rw (build-gt key C w (insert key r ls) (omega (arith, length-insert key r ls)), side-insert key true w r ls e s, side-insert-off key false w r ls e,
-          build-le key C w (side key false w ls) (omega (arith, length-side false w ls)))
+        rw (
+          build-gt key C w (insert key r ls) (omega (arith, length-insert key r ls)),
+          side-insert key true w r ls e s,
+          side-insert-off key false w r ls e,
+          build-le key C w (side key false w ls) (omega (arith, length-side false w ls)),
+        )
 
     -- the shape of a full leaf with a record more: as many halvings as rounds
     overflow : (w : ℕ) (r : R) (ls : List R) → Sorted key ls → length ls ≡ C
@@ -302,7 +304,7 @@ module _ {R : Type 0} (key : R → ℕ) where
           ∙ elim (decLt (length (leafAt t k)) C) [
             | yes h ↦
                 rw (roundsAt-room W (key r) t h, build-le key C (W - depth t k) (insert key r (leafAt t k)) (omega (arith, length-insert key r (leafAt t k))))
-                (graft-tip (shape t) k)
+                (graft-leafAt (shape t) k)
             | no h ↦
                 rw (roundsAt-full W (key r) t (omega arith), overflow (W - depth t k) r (leafAt t k) (leaf-sorted key C W (key r) S s) (omega (arith, small)))
                 (ap (λ (j : Key). graft (shape t) k (splits (rounds key (W - depth t k) (key r) (leafAt t k)) tip j)) (sym (rest-shape t k ∙ rest-bits t W (key r) deep))

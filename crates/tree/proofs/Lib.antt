@@ -1,4 +1,3 @@
-pub mod Checks
 pub mod TrieLaws
 pub mod TowerLaws
 pub mod CarryLaws
@@ -7,3 +6,11 @@ pub mod InsertLaws
 pub mod Growth
 pub mod LevelLaws
 pub mod BookLaws
+pub mod Promises
+pub mod Flatten
+pub mod SplitRun
+pub mod Scale
+pub mod RunRules
+pub mod Steps
+pub mod NodePromises
+pub mod Checks

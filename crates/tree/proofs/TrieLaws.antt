@@ -21,6 +21,18 @@ module _ {A : Type 0} where
   leaves-pos (leaf x) = omega arith
   leaves-pos (fork l r) = omega (arith, leaves-pos l)
 
+  pub graft-leafAt : (t : Trie A) (k : Key) → graft t k (leaf (leafAt t k)) ≡ t
+  graft-leafAt (leaf x) k = refl
+  graft-leafAt (fork l r) [] = ap (λ (u : Trie A). fork u r) (graft-leafAt l [])
+  graft-leafAt (fork l r) (false ∷ k) = ap (λ (u : Trie A). fork u r) (graft-leafAt l k)
+  graft-leafAt (fork l r) (true ∷ k) = ap (λ (u : Trie A). fork l u) (graft-leafAt r k)
+
+  pub height-graft : (t : Trie A) (k : Key) (c : Trie A) → height (graft t k c) ≤ max (height t) (depth t k + height c)
+  height-graft (leaf x) k c = omega arith
+  height-graft (fork l r) [] c = omega (arith, height-graft l [] c)
+  height-graft (fork l r) (false ∷ k) c = omega (arith, height-graft l k c)
+  height-graft (fork l r) (true ∷ k) c = omega (arith, height-graft r k c)
+
   pub graft-graft : (t : Trie A) (k : Key) (c d : Trie A) → graft (graft t k c) k d ≡ graft t k (graft c (rest t k) d)
   graft-graft (leaf x) k c d = refl
   graft-graft (fork l r) [] c d = ap (λ (t : Trie A). fork t r) (graft-graft l [] c d)

@@ -6,3 +6,4 @@ pub mod Node
 pub mod NodePromises
 pub mod Book
 pub mod Checks
+pub mod Promises
