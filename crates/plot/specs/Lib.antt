@@ -1,3 +1,5 @@
 pub mod Plot
 pub mod Money
 pub mod Label
+pub mod Promises
+pub mod Checks

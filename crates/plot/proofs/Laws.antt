@@ -1,0 +1,140 @@
+-- What the functions' proofs and the promises share: bounds on products and quotients, days left and balances, and the limits of labels and keys.
+-- Assumes nothing.
+use mathlib.Core.Bool.{Bool, true, false, not, _&&_, and-false, and-eq-true-iff, not-eq-not}
+use mathlib.Core.Path.{_≡_, sym, subst⁻¹, _∙_}
+use Prim.Native.Nat.{ℕ, _+_, _*_, _/_, _^_, _≤_, _<_}
+use native.Mathlib.Nat.{le-of-lt, lt-of-le-of-lt, mul-le-mul-left, mul-lt-mul-of-pos-right, mul-comm, div-le-of-le-mul, div-zero}
+use native.Mathlib.Decide.{ℕ-discrete}
+use native.Mathlib.Omega.{arith}
+use lib.Dec.{leb, ltb}
+use lib.Pow.{pow-pos, pow-add}
+use borrow.Author.Tests.{leb-true, ltb-true, le-leb, lt-ltb, eq-eqb, ne-eqb, not-true, not-false}
+use Rattle.plot.specs.declared.Label.{Label}
+use Rattle.plot.specs.Plot.{lawfulDay, lawfulTerm}
+use Rattle.plot.specs.Money.{daysLeft, amount, balanceReply}
+use Rattle.plot.specs.Label.{lawfulLabel, pack, sectionOf, rowOf, placeOf, hasLabel, keyOfReply, labelOfReply}
+
+-- The product of two numbers of k bits has at most k + k.
+pub product-below : (k : ℕ) {a b : ℕ} → a < 2 ^ k → b < 2 ^ k → a * b < 2 ^ (k + k)
+product-below k {a} {b} ha hb =
+    subst⁻¹ (λ (n : ℕ). a * b < n) (pow-add 2 k k)
+    (lt-of-le-of-lt (mul-le-mul-left a (le-of-lt hb)) (mul-lt-mul-of-pos-right ha (pow-pos k)))
+
+-- x × d / l is at most x where d is at most l.
+pub share-le : (x d l : ℕ) → d ≤ l → x * d / l ≤ x
+share-le x d l h = div-le-of-le-mul l (rw (mul-comm l x) (mul-le-mul-left x h))
+
+-- A branch on `!r`, where r is what a definition's test b gives.
+pub passed : {r b : Bool} → r ≡ b → not r ≡ false → b ≡ true
+passed e h = sym e ∙ not-false _ h
+
+pub failed : {r b : Bool} → r ≡ b → not r ≡ true → b ≡ false
+failed e h = sym e ∙ not-true _ h
+
+-- Days left: at most the lease days, and 0 from the last day on.
+module _ (lease last today : ℕ) where
+  pub days-within : daysLeft lease last today ≤ lease
+  unfolding daysLeft
+  days-within = omega arith
+
+  pub days-ended : last ≤ today → daysLeft lease last today ≡ 0
+  unfolding daysLeft
+  days-ended h = omega arith
+
+-- A balance: 0 if perpetual, always the quotient (a quotient by 0 is 0), and at most the price.
+module _ (price lease last today : ℕ) where
+  pub amount-perpetual : lease ≡ 0 → amount price lease last today ≡ 0
+  unfolding amount
+  amount-perpetual h = rw (eq-eqb lease 0 h, amount)
+
+  pub amount-quotient : amount price lease last today ≡ price * daysLeft lease last today / lease
+  unfolding amount
+  amount-quotient =
+      elim (ℕ-discrete lease 0) [
+        | yes h ↦ amount-perpetual h ∙ sym (rw h (div-zero _))
+        | no h ↦ rw (ne-eqb lease 0 h, amount)
+      ]
+
+  pub amount-within : amount price lease last today ≤ price
+  amount-within = rw amount-quotient (share-le price _ lease (days-within lease last today))
+
+-- What `balance` is to reply: a refusal of the term or of today, else the amount.
+module _ (price lease last today : ℕ) where
+  pub term-refused : lawfulTerm lease last ≡ false → record { number = 6; value = 0 } ≡ balanceReply price lease last today
+  unfolding balanceReply
+  term-refused h = rw (h, balanceReply)
+
+  pub today-refused : lawfulDay today ≡ false → record { number = 6; value = 0 } ≡ balanceReply price lease last today
+  unfolding balanceReply
+  today-refused h = rw (h, and-false (lawfulTerm lease last), balanceReply)
+
+  pub balance-given :
+      {v : ℕ} →
+      lawfulTerm lease last ≡ true →
+      lawfulDay today ≡ true →
+      v ≡ amount price lease last today →
+      record { number = 0; value = v } ≡ balanceReply price lease last today
+  unfolding balanceReply
+  balance-given t d e = rw (t, d, balanceReply) (rw e)
+
+-- The limits of a label.
+pub record Limits (s r p : ℕ) : Type 0 where
+  pub first : 1 ≤ s
+  pub section : s ≤ 255
+  pub row : r ≤ 4095
+  pub place : p ≤ 4095
+
+module _ (s r p : ℕ) where
+  pub label-limits : lawfulLabel s r p ≡ true → Limits s r p
+  unfolding lawfulLabel
+  label-limits h =
+      let a = and-eq-true-iff (leb 1 s) (leb s 255 && (leb r 4095 && leb p 4095)) .0 h in
+      let b = and-eq-true-iff (leb s 255) (leb r 4095 && leb p 4095) .0 (a .1) in
+      let d = and-eq-true-iff (leb r 4095) (leb p 4095) .0 (b .1) in
+      record {
+        first = leb-true 1 s (a .0);
+        section = leb-true s 255 (b .0);
+        row = leb-true r 4095 (d .0);
+        place = leb-true p 4095 (d .1);
+      }
+
+  pub limits-label : Limits s r p → lawfulLabel s r p ≡ true
+  unfolding lawfulLabel
+  limits-label h = simp (le-leb 1 s (h .first), le-leb s 255 (h .section), le-leb r 4095 (h .row), le-leb p 4095 (h .place))
+
+-- What `key_of` is to reply: a refusal outside the limits, else the key.
+module _ {l : Label} where
+  pub key-refused : (Limits (l .section) (l .row) (l .place) → ⊥) → record { number = 11; key = 0 } ≡ keyOfReply l
+  unfolding keyOfReply
+  key-refused h =
+      rw (not-eq-not {a = lawfulLabel (l .section) (l .row) (l .place)} {b = false} .0 (λ e. h (label-limits _ _ _ e)), keyOfReply)
+
+  pub key-given :
+      {k : ℕ} →
+      Limits (l .section) (l .row) (l .place) →
+      k ≡ pack (l .section) (l .row) (l .place) →
+      record { number = 0; key = k } ≡ keyOfReply l
+  unfolding keyOfReply
+  key-given h e = rw (limits-label (l .section) (l .row) (l .place) h, keyOfReply) (rw e)
+
+-- The limits of a key that has a label.
+module _ (k : ℕ) where
+  pub key-limits : hasLabel k ≡ true → (2 ^ 24 ≤ k) × (k < 2 ^ 32)
+  unfolding hasLabel
+  key-limits h =
+      let a = and-eq-true-iff (leb (2 ^ 24) k) (ltb k (2 ^ 32)) .0 h in
+      (leb-true (2 ^ 24) k (a .0), ltb-true k (2 ^ 32) (a .1))
+
+  pub limits-key : 2 ^ 24 ≤ k → k < 2 ^ 32 → hasLabel k ≡ true
+  unfolding hasLabel
+  limits-key h l = simp (le-leb (2 ^ 24) k h, lt-ltb k (2 ^ 32) l)
+
+-- What `label_of` is to reply: a refusal below 2^24, else the parts of the key.
+module _ {k : ℕ} where
+  pub label-refused : k < 2 ^ 24 → record { number = 11; section = 0; row = 0; place = 0 } ≡ labelOfReply k
+  unfolding labelOfReply
+  label-refused h = rw (not-eq-not {a = hasLabel k} {b = false} .0 (λ e. omega (arith, key-limits k e)), labelOfReply)
+
+  pub label-given : 2 ^ 24 ≤ k → k < 2 ^ 32 → record { number = 0; section = sectionOf k; row = rowOf k; place = placeOf k } ≡ labelOfReply k
+  unfolding labelOfReply
+  label-given h l = rw (limits-key k h l, labelOfReply)

@@ -1,0 +1,65 @@
+-- `plot::balance` meets its contract: a refusal stands where a limit is broken, and elsewhere the quotient is the definition's, at most the price.
+-- Assumes nothing.
+use borrow.Author.Needs.{needs}
+use mathlib.Core.Path.{sym}
+use native.Mathlib.Nat.{lt-of-le-of-lt}
+use Rattle.plot.proofs.Laws.{share-le, passed, failed, days-within, amount-perpetual, amount-quotient, term-refused, today-refused, balance-given}
+use Rattle.plot.proofs.balance.Statement.{statement}
+use Rattle.plot.proofs.balance.Tie as tie
+
+lawful-term-requires : tie.Need-lawful-term-requires
+lawful-term-requires c κs = search needs
+
+returns : tie.Need-returns
+returns c = term-refused _ _ _ _ (failed (c .before .lawful-term .ensures) (c .if1 .taken))
+
+lawful-day-requires : tie.Need-lawful-day-requires
+lawful-day-requires c κs = search needs
+
+returns-2 : tie.Need-returns-2
+returns-2 c = today-refused _ _ _ _ (failed (c .before .lawful-day .ensures) (c .if2 .taken))
+
+returns-3 : tie.Need-returns-3
+returns-3 c =
+    balance-given _ _ _ _
+    (passed (c .before .before .before .before .lawful-term .ensures) (c .before .before .before .if1 .left))
+    (passed (c .before .before .lawful-day .ensures) (c .before .if2 .left))
+    (sym (amount-perpetual _ _ _ _ (c .if3 .taken)))
+
+days-left-requires : tie.Need-days-left-requires
+days-left-requires c κs = search needs
+
+wide-product-requires : tie.Need-wide-product-requires
+wide-product-requires c κs = search needs
+
+div-t10 : tie.Need-div-t10
+div-t10 c = search needs
+
+returns-4 : tie.Need-returns-4
+returns-4 c =
+    balance-given _ _ _ _
+    (passed (c .before .before .before .before .before .before .lawful-term .ensures) (c .before .before .before .before .before .if1 .left))
+    (passed (c .before .before .before .before .lawful-day .ensures) (c .before .before .before .if2 .left))
+    (simp (c .wide-product .ensures, c .before .days-left .ensures) (sym (amount-quotient _ _ _ _)))
+
+cast-t11 : tie.Need-cast-t11
+cast-t11 c =
+    record {
+      fits = simp (c .wide-product .ensures, c .before .days-left .ensures)
+          (lt-of-le-of-lt (share-le _ _ _ (days-within _ _ _)) (search needs));
+    }
+
+pub balance-spec : {M : Type 1} → statement M
+balance-spec =
+    tie.close
+    (tie.spec
+    lawful-term-requires
+    returns
+    lawful-day-requires
+    returns-2
+    returns-3
+    days-left-requires
+    wide-product-requires
+    div-t10
+    cast-t11
+    returns-4)

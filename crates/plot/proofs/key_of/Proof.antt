@@ -1,0 +1,42 @@
+-- `plot::key_of` meets its contract: a return with no key stands where a limit is broken, and the key is returned where all four hold.
+-- Assumes nothing.
+use borrow.Author.Needs.{needs}
+use native.Mathlib.Omega.{arith}
+use Rattle.plot.specs.Label.{pack}
+use Rattle.plot.proofs.Laws.{key-refused, key-given}
+use Rattle.plot.proofs.key_of.Statement.{statement}
+use Rattle.plot.proofs.key_of.Tie as tie
+
+returns : tie.Need-returns
+returns c = key-refused (λ h. omega arith)
+
+returns-2 : tie.Need-returns-2
+returns-2 c = key-refused (λ h. omega arith)
+
+returns-3 : tie.Need-returns-3
+returns-3 c = key-refused (λ h. omega arith)
+
+returns-4 : tie.Need-returns-4
+returns-4 c = key-refused (λ h. omega arith)
+
+mul-t6 : tie.Need-mul-t6
+mul-t6 c = search needs
+
+mul-t7 : tie.Need-mul-t7
+mul-t7 c = search needs
+
+add-t8 : tie.Need-add-t8
+add-t8 c = search needs
+
+add-t9 : tie.Need-add-t9
+add-t9 c = search needs
+
+returns-5 : tie.Need-returns-5
+unfolding pack
+returns-5 c =
+    key-given record { first = omega arith; section = omega arith; row = omega arith; place = omega arith } (omega arith)
+
+pub key-of-spec : {M : Type 1} → statement M
+key-of-spec =
+    tie.close
+    (tie.spec returns returns-2 returns-3 returns-4 mul-t6 mul-t7 add-t8 add-t9 returns-5)

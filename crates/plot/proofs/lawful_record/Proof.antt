@@ -1,0 +1,27 @@
+-- `plot::lawful_record` meets its contract: key and price are 32-bit numbers by their type, and the other two parts of the definition are the function's tests.
+-- Assumes nothing.
+use borrow.Author.Needs.{needs}
+use borrow.Author.Tests.{eq-eqb, ne-eqb, lt-ltb}
+use mathlib.Core.Bool.{and-false}
+use Prim.Native.Nat.{_^_}
+use native.Mathlib.Omega.{arith}
+use Rattle.plot.specs.Plot.{word, lawful}
+use Rattle.plot.proofs.lawful_record.Statement.{statement}
+use Rattle.plot.proofs.lawful_record.Tie as tie
+
+returns : tie.Need-returns
+unfolding lawful
+returns c = simp (eq-eqb (c .before .before .args .«record» .key) 0 (omega arith), and-false)
+
+lawful-term-requires : tie.Need-lawful-term-requires
+lawful-term-requires c κs = search needs
+
+returns-2 : tie.Need-returns-2
+unfolding lawful word
+returns-2 c =
+    let r = c .before .before .before .args .«record» in
+    simp (lt-ltb (r .key) (2 ^ 32) (search needs), ne-eqb (r .key) 0 (omega arith), lt-ltb (r .price) (2 ^ 32) (search needs))
+    (c .lawful-term .ensures)
+
+pub lawful-record-spec : {M : Type 1} → statement M
+lawful-record-spec = tie.close (tie.spec returns lawful-term-requires returns-2)
