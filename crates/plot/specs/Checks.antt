@@ -3,9 +3,8 @@
 --   money    == a row about a balance: price, lease days, last day and today
 --   label    == a row about the key of a label: section, row and place
 --   holds c  == the definitions give the row's answer
---   all f cs == every row of cs passes the test f
 --   table    == the rows
-use mathlib.Core.Bool.{Bool, true, _&&_}
+use mathlib.Core.Bool.{Bool, _&&_}
 use mathlib.Core.List.{List, [], _∷_}
 use Prim.Native.Nat.{ℕ}
 use lib.Dec.{eqb}
@@ -23,10 +22,6 @@ holds (money price lease last today number value) =
 holds (label section row place number key) =
     let r = keyOfReply (record { section = section; row = row; place = place }) in
     eqb (r .number) number && eqb (r .key) key
-
-unfoldable pub all : (Check → Bool) → List Check → Bool
-all f [] = true
-all f (c ∷ cs) = f c && all f cs
 
 unfoldable pub table : List Check
 table =

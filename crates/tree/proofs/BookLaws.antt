@@ -188,9 +188,9 @@ module _ {R : Type 0} (F : Format R) (p : Sizes) where
       }
 
   -- in every order
-  pub any-order : (rs qs : List R) → List·Permᴰ rs qs → All (λ r. F .lawful r ≡ true) rs → Distinct (F .key) rs → fits F p (ascending (F .key) rs) ≡ true
+  pub taken-any-order : (rs qs : List R) → List·Permᴰ rs qs → All (λ r. F .lawful r ≡ true) rs → Distinct (F .key) rs → fits F p (ascending (F .key) rs) ≡ true
       → All (λ a. a .number ≡ 0) (book F p [] qs .replies) × (book F p [] qs .held ≡ ascending (F .key) rs)
-  any-order rs qs m l d f =
+  taken-any-order rs qs m l d f =
       let dq = distinct-perm (F .key) m d in
       let same = ascending-perm (F .key) m d in
       let t = taken [] qs (all-perm (λ r. F .lawful r ≡ true) m l) dq (all-map (λ r. F .lawful r ≡ true) (λ r. Unit {0}) qs (λ r q. tt) (all-perm (λ r. F .lawful r ≡ true) m l))

@@ -1,4 +1,4 @@
--- The promises of specs/Promises.antt, each from its laws.
+-- The promises of specs/Promises.antt, each from its laws: `TowerIsCanonical` as `tower-is-canonical`, and so on.
 use mathlib.Core.Path.{_≡_, refl, sym, ap, _∙_}
 use mathlib.Core.Bool.{true}
 use mathlib.Core.List.{List, [], _∷_, Sublistᴰ, List·Permᴰ}
@@ -11,6 +11,7 @@ use Rattle.lists.specs.Lists.{All}
 use Rattle.lists.specs.Keyed.{Sorted, Distinct, Bounded, Prefix, ascending}
 use Rattle.lists.proofs.ListLaws.{all-map}
 use Rattle.lists.proofs.KeyedLaws.{bounded-prefix, ascending-perm, ascending-sublist}
+use Rattle.plot.proofs.Promises.{lawful-record}
 use Rattle.tree.specs.Trie.{Trie, shape}
 use Rattle.tree.specs.Tower.{cut, tower}
 use Rattle.tree.specs.Build.{build, roundsAt}
@@ -22,16 +23,16 @@ use Rattle.tree.proofs.BuildLaws.{build-le, build-insert}
 use Rattle.tree.proofs.InsertLaws.{insert-form, insert-pages, round-target, round-falls, put-target}
 use Rattle.tree.proofs.Growth.{within-tower, within-build, sublist-pages}
 use Rattle.tree.proofs.LevelLaws.{levels-bound}
-use Rattle.tree.proofs.BookLaws.{fits-sublist, book-sorted, book-lawful, book-fits, book-ascending, accepted-distinct, any-order}
+use Rattle.tree.proofs.BookLaws.{fits-sublist, book-sorted, book-lawful, book-fits, book-ascending, accepted-distinct, taken-any-order}
 
-pub towerIsCanonical : TowerIsCanonical
-towerIsCanonical = tower-canonical
+pub tower-is-canonical : TowerIsCanonical
+tower-is-canonical = tower-canonical
 
-pub onlyTower : OnlyTower
-onlyTower = tower-unique
+pub only-tower : OnlyTower
+only-tower = tower-unique
 
-pub oneHalving : OneHalving
-oneHalving θ t k h = let v = halved θ t k h in (v .levels, v .local, v .cost)
+pub one-halving : OneHalving
+one-halving θ t k h = let v = halved θ t k h in (v .levels, v .local, v .cost)
 
 module _ {R : Type 0} (key : R → ℕ) (W θ C : ℕ) where
   pub insertion : Insertion key W θ C
@@ -46,49 +47,53 @@ module _ {R : Type 0} (key : R → ℕ) (W θ C : ℕ) where
         pageCount = insert-pages key C W r S c s p m;
       }
 
-  pub levelsWithin : LevelsWithin key W θ C
-  levelsWithin h c l S s b = levels-bound key W θ C 0 S h c l s (bounded-prefix key W S b)
+  pub levels-within : LevelsWithin key W θ C
+  levels-within h c l S s b = levels-bound key W θ C 0 S h c l s (bounded-prefix key W S b)
 
 module _ {R : Type 0} (key : R → ℕ) (W C : ℕ) where
-  pub roundKeeps : RoundKeeps key W C
-  roundKeeps = round-target key C W
+  pub round-keeps : RoundKeeps key W C
+  round-keeps = round-target key C W
 
-  pub roundCounts : RoundCounts key W C
-  roundCounts = round-falls key C W
+  pub round-counts : RoundCounts key W C
+  round-counts = round-falls key C W
 
-  pub putReaches : PutReaches key W C
-  putReaches = put-target key C W
+  pub put-reaches : PutReaches key W C
+  put-reaches = put-target key C W
 
-pub oneList : {R : Type 0} (key : R → ℕ) → OneList key
-oneList key rs qs d m = ascending-perm key m d
+pub one-list : {R : Type 0} (key : R → ℕ) → OneList key
+one-list key rs qs d m = ascending-perm key m d
 
 module _ {R : Type 0} (F : Format R) (p : Sizes) where
-  pub neverShrinks : NeverShrinks F p
-  neverShrinks = (
+  pub never-shrinks : NeverShrinks F p
+  never-shrinks = (
     λ S T d.
         let w = within-tower (p .theta) (shape (tree F p S)) (shape (tree F p T)) (within-build (F .key) (p .capacity) (F .width) S T d) in
         (w .1, w .0, sublist-pages (F .key) (p .capacity) (F .width) S T d),
     λ rs qs d q. fits-sublist F p (ascending (F .key) rs) (ascending (F .key) qs) (ascending-sublist (F .key) q d),
   )
 
-  pub holdsAccepted : HoldsAccepted F p
-  holdsAccepted = (
+  pub holds-accepted : HoldsAccepted F p
+  holds-accepted = (
     book-ascending F p,
     λ rs qs m. book-ascending F p rs ∙ ascending-perm (F .key) m (accepted-distinct F p [] rs) ∙ sym (book-ascending F p qs),
   )
 
-  pub anyOrder : AnyOrder F p
-  anyOrder = any-order F p
+  pub any-order : AnyOrder F p
+  any-order = taken-any-order F p
 
   empty-fits : 1 ≤ p .theta → 1 ≤ p .nodeBlocks → fits F p [] ≡ true
   unfolding fits tower cut
   empty-fits h n = rw (build-le (F .key) (p .capacity) (F .width) [] (omega arith)) (rw (le-leb 1 (p .nodeBlocks) n, le-leb 0 (p .pageBlocks) (omega arith)))
 
-  pub bookKeeps : BookKeeps F p
-  bookKeeps h n w rs =
+  pub book-keeps : BookKeeps F p
+  book-keeps h n w rs =
       let l = book-lawful F p [] rs tt in (
         book-sorted F p [] rs tt,
         all-map (λ r. F .lawful r ≡ true) (λ r. F .key r < 2 ^ F .width) (book F p [] rs .held) w l,
         l,
         book-fits F p [] rs (empty-fits h n),
       )
+
+-- lawful plots have 32-bit keys
+pub plot-narrow : Narrow plotFormat
+plot-narrow r e = lawful-record r e .0
