@@ -4,3 +4,4 @@ pub mod BitLaws
 pub mod ListLaws
 pub mod KeyedLaws
 pub mod Parts
+pub mod Tests

@@ -4,10 +4,15 @@
 --   filter f xs   == the elements that pass the test f, in order
 --   all f xs      == each element passes the test f, as a Bool
 --   replaced a n ys xs == xs with its n elements from index a on replaced by ys
+--   part xs a n   == the n elements of xs from index a on, none where there are not so many
+--   tab n f       == f 0, f 1, .., f (n − 1)
+--   every n t     == each of 0, .., n − 1 passes the test t
+--   greatest n f  == the largest of f 0, .., f (n − 1), 0 for none
 use mathlib.Core.Bool.{Bool, true, false, _&&_}
 use mathlib.Core.List.{List, [], _∷_, _++_}
-use Prim.Native.Nat.{ℕ, _+_}
-use lib.ListN.{take, drop}
+use Prim.Native.Nat.{ℕ, zero, suc, _+_, max}
+use lib.Dec.{leb}
+use lib.ListN.{length, take, drop}
 
 module _ {A : Type 0} where
   abbrev pub All : (A → Type 0) → List A → Type 0
@@ -28,3 +33,18 @@ module _ {A : Type 0} where
 
   unfoldable pub replaced : ℕ → ℕ → List A → List A → List A
   replaced a n ys xs = take a xs ++ (ys ++ drop (a + n) xs)
+
+  unfoldable pub part : List A → ℕ → ℕ → List A
+  part xs a n = elim (leb (a + n) (length xs)) [ true ↦ take n (drop a xs) | false ↦ [] ]
+
+  unfoldable pub tab : ℕ → (ℕ → A) → List A
+  tab zero f = []
+  tab (suc n) f = f 0 ∷ tab n (λ i. f (suc i))
+
+unfoldable pub every : ℕ → (ℕ → Bool) → Bool
+every zero t = true
+every (suc n) t = every n t && t n
+
+unfoldable pub greatest : ℕ → (ℕ → ℕ) → ℕ
+greatest zero f = 0
+greatest (suc n) f = max (greatest n f) (f n)

@@ -8,7 +8,7 @@ use native.Mathlib.Decide.{ℕ-discrete}
 use native.Mathlib.Omega.{arith}
 use lib.Dec.{leb, ltb}
 use lib.Pow.{pow-pos, pow-add}
-use borrow.Author.Tests.{leb-true, ltb-true, le-leb, lt-ltb, eq-eqb, ne-eqb, not-true, not-false}
+use borrow.Author.Tests.{leb-true, ltb-true, le-leb, lt-ltb, eq-eqb, ne-eqb}
 use Rattle.plot.specs.declared.Label.{Label}
 use Rattle.plot.specs.Plot.{lawfulDay, lawfulTerm}
 use Rattle.plot.specs.Money.{daysLeft, amount, balanceReply}
@@ -23,13 +23,6 @@ product-below k {a} {b} ha hb =
 -- x × d / l is at most x where d is at most l.
 pub share-le : (x d l : ℕ) → d ≤ l → x * d / l ≤ x
 share-le x d l h = div-le-of-le-mul l (rw (mul-comm l x) (mul-le-mul-left x h))
-
--- A branch on `!r`, where r is what a definition's test b gives.
-pub passed : {r b : Bool} → r ≡ b → not r ≡ false → b ≡ true
-passed e h = sym e ∙ not-false _ h
-
-pub failed : {r b : Bool} → r ≡ b → not r ≡ true → b ≡ false
-failed e h = sym e ∙ not-true _ h
 
 -- Days left: at most the lease days, and 0 from the last day on.
 module _ (lease last today : ℕ) where

@@ -11,15 +11,12 @@ use borrow.Author.Tests.{le-leb, leb-true, eq-eqb, not-true}
 use Rattle.lists.specs.Lists.{All}
 use Rattle.lists.specs.Keyed.{Sorted, Distinct, Lacks, Bounded, contains, insert, ascending}
 use Rattle.lists.proofs.Cases.{bool-cases}
+use Rattle.lists.proofs.Tests.{and-true}
 use Rattle.lists.proofs.ListLaws.{all-map, all-both, all-perm}
 use Rattle.lists.proofs.KeyedLaws.{all-insert, sorted-insert, sublist-insert, insert-swap, contains-false, lacks-contains, contains-insert, insertAll, sublist-insertAll, insertAll-ascending, distinct-perm, ascending-perm}
 use Rattle.tree.specs.Trie.{shape}
 use Rattle.tree.specs.Book.{Format, Sizes, Reply, refused, Entered, Booked, tree, levelsOf, nodesOf, pagesOf, fits, entered, book, accepts, accepted, Narrow}
 use Rattle.tree.proofs.Growth.{within-tower, within-build, sublist-pages}
-
-and-true : (a b : Bool) → (a && b) ≡ true → (a ≡ true) × (b ≡ true)
-and-true true b e = (refl, e)
-and-true false b e = absurd (false≢true e)
 
 or-true : (a b : Bool) → b ≡ true → (a || b) ≡ true
 or-true true b e = refl

@@ -3,7 +3,8 @@
 use borrow.Author.Needs.{needs}
 use mathlib.Core.Path.{sym}
 use native.Mathlib.Nat.{lt-of-le-of-lt}
-use Rattle.plot.proofs.Laws.{share-le, passed, failed, days-within, amount-perpetual, amount-quotient, term-refused, today-refused, balance-given}
+use Rattle.lists.proofs.Tests.{passed, failed}
+use Rattle.plot.proofs.Laws.{share-le, days-within, amount-perpetual, amount-quotient, term-refused, today-refused, balance-given}
 use Rattle.plot.proofs.balance.Statement.{statement}
 use Rattle.plot.proofs.balance.Tie as tie
 

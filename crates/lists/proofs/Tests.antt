@@ -1,0 +1,89 @@
+-- Tests over a range of numbers, and conjunctions of tests, as facts.
+use mathlib.Core.Path.{_≡_, refl, sym, ap, _∙_}
+use mathlib.Core.Bool.{Bool, true, false, not, _&&_, false≢true}
+use mathlib.Core.List.{List, [], _∷_}
+use Prim.Native.Nat.{ℕ, zero, suc, _+_, _≤_, _<_, max}
+use native.Mathlib.Decide.{decLt, ℕ-discrete}
+use native.Mathlib.Numerals.{add-one}
+use native.Mathlib.Omega.{arith}
+use lib.ListN.{length, getD}
+use borrow.Author.Tests.{not-true, not-false}
+use Rattle.lists.specs.Lists.{every, greatest, tab}
+
+pub and-true : (a b : Bool) → (a && b) ≡ true → (a ≡ true) × (b ≡ true)
+and-true true b e = (refl, e)
+and-true false b e = absurd (false≢true e)
+
+pub and-right-false : (a b : Bool) → b ≡ false → (a && b) ≡ false
+and-right-false true b e = e
+and-right-false false b e = refl
+
+-- two tests that hold together are the same
+pub same-test : (a b : Bool) → (a ≡ true → b ≡ true) → (b ≡ true → a ≡ true) → a ≡ b
+same-test true b f g = sym (f refl)
+same-test false true f g = g refl
+same-test false false f g = refl
+
+-- a branch on a call's result r, where r is a definition's test b
+pub passed : {r b : Bool} → r ≡ b → not r ≡ false → b ≡ true
+passed e h = sym e ∙ not-false _ h
+
+pub failed : {r b : Bool} → r ≡ b → not r ≡ true → b ≡ false
+failed e h = sym e ∙ not-true _ h
+
+pub every-none : (t : ℕ → Bool) → every 0 t ≡ true
+unfolding every
+every-none t = refl
+
+pub every-more : (n : ℕ) (t : ℕ → Bool) → every n t ≡ true → t n ≡ true → every (n + 1) t ≡ true
+unfolding every
+every-more n t p q = ap (λ (k : ℕ). every k t) (add-one n) ∙ rw (p, q)
+
+pub every-at : (n : ℕ) (t : ℕ → Bool) → every n t ≡ true → (k : ℕ) → k < n → t k ≡ true
+unfolding every
+every-at zero t e k h = absurd (omega arith)
+every-at (suc n) t e k h =
+    let a = and-true (every n t) (t n) e in
+    elim (decLt k n) [
+      | yes l ↦ every-at n t (a .0) k l
+      | no l ↦ let i : n ≡ k = omega arith in rw i at (a .1)
+    ]
+
+pub every-of : (n : ℕ) (t : ℕ → Bool) → ((k : ℕ) → k < n → t k ≡ true) → every n t ≡ true
+unfolding every
+every-of zero t h = refl
+every-of (suc n) t h = rw (every-of n t (λ k q. h k (omega arith)), h n (omega arith))
+
+pub every-not : (n : ℕ) (t : ℕ → Bool) (k : ℕ) → k < n → t k ≡ false → every n t ≡ false
+every-not n t k h q = same-test (every n t) false (λ e. sym q ∙ every-at n t e k h) (λ e. absurd (false≢true e))
+
+pub every-ext : (n : ℕ) (t u : ℕ → Bool) → ((k : ℕ) → k < n → t k ≡ u k) → every n t ≡ every n u
+every-ext n t u h =
+    same-test (every n t) (every n u)
+    (λ e. every-of n u (λ k q. sym (h k q) ∙ every-at n t e k q))
+    (λ e. every-of n t (λ k q. h k q ∙ every-at n u e k q))
+
+pub greatest-le : (n : ℕ) (f : ℕ → ℕ) (m : ℕ) → ((k : ℕ) → k < n → f k ≤ m) → greatest n f ≤ m
+unfolding greatest
+greatest-le zero f m h = omega arith
+greatest-le (suc n) f m h = omega (arith, greatest-le n f m (λ k q. h k (omega arith)), h n (omega arith))
+
+pub greatest-at : (n : ℕ) (f : ℕ → ℕ) (k : ℕ) → k < n → f k ≤ greatest n f
+unfolding greatest
+greatest-at zero f k h = absurd (omega arith)
+greatest-at (suc n) f k h =
+    elim (decLt k n) [
+      | yes l ↦ omega (arith, greatest-at n f k l)
+      | no l ↦ let i : k ≡ n = omega arith in rw i (omega arith)
+    ]
+
+pub length-tab : {A : Type 0} (n : ℕ) (f : ℕ → A) → length (tab n f) ≡ n
+unfolding tab
+length-tab zero f = refl
+length-tab (suc n) f = ap suc (length-tab n (λ i. f (suc i)))
+
+pub getD-tab : {A : Type 0} (n : ℕ) (f : ℕ → A) (i : ℕ) (z : A) → i < n → getD (tab n f) i z ≡ f i
+unfolding tab
+getD-tab zero f i z h = absurd (omega arith)
+getD-tab (suc n) f zero z h = refl
+getD-tab (suc n) f (suc i) z h = getD-tab n (λ i. f (suc i)) i z (omega arith)
