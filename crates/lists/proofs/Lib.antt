@@ -5,3 +5,4 @@ pub mod ListLaws
 pub mod KeyedLaws
 pub mod Parts
 pub mod Tests
+pub mod Shifts

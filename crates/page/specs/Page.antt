@@ -1,0 +1,69 @@
+-- A page and the rule that a visited one keeps. Document 01, "The store" and "Reading". pg is the page block's own words.
+--   count pg              == how many records the page says that it has
+--   itemAt f pg i         == record number i, counted from 0
+--   keyAt f pg i          == its key
+--   plotOf it             == the plot record of an item
+--   lawfulItem f it       == the record may be held
+--   ordered f pg n        == the first n records are lawful and their keys ascend
+--   pageRule f C pg       == a visited page, with the capacity C
+--   agrees f pg k used    == all keys agree with the key k in its first `used` bits
+--   above strict k x      == the key x is above k, or, if not strict, at or above it
+--   firstAbove f pg strict k == the number of the first record with such a key, or the count where there is none
+use mathlib.Core.Bool.{Bool, true, false, _&&_}
+use mathlib.Core.List.{List}
+use Prim.Native.Nat.{ℕ, zero, suc, _+_, _-_, _*_, _/_, _^_}
+use lib.Dec.{leb, ltb, eqb}
+use Rattle.lists.specs.Lists.{every}
+use Rattle.plot.specs.declared.Record.{Record}
+use Rattle.plot.specs.Plot.{lawful}
+use Rattle.store.specs.declared.Format.{Format}
+use Rattle.store.specs.declared.Format.the-variants.{Plots}
+use Rattle.store.specs.declared.Item.{Item}
+use Rattle.store.specs.Format.{width, words}
+use Rattle.store.specs.Head.{word, zeros}
+
+abbrev pub count : List ℕ → ℕ
+count pg = word pg 0
+
+-- "P page blocks, each: count, then C records"; "A record is four 32-bit unsigned words: key, price in pence, lease days, last day."
+unfoldable pub itemAt : Format → List ℕ → ℕ → Item
+itemAt Plots pg i =
+    record {
+      key = word pg (4 * i + 1);
+      price = word pg (4 * i + 2);
+      lease = word pg (4 * i + 3);
+      last = word pg (4 * i + 4);
+    }
+
+abbrev pub keyAt : Format → List ℕ → ℕ → ℕ
+keyAt f pg i = itemAt f pg i .key
+
+abbrev pub plotOf : Item → Record
+plotOf it = record { key = it .key; price = it .price; lease = it .lease; last = it .last }
+
+unfoldable pub lawfulItem : Format → Item → Bool
+lawfulItem Plots it = lawful (plotOf it)
+
+unfoldable pub ordered : Format → List ℕ → ℕ → Bool
+ordered f pg n = every n (λ i. lawfulItem f (itemAt f pg i)) && every (n - 1) (λ i. ltb (keyAt f pg i) (keyAt f pg (i + 1)))
+
+-- "A visited page has 1 to C lawful records, ascending, and zeros after."
+unfoldable pub pageRule : Format → ℕ → List ℕ → Bool
+pageRule f C pg =
+    leb 1 (count pg) && leb (count pg) C && ordered f pg (count pg) && zeros pg (1 + words f * count pg) (words f * (C - count pg))
+
+-- "all keys agree with the sought key in the used bits"
+unfoldable pub agrees : Format → List ℕ → ℕ → ℕ → Bool
+agrees f pg k used = every (count pg) (λ i. eqb (keyAt f pg i / 2 ^ (width f - used)) (k / 2 ^ (width f - used)))
+
+unfoldable pub above : Bool → ℕ → ℕ → Bool
+above true k x = ltb k x
+above false k x = leb k x
+
+-- the first such record of n from number i on
+unfoldable pub firstFrom : Format → List ℕ → Bool → ℕ → ℕ → ℕ → ℕ
+firstFrom f pg strict k zero i = i
+firstFrom f pg strict k (suc n) i = elim (above strict k (keyAt f pg i)) [ true ↦ i | false ↦ firstFrom f pg strict k n (i + 1) ]
+
+unfoldable pub firstAbove : Format → List ℕ → Bool → ℕ → ℕ
+firstAbove f pg strict k = firstFrom f pg strict k (count pg) 0

@@ -1,0 +1,192 @@
+// A page in place: a reader that stands in it, the rule of a visited page, and the search for a key.
+use plot::Record;
+use store::Format;
+use store::Item;
+ghost use mathlib.Core.Path.{_≡_};
+ghost use Prim.Native.Nat.{_+_, _-_, _*_, _/_, _^_, _≤_, _<_};
+ghost use lib.ListN.{length, getD};
+ghost use Rattle.store.specs.Format.{width, words};
+ghost use Rattle.page.specs.Page.{itemAt, lawfulItem, ordered, pageRule, agrees, above, firstAbove};
+
+// A reader stands at a record of a page.
+pub struct Reader<'a> {
+    pub page: &'a [u32],
+    pub at: usize,
+}
+
+// What a step reads, and the reader past it.
+pub struct Read<'a> {
+    pub item: Item,
+    pub rest: Reader<'a>,
+}
+
+fn wide(x: u32) -> u64
+    ensures { λ r. ⌜ (r ≡ x) × (r < 2 ^ 32) ⌝ }
+{
+    x as u64
+}
+
+// How many records a page says that it has.
+pub fn count_of(page: &[u32]) -> usize
+    ensures { λ r. ⌜ (r ≡ getD (now (page .entry)) 0 0) × (r < 2 ^ 32) ⌝ }
+{
+    store::wide(store::word(page, 0))
+}
+
+// The work of a step: record number i of a page.
+pub fn item_at(page: &[u32], f: Format, i: usize) -> Item
+    requires { ⌜ i < 2 ^ 32 ⌝ }
+    ensures { λ r. ⌜ r ≡ itemAt f (now (page .entry)) i ⌝ }
+{
+    match f {
+        Format::Plots => Item {
+            key: wide(store::word(page, 4 * i + 1)),
+            price: store::word(page, 4 * i + 2),
+            lease: store::word(page, 4 * i + 3),
+            last: store::word(page, 4 * i + 4),
+        },
+    }
+}
+
+// A reader that stands at a record of a page.
+pub fn open<'a>(page: &'a [u32], at: usize) -> Reader<'a>
+    ensures { λ r. ⌜ (r .page ≡ page .entry) × (r .at ≡ at) ⌝ }
+{
+    Reader { page, at }
+}
+
+// One step: the record at the reader, and the reader at the next one.
+pub fn advance<'a>(r: Reader<'a>, f: Format) -> Read<'a>
+    requires { ⌜ r .at < 2 ^ 32 ⌝ }
+    ensures { λ q. ⌜ (q .item ≡ itemAt f (now (r .entry .page)) (r .entry .at)) × (q .rest .page ≡ r .entry .page) × (q .rest .at ≡ r .entry .at + 1) ⌝ }
+{
+    let at = r.at;
+    let item = item_at(r.page, f, at);
+    Read {
+        item: item,
+        rest: Reader {
+            page: r.page,
+            at: at + 1,
+        },
+    }
+}
+
+// A reader opened at a record, and one step: what the loops below call.
+pub fn read_one(page: &[u32], f: Format, at: usize) -> Item
+    requires { ⌜ at < 2 ^ 32 ⌝ }
+    ensures { λ r. ⌜ r ≡ itemAt f (now (page .entry)) at ⌝ }
+{
+    let q = advance(open(page, at), f);
+    q.item
+}
+
+// Whether a record may be held.
+pub fn lawful_item(f: Format, item: Item) -> bool
+    requires { ⌜ item .key < 2 ^ width f ⌝ }
+    ensures { λ r. ⌜ r ≡ lawfulItem f item ⌝ }
+{
+    match f {
+        Format::Plots => plot::lawful_record(Record {
+            key: item.key as u32,
+            price: item.price,
+            lease: item.lease,
+            last: item.last,
+        }),
+    }
+}
+
+// Whether the first n records are lawful and their keys ascend.
+pub fn in_order(page: &[u32], f: Format, n: usize) -> bool
+    requires { ⌜ n < 2 ^ 32 ⌝ }
+    ensures { λ r. ⌜ r ≡ ordered f (now (page .entry)) n ⌝ }
+{
+    let mut before: u64 = 0;
+    let mut i: usize = 0;
+    while i < n {
+        let item = read_one(page, f, i);
+        if !lawful_item(f, item) {
+            return false;
+        }
+        if item.key <= before {
+            return false;
+        }
+        before = item.key;
+        i += 1;
+    }
+    true
+}
+
+// Whether a page keeps the rule of a visited one.
+pub fn page_ok(page: &[u32], f: Format, capacity: u32) -> bool
+    requires { ⌜ capacity ≤ 64 ⌝ }
+    ensures { λ r. ⌜ r ≡ pageRule f capacity (now (page .entry)) ⌝ }
+{
+    let n = count_of(page);
+    let c = store::wide(capacity);
+    if n < 1 {
+        return false;
+    }
+    if n > c {
+        return false;
+    }
+    if !in_order(page, f, n) {
+        return false;
+    }
+    let w = store::words_of(f);
+    store::all_zero(page, 1 + w * n, w * (c - n))
+}
+
+// A key without its low bits.
+pub fn prefix(key: u64, low: u32) -> u64
+    ensures { λ r. ⌜ r ≡ key / 2 ^ low ⌝ }
+{
+    if low >= 64 {
+        return 0;
+    }
+    key >> low
+}
+
+// Whether all keys of a page agree with a key in its first bits.
+pub fn keys_agree(page: &[u32], f: Format, key: u64, used: u32) -> bool
+    requires { ⌜ used ≤ width f ⌝ }
+    ensures { λ r. ⌜ r ≡ agrees f (now (page .entry)) key used ⌝ }
+{
+    let n = count_of(page);
+    let low = store::width_of(f) - used;
+    let sought = prefix(key, low);
+    let mut i: usize = 0;
+    while i < n {
+        let item = read_one(page, f, i);
+        if prefix(item.key, low) != sought {
+            return false;
+        }
+        i += 1;
+    }
+    true
+}
+
+// Whether a key is above another, or, if not strict, at or above it.
+pub fn is_above(strict: bool, key: u64, x: u64) -> bool
+    ensures { λ r. ⌜ r ≡ above strict key x ⌝ }
+{
+    if strict {
+        return key < x;
+    }
+    key <= x
+}
+
+// The number of the first record whose key is above, or the count.
+pub fn first_above(page: &[u32], f: Format, strict: bool, key: u64) -> usize
+    ensures { λ r. ⌜ (r ≡ firstAbove f (now (page .entry)) strict key) × (r < 2 ^ 32) ⌝ }
+{
+    let n = count_of(page);
+    let mut i: usize = 0;
+    while i < n {
+        let item = read_one(page, f, i);
+        if is_above(strict, key, item.key) {
+            return i;
+        }
+        i += 1;
+    }
+    i
+}

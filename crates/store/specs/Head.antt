@@ -1,0 +1,91 @@
+-- The head of a store and where its blocks stand. Document 01, "The store".
+--   word s i           == word number i of the store, counted from 0; 0 past its end
+--   zeros s a n        == the n words from number a on are 0
+--   headOf s           == the first eight words
+--   nodeWords θ        == the words of a node block
+--   pageWords f C      == the words of a page block
+--   size f θ C N P     == the words of a store
+--   nodeStart h n      == the first word of node block n
+--   pageStart f h p    == the first word of page block p
+--   pageAt f s h p     == the words of page block p
+--   lawfulSizes θ C N P == θ, C, N and P within their limits
+--   headRule f s       == the head rule
+use mathlib.Core.Bool.{Bool, true, false, _&&_}
+use mathlib.Core.List.{List}
+use Prim.Native.Nat.{ℕ, _+_, _-_, _*_, _^_}
+use lib.Dec.{leb, eqb}
+use lib.ListN.{length, getD}
+use Rattle.lists.specs.Lists.{every, part}
+use Rattle.tree.specs.Book.{levelBound}
+use Rattle.store.specs.declared.Format.{Format}
+use Rattle.store.specs.declared.Head.{Head}
+use Rattle.store.specs.Format.{width, words}
+
+abbrev pub word : List ℕ → ℕ → ℕ
+word s i = getD s i 0
+
+unfoldable pub zeros : List ℕ → ℕ → ℕ → Bool
+zeros s a n = every n (λ j. eqb (word s (a + j)) 0)
+
+-- "Head, 16 words: θ, page capacity C, node blocks N and page blocks P, nodes taken, pages taken, root number, levels, eight zeros."
+unfoldable pub headOf : List ℕ → Head
+headOf s =
+    record {
+      theta = word s 0;
+      capacity = word s 1;
+      nodes = word s 2;
+      pages = word s 3;
+      taken = word s 4;
+      filled = word s 5;
+      root = word s 6;
+      levels = word s 7;
+    }
+
+-- "N node blocks, each: depth H, level, back link, forward link, then 2^θ entries of two words"
+unfoldable pub nodeWords : ℕ → ℕ
+nodeWords θ = 4 + 2 * 2 ^ θ
+
+-- "P page blocks, each: count, then C records"
+unfoldable pub pageWords : Format → ℕ → ℕ
+pageWords f C = 1 + words f * C
+
+-- "Size = 16 + N × (4 + 2 × 2^θ) + P × (1 + 4 × C)."
+unfoldable pub size : Format → ℕ → ℕ → ℕ → ℕ → ℕ
+size f θ C N P = 16 + N * nodeWords θ + P * pageWords f C
+
+-- "Blocks count from 1"
+unfoldable pub nodeStart : Head → ℕ → ℕ
+nodeStart h n = 16 + (n - 1) * nodeWords (h .theta)
+
+unfoldable pub pageStart : Format → Head → ℕ → ℕ
+pageStart f h p = 16 + h .nodes * nodeWords (h .theta) + (p - 1) * pageWords f (h .capacity)
+
+unfoldable pub pageAt : Format → List ℕ → Head → ℕ → List ℕ
+pageAt f s h p = part s (pageStart f h p) (pageWords f (h .capacity))
+
+abbrev pub largestTheta : ℕ
+largestTheta = 6
+
+abbrev pub largestCapacity : ℕ
+largestCapacity = 64
+
+abbrev pub largestBlocks : ℕ
+largestBlocks = 4096
+
+-- "θ (1 to 6), page capacity C (1 to 64), node blocks N and page blocks P (1 to 4,096 each)"
+unfoldable pub lawfulSizes : ℕ → ℕ → ℕ → ℕ → Bool
+lawfulSizes θ C N P =
+    leb 1 θ && leb θ largestTheta && leb 1 C && leb C largestCapacity && leb 1 N && leb N largestBlocks && leb 1 P && leb P largestBlocks
+
+-- "nodes taken is 1 to N, pages taken 0 to P, root is a taken node, and levels is 1 to L."
+unfoldable pub lawfulCounts : Format → Head → Bool
+lawfulCounts f h =
+    leb 1 (h .taken) && leb (h .taken) (h .nodes) && leb (h .filled) (h .pages) && leb 1 (h .root) && leb (h .root) (h .taken)
+    && leb 1 (h .levels) && leb (h .levels) (levelBound (width f) (h .theta) (h .capacity))
+
+-- "Head rule: the limits and the eight zeros above hold, the slice has the size, .."
+unfoldable pub headRule : Format → List ℕ → Bool
+headRule f s =
+    let h = headOf s in
+    lawfulSizes (h .theta) (h .capacity) (h .nodes) (h .pages) && zeros s 8 8 && leb (size f (h .theta) (h .capacity) (h .nodes) (h .pages)) (length s)
+    && lawfulCounts f h

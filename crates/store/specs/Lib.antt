@@ -1,0 +1,4 @@
+pub mod Format
+pub mod Head
+pub mod Node
+pub mod SetUp
