@@ -5,6 +5,7 @@
 --   entryOf s b i      == both
 --   runRule H e        == the entries e fall into aligned runs, each as long as its local depth says
 --   goodRuns H low high e == that, the largest local depth is H, and the pointers are from low to high
+--   runTest H low high e i == one run of such an array, at its start i
 --   linkRule, pointerLow, pointerHigh == what the level says of links and pointers
 --   nodeRule h s b level == a visited node at this level
 --   entryNumber W k used H == the entry that a key takes, after the used bits
@@ -55,6 +56,11 @@ runRule H e =
 unfoldable pub goodRuns : ℕ → ℕ → ℕ → (ℕ → Entry ℕ) → Bool
 goodRuns H low high e =
     runRule H e && eqb (greatest (2 ^ H) (λ i. e i .0)) H && every (2 ^ H) (λ i. leb low (e i .1) && leb (e i .1) high)
+
+-- one run, as a walk from run to run tests it: at its start i
+unfoldable pub runTest : ℕ → ℕ → ℕ → (ℕ → Entry ℕ) → ℕ → Bool
+runTest H low high e i =
+    leb (e i .0) H && eqb (i % 2 ^ (H - e i .0)) 0 && leb low (e i .1) && leb (e i .1) high && sameRun e i (2 ^ (H - e i .0))
 
 -- "Level-1 nodes are linked both ways in key order; others have links 0."
 unfoldable pub linkRule : Head → ℕ → ℕ → ℕ → Bool

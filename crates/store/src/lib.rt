@@ -4,10 +4,10 @@ ghost use mathlib.Core.Bool.{true};
 ghost use Prim.Native.Nat.{ℕ, _+_, _-_, _*_, _/_, _%_, _^_, _≤_, _<_};
 ghost use lib.ListN.{length, getD};
 ghost use Rattle.lists.specs.Lists.{part};
-ghost use Rattle.tree.specs.Book.{levelBound};
+ghost use Rattle.tree.specs.Book.{log2, levelBound};
 ghost use Rattle.store.specs.Format.{width, words};
 ghost use Rattle.store.specs.Head.{zeros, headOf, nodeWords, pageWords, size, nodeStart, pageStart, pageAt, lawfulSizes, lawfulCounts, headRule};
-ghost use Rattle.store.specs.Node.{entryOf, sameRun, goodRuns, linkRule, pointerLow, pointerHigh, nodeRule, entryNumber};
+ghost use Rattle.store.specs.Node.{entryOf, sameRun, goodRuns, linkRule, pointerLow, pointerHigh, runTest, nodeRule, entryNumber};
 ghost use Rattle.store.specs.SetUp.{setUp, reply};
 
 pub enum Format {
@@ -96,4 +96,188 @@ pub fn all_zero(store: &[u32], at: usize, n: usize) -> bool
         j += 1;
     }
     true
+}
+
+// The first eight words of a store.
+pub fn head_of(store: &[u32]) -> Head
+    ensures { λ r. ⌜ r ≡ headOf (now (store .entry)) ⌝ }
+{
+    Head {
+        theta: word(store, 0),
+        capacity: word(store, 1),
+        nodes: word(store, 2),
+        pages: word(store, 3),
+        taken: word(store, 4),
+        filled: word(store, 5),
+        root: word(store, 6),
+        levels: word(store, 7),
+    }
+}
+
+// Whether θ, C, N and P are within their limits.
+pub fn sizes_ok(theta: u32, capacity: u32, nodes: u32, pages: u32) -> bool
+    ensures { λ r. ⌜ r ≡ lawfulSizes theta capacity nodes pages ⌝ }
+{
+    if theta < 1 {
+        return false;
+    }
+    if theta > 6 {
+        return false;
+    }
+    if capacity < 1 {
+        return false;
+    }
+    if capacity > 64 {
+        return false;
+    }
+    if nodes < 1 {
+        return false;
+    }
+    if nodes > 4096 {
+        return false;
+    }
+    if pages < 1 {
+        return false;
+    }
+    pages <= 4096
+}
+
+// The words of a node block.
+pub fn node_words(theta: u32) -> usize
+    requires { ⌜ theta ≤ 6 ⌝ }
+    ensures { λ r. ⌜ (r ≡ nodeWords theta) × (6 ≤ r) × (r ≤ 132) ⌝ }
+{
+    4 + 2 * pow2(theta)
+}
+
+// The words of a page block.
+pub fn page_words(f: Format, capacity: u32) -> usize
+    requires { ⌜ capacity ≤ 64 ⌝ }
+    ensures { λ r. ⌜ (r ≡ pageWords f capacity) × (r ≤ 257) ⌝ }
+{
+    1 + words_of(f) * wide(capacity)
+}
+
+// The words of a store.
+pub fn size_of(f: Format, theta: u32, capacity: u32, nodes: u32, pages: u32) -> usize
+    requires { ⌜ (theta ≤ 6) × (capacity ≤ 64) × (nodes ≤ 4096) × (pages ≤ 4096) ⌝ }
+    ensures { λ r. ⌜ (r ≡ size f theta capacity nodes pages) × (r < 2 ^ 21) ⌝ }
+{
+    16 + wide(nodes) * node_words(theta) + wide(pages) * page_words(f, capacity)
+}
+
+// The largest f with 2^f ≤ c.
+pub fn floor_log2(c: u32) -> u32
+    requires { ⌜ (1 ≤ c) × (c ≤ 64) ⌝ }
+    ensures { λ r. ⌜ (r ≡ log2 c) × (r ≤ 6) ⌝ }
+{
+    if c >= 64 {
+        return 6;
+    }
+    if c >= 32 {
+        return 5;
+    }
+    if c >= 16 {
+        return 4;
+    }
+    if c >= 8 {
+        return 3;
+    }
+    if c >= 4 {
+        return 2;
+    }
+    if c >= 2 {
+        return 1;
+    }
+    0
+}
+
+// The bound on the levels, document 01's L.
+pub fn level_bound(f: Format, theta: u32, capacity: u32) -> u32
+    requires { ⌜ (1 ≤ theta) × (theta ≤ 6) × (1 ≤ capacity) × (capacity ≤ 64) ⌝ }
+    ensures { λ r. ⌜ r ≡ levelBound (width f) theta capacity ⌝ }
+{
+    (width_of(f) - floor_log2(capacity) + (theta - 1)) / theta
+}
+
+// Whether the counts, the root and the levels of a head are within their limits.
+pub fn counts_ok(f: Format, head: Head) -> bool
+    requires { ⌜ (1 ≤ head .theta) × (head .theta ≤ 6) × (1 ≤ head .capacity) × (head .capacity ≤ 64) ⌝ }
+    ensures { λ r. ⌜ r ≡ lawfulCounts f head ⌝ }
+{
+    if head.taken < 1 {
+        return false;
+    }
+    if head.taken > head.nodes {
+        return false;
+    }
+    if head.filled > head.pages {
+        return false;
+    }
+    if head.root < 1 {
+        return false;
+    }
+    if head.root > head.taken {
+        return false;
+    }
+    if head.levels < 1 {
+        return false;
+    }
+    head.levels <= level_bound(f, head.theta, head.capacity)
+}
+
+// Whether a store keeps the head rule.
+pub fn head_ok(store: &[u32], f: Format) -> bool
+    ensures { λ r. ⌜ r ≡ headRule f (now (store .entry)) ⌝ }
+{
+    let head = head_of(store);
+    if !sizes_ok(head.theta, head.capacity, head.nodes, head.pages) {
+        return false;
+    }
+    if !all_zero(store, 8, 8) {
+        return false;
+    }
+    if size_of(f, head.theta, head.capacity, head.nodes, head.pages) > store.len() {
+        return false;
+    }
+    counts_ok(f, head)
+}
+
+// A block's number counted from 0.
+fn from_zero(n: u32) -> usize
+    ensures { λ r. ⌜ (r ≡ n - 1) × (r < 2 ^ 32) ⌝ }
+{
+    if n == 0 {
+        return 0;
+    }
+    wide(n - 1)
+}
+
+// The first word of a node block.
+pub fn node_start(head: Head, n: u32) -> usize
+    requires { ⌜ head .theta ≤ 6 ⌝ }
+    ensures { λ r. ⌜ (r ≡ nodeStart head n) × (r < 2 ^ 40) ⌝ }
+{
+    16 + from_zero(n) * node_words(head.theta)
+}
+
+// The first word of a page block.
+pub fn page_start(f: Format, head: Head, p: u32) -> usize
+    requires { ⌜ (head .theta ≤ 6) × (head .capacity ≤ 64) ⌝ }
+    ensures { λ r. ⌜ (r ≡ pageStart f head p) × (r < 2 ^ 42) ⌝ }
+{
+    16 + wide(head.nodes) * node_words(head.theta) + from_zero(p) * page_words(f, head.capacity)
+}
+
+// The words of a page block, in place.
+pub fn page_at(store: &[u32], f: Format, head: Head, p: u32) -> &[u32]
+    requires { ⌜ (head .theta ≤ 6) × (head .capacity ≤ 64) ⌝ }
+    ensures { λ r. ⌜ now r ≡ pageAt f (now (store .entry)) head p ⌝ }
+{
+    let start = page_start(f, head, p);
+    let end = start + page_words(f, head.capacity);
+    if end <= store.len() {
+        return &store[start..end];
+    }
+    &store[0..0]
 }
