@@ -80,3 +80,9 @@ index-own H i h = index-bits H H i (omega arith) ∙ simp (sub-self, pow-zero, d
 -- of a number of W bits: a shift
 pub index-shr : (W H k : ℕ) → H ≤ W → k < 2 ^ W → index H (bits W k) ≡ k / 2 ^ (W - H)
 index-shr W H k p h = index-bits W H k p ∙ ap (λ n. n / 2 ^ (W - H)) (mod-eq-of-lt h)
+
+-- the bits after the first n
+pub drop-bits : (W n k : ℕ) → n ≤ W → drop n (bits W k) ≡ bits (W - n) k
+drop-bits W zero k h = ap (λ m. bits m k) (sym (sub-zero W))
+drop-bits zero (suc n) k h = absurd (omega arith)
+drop-bits (suc W) (suc n) k h = rw suc-sub-suc (drop-bits W n k (omega arith))

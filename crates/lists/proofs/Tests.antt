@@ -1,8 +1,8 @@
 -- Tests over a range of numbers, and conjunctions of tests, as facts.
-use mathlib.Core.Path.{_≡_, refl, sym, ap, _∙_}
+use mathlib.Core.Path.{_≡_, refl, sym, ap, _∙_, subst}
 use mathlib.Core.Bool.{Bool, true, false, not, _&&_, false≢true}
 use mathlib.Core.List.{List, [], _∷_}
-use Prim.Native.Nat.{ℕ, zero, suc, _+_, _≤_, _<_, max}
+use Prim.Native.Nat.{ℕ, zero, suc, _+_, _-_, _≤_, _<_, max}
 use native.Mathlib.Decide.{decLt, ℕ-discrete}
 use native.Mathlib.Numerals.{add-one}
 use native.Mathlib.Omega.{arith}
@@ -76,6 +76,32 @@ greatest-at (suc n) f k h =
       | yes l ↦ omega (arith, greatest-at n f k l)
       | no l ↦ let i : k ≡ n = omega arith in rw i (omega arith)
     ]
+
+-- what holds below i and of the n numbers from i on
+pub range-more : (P : ℕ → Type 0) (i n : ℕ) → ((k : ℕ) → k < i → P k) → ((j : ℕ) → j < n → P (i + j)) → (k : ℕ) → k < i + n → P k
+range-more P i n f g k h =
+    elim (decLt k i) [
+      | yes l ↦ f k l
+      | no l ↦ let e : i + (k - i) ≡ k = omega arith in subst P e (g (k - i) (omega arith))
+    ]
+
+-- n further numbers, all as f i
+pub greatest-run : (i n : ℕ) (f : ℕ → ℕ) → 0 < n → ((j : ℕ) → j < n → f (i + j) ≡ f i) → greatest (i + n) f ≡ max (greatest i f) (f i)
+greatest-run i n f p h =
+    let m : ℕ = max (greatest i f) (f i) in
+    let up = range-more (λ k. f k ≤ m) i n (λ k q. omega (arith, greatest-at i f k q)) (λ j q. omega (arith, h j q)) in
+    omega (
+      arith,
+      greatest-le (i + n) f m up,
+      greatest-le i f (greatest (i + n) f) (λ k q. greatest-at (i + n) f k (omega arith)),
+      greatest-at (i + n) f i (omega arith),
+    )
+
+-- the first number apart
+pub greatest-first : (n : ℕ) (f : ℕ → ℕ) → greatest (suc n) f ≡ max (f 0) (greatest n (λ i. f (suc i)))
+unfolding greatest
+greatest-first zero f = omega arith
+greatest-first (suc n) f = omega (arith, greatest-first n f)
 
 pub length-tab : {A : Type 0} (n : ℕ) (f : ℕ → A) → length (tab n f) ≡ n
 unfolding tab

@@ -86,6 +86,5 @@ lawfulCounts f h =
 -- "Head rule: the limits and the eight zeros above hold, the slice has the size, .."
 unfoldable pub headRule : Format → List ℕ → Bool
 headRule f s =
-    let h = headOf s in
-    lawfulSizes (h .theta) (h .capacity) (h .nodes) (h .pages) && zeros s 8 8 && leb (size f (h .theta) (h .capacity) (h .nodes) (h .pages)) (length s)
-    && lawfulCounts f h
+    lawfulSizes (headOf s .theta) (headOf s .capacity) (headOf s .nodes) (headOf s .pages) && zeros s 8 8
+    && leb (size f (headOf s .theta) (headOf s .capacity) (headOf s .nodes) (headOf s .pages)) (length s) && lawfulCounts f (headOf s)

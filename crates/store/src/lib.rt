@@ -42,7 +42,7 @@ pub enum SetUpAnswer {
 
 // The bits of a key.
 pub fn width_of(f: Format) -> u32
-    ensures { λ r. ⌜ (r ≡ width f) × (r ≤ 32) ⌝ }
+    ensures { λ r. ⌜ (r ≡ width f) × (32 ≤ r) × (r ≤ 64) ⌝ }
 {
     match f {
         Format::Plots => 32,
@@ -51,7 +51,7 @@ pub fn width_of(f: Format) -> u32
 
 // The words of a record.
 pub fn words_of(f: Format) -> usize
-    ensures { λ r. ⌜ (r ≡ words f) × (r ≤ 4) ⌝ }
+    ensures { λ r. ⌜ (r ≡ words f) × (1 ≤ r) × (r ≤ 4) ⌝ }
 {
     match f {
         Format::Plots => 4,

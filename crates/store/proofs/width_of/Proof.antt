@@ -13,7 +13,7 @@ unfolding width
 plots Plots = refl
 
 returns : tie.Need-returns
-returns c = (plots (c .args .f), omega arith)
+returns c = (plots (c .args .f), omega arith, omega arith)
 
 pub width-of-spec : {M : Type 1} → statement M
 width-of-spec = tie.close (tie.spec returns)

@@ -13,7 +13,7 @@ unfolding words
 plots Plots = refl
 
 returns : tie.Need-returns
-returns c = (plots (c .args .f), omega arith)
+returns c = (plots (c .args .f), omega arith, omega arith)
 
 pub words-of-spec : {M : Type 1} → statement M
 words-of-spec = tie.close (tie.spec returns)

@@ -1,0 +1,128 @@
+-- The head rule, test by test: what a row of tests comes to, and what a head that keeps the rule has.
+use mathlib.Core.Path.{_≡_, refl, sym, ap, _∙_}
+use mathlib.Core.Bool.{Bool, true, false, _&&_}
+use mathlib.Core.List.{List}
+use Prim.Native.Nat.{ℕ, _+_, _-_, _*_, _/_, _^_, _≤_, _<_}
+use native.Mathlib.Omega.{arith}
+use lib.Dec.{leb}
+use lib.ListN.{length}
+use borrow.Author.Tests.{leb-true}
+use Rattle.lists.proofs.Tests.{and-true}
+use Rattle.tree.specs.Book.{log2, levelBound}
+use Rattle.store.specs.declared.Format.{Format}
+use Rattle.store.specs.declared.Head.{Head}
+use Rattle.store.specs.Format.{width, words}
+use Rattle.store.specs.Head.{word, zeros, headOf, nodeWords, pageWords, size, nodeStart, pageStart, lawfulSizes, lawfulCounts, headRule}
+
+-- what the code computes is what the definitions name
+pub level-bound-is : (w l W θ C : ℕ) → w ≡ W → l ≡ log2 C → (w - l + (θ - 1)) / θ ≡ levelBound W θ C
+unfolding levelBound
+level-bound-is w l W θ C p q = rw (p, q)
+
+pub page-words-is : (f : Format) (a b C : ℕ) → a ≡ words f → b ≡ C → 1 + a * b ≡ pageWords f C
+unfolding pageWords
+page-words-is f a b C p q = rw (p, q)
+
+pub size-is : (f : Format) (θ C N P a b c d : ℕ) → a ≡ N → b ≡ nodeWords θ → c ≡ P → d ≡ pageWords f C → 16 + a * b + c * d ≡ size f θ C N P
+unfolding size
+size-is f θ C N P a b c d p q r t = rw (p, q, r, t)
+
+pub node-start-is : (h : Head) (n a b : ℕ) → a ≡ n - 1 → b ≡ nodeWords (h .theta) → 16 + a * b ≡ nodeStart h n
+unfolding nodeStart
+node-start-is h n a b p q = rw (p, q)
+
+pub page-start-is : (f : Format) (h : Head) (p a b c d : ℕ) → a ≡ h .nodes → b ≡ nodeWords (h .theta) → c ≡ p - 1 → d ≡ pageWords f (h .capacity)
+    → 16 + a * b + c * d ≡ pageStart f h p
+unfolding pageStart
+page-start-is f h p a b c d i j k l = rw (i, j, k, l)
+
+pub head-is : (s : List ℕ) (a b c d e g i j : ℕ) → a ≡ word s 0 → b ≡ word s 1 → c ≡ word s 2 → d ≡ word s 3 → e ≡ word s 4 → g ≡ word s 5 → i ≡ word s 6 → j ≡ word s 7
+    → record { theta = a; capacity = b; nodes = c; pages = d; taken = e; filled = g; root = i; levels = j } ≡ headOf s
+unfolding headOf
+head-is s a b c d e g i j p q r t u v w x = rw (p, q, r, t, u, v, w, x)
+
+pub counts-are : (f : Format) (h : Head) (a b c d e g i : Bool)
+    → a ≡ leb 1 (h .taken) → b ≡ leb (h .taken) (h .nodes) → c ≡ leb (h .filled) (h .pages) → d ≡ leb 1 (h .root) → e ≡ leb (h .root) (h .taken)
+    → g ≡ leb 1 (h .levels) → i ≡ leb (h .levels) (levelBound (width f) (h .theta) (h .capacity)) → (a && b && c && d && e && g && i) ≡ lawfulCounts f h
+unfolding lawfulCounts
+counts-are f h a b c d e g i p q r t u v w = rw (p, q, r, t, u, v, w)
+
+pub rule-is : (f : Format) (s : List ℕ) (h : Head) (a b c d : Bool) → h ≡ headOf s
+    → a ≡ lawfulSizes (h .theta) (h .capacity) (h .nodes) (h .pages) → b ≡ zeros s 8 8
+    → c ≡ leb (size f (h .theta) (h .capacity) (h .nodes) (h .pages)) (length s) → d ≡ lawfulCounts f h → (a && b && c && d) ≡ headRule f s
+unfolding headRule
+rule-is f s h a b c d e p q r t = rw (p, q, r, t, e)
+
+-- limits as facts
+pub record Limits (θ C N P : ℕ) : Type 0 where
+  pub theta-low : 1 ≤ θ
+  pub theta : θ ≤ 6
+  pub capacity-low : 1 ≤ C
+  pub capacity : C ≤ 64
+  pub nodes-low : 1 ≤ N
+  pub nodes : N ≤ 4096
+  pub pages-low : 1 ≤ P
+  pub pages : P ≤ 4096
+
+pub sizes-limits : (θ C N P : ℕ) → lawfulSizes θ C N P ≡ true → Limits θ C N P
+unfolding lawfulSizes
+sizes-limits θ C N P e =
+    let a = and-true _ _ e in
+    let b = and-true _ _ (a .0) in
+    let c = and-true _ _ (b .0) in
+    let d = and-true _ _ (c .0) in
+    let g = and-true _ _ (d .0) in
+    let h = and-true _ _ (g .0) in
+    let i = and-true _ _ (h .0) in
+    record {
+      theta-low = leb-true _ _ (i .0);
+      theta = leb-true _ _ (i .1);
+      capacity-low = leb-true _ _ (h .1);
+      capacity = leb-true _ _ (g .1);
+      nodes-low = leb-true _ _ (d .1);
+      nodes = leb-true _ _ (c .1);
+      pages-low = leb-true _ _ (b .1);
+      pages = leb-true _ _ (a .1);
+    }
+
+pub record Counts (f : Format) (h : Head) : Type 0 where
+  pub taken-low : 1 ≤ h .taken
+  pub taken : h .taken ≤ h .nodes
+  pub filled : h .filled ≤ h .pages
+  pub root-low : 1 ≤ h .root
+  pub root : h .root ≤ h .taken
+  pub levels-low : 1 ≤ h .levels
+  pub levels : h .levels ≤ levelBound (width f) (h .theta) (h .capacity)
+
+pub counts-facts : (f : Format) (h : Head) → lawfulCounts f h ≡ true → Counts f h
+unfolding lawfulCounts
+counts-facts f h e =
+    let a = and-true _ _ e in
+    let b = and-true _ _ (a .0) in
+    let c = and-true _ _ (b .0) in
+    let d = and-true _ _ (c .0) in
+    let g = and-true _ _ (d .0) in
+    let i = and-true _ _ (g .0) in
+    record {
+      taken-low = leb-true _ _ (i .0);
+      taken = leb-true _ _ (i .1);
+      filled = leb-true _ _ (g .1);
+      root-low = leb-true _ _ (d .1);
+      root = leb-true _ _ (c .1);
+      levels-low = leb-true _ _ (b .1);
+      levels = leb-true _ _ (a .1);
+    }
+
+-- what a store that keeps the head rule has
+pub record Headed (f : Format) (s : List ℕ) : Type 0 where
+  pub limits : Limits (headOf s .theta) (headOf s .capacity) (headOf s .nodes) (headOf s .pages)
+  pub counts : Counts f (headOf s)
+  pub room : size f (headOf s .theta) (headOf s .capacity) (headOf s .nodes) (headOf s .pages) ≤ length s
+
+pub head-facts : (f : Format) (s : List ℕ) → headRule f s ≡ true → Headed f s
+unfolding headRule
+head-facts f s e =
+    let a = and-true _ _ e in
+    let b = and-true _ _ (a .0) in
+    let c = and-true _ _ (b .0) in
+    record { limits = sizes-limits _ _ _ _ (c .0); counts = counts-facts f (headOf s) (a .1); room = leb-true _ _ (b .1) }

@@ -1,0 +1,200 @@
+-- A walk from run to run decides `goodRuns`. A run that begins aligned where the last one ended, and is constant, keeps the rule at each of its
+-- entries; and where the rule holds no run begins unaligned, since the entry before it would be of the same run and that run has ended.
+-- Arrays and tries: an array keeps the rule and has the largest depth H if and only if it is the array of a trie of height H.
+--   RunAt H e k       == the rule of runs at entry k
+--   Points low high x == the pointer of the entry x is from low to high
+--   Passed .. i m     == i is 0 or where a run ends, the entries before i keep both rules, and m is their largest local depth
+--   Good ..           == what goodRuns says, as facts
+use mathlib.Core.Path.{_≡_, refl, sym, ap, ap₂, _∙_}
+use mathlib.Core.Bool.{true, false, false≢true}
+use Prim.Native.Nat.{ℕ, zero, suc, _+_, _-_, _%_, _^_, _≤_, _<_, max}
+use native.Mathlib.Nat.{zero-add, sub-zero, sub-le, zero-mod, mod-le, mod-lt}
+use native.Mathlib.Omega.{arith}
+use lib.Dec.{eqb}
+use lib.ListN.{getD}
+use lib.Pow.{pow-pos, ones-lt}
+use lib.Seq.{ext-getD}
+use borrow.Author.Tests.{leb-true, le-leb, eqb-true, eq-eqb}
+use Rattle.lists.specs.Lists.{greatest, tab}
+use Rattle.lists.proofs.Cases.{refuted}
+use Rattle.lists.proofs.Powers.{run-lt, run-start, run-next, run-end}
+use Rattle.lists.proofs.Tests.{and-true, same-test, every-at, every-of, range-more, greatest-run, greatest-first, length-tab, getD-tab}
+use Rattle.tree.specs.Trie.{Trie, height}
+use Rattle.tree.specs.Node.{Entry, flatten, largest, RunRule}
+use Rattle.tree.proofs.Flatten.{length-flatten}
+use Rattle.tree.proofs.NodePromises.{largest-is, obeys, is-trie}
+use Rattle.store.specs.Node.{sameEntry, sameRun, runRule, goodRuns}
+
+-- tests as facts
+pub entry-true : (x y : Entry ℕ) → sameEntry x y ≡ true → x ≡ y
+entry-true x y t =
+    let a = and-true (eqb (x .0) (y .0)) (eqb (x .1) (y .1)) t in
+    ap₂ (λ h p. (h, p)) (eqb-true (x .0) (y .0) (a .0)) (eqb-true (x .1) (y .1) (a .1))
+
+pub true-entry : (x y : Entry ℕ) → x ≡ y → sameEntry x y ≡ true
+true-entry x y p = rw (p, eq-eqb (y .0) (y .0) refl, eq-eqb (y .1) (y .1) refl)
+
+module _ (e : ℕ → Entry ℕ) (i n : ℕ) where
+  pub run-true : sameRun e i n ≡ true → (j : ℕ) → j < n → e (i + j) ≡ e i
+  unfolding sameRun
+  run-true t j h = entry-true (e (i + j)) (e i) (every-at n _ t j h)
+
+  pub true-run : ((j : ℕ) → j < n → e (i + j) ≡ e i) → sameRun e i n ≡ true
+  unfolding sameRun
+  true-run f = every-of n _ (λ j h. true-entry (e (i + j)) (e i) (f j h))
+
+abbrev pub Points : ℕ → ℕ → Entry ℕ → Type 0
+Points low high x = (low ≤ x .1) × (x .1 ≤ high)
+
+-- the largest depth of an array
+pub largest-tab : {A : Type 0} (n : ℕ) (f : ℕ → Entry A) → largest (tab n f) ≡ greatest n (λ k. f k .0)
+unfolding tab greatest
+largest-tab zero f = refl
+largest-tab (suc n) f = ap (max (f 0 .0)) (largest-tab n (λ k. f (suc k))) ∙ sym (greatest-first n (λ k. f k .0))
+
+module _ (H : ℕ) (e : ℕ → Entry ℕ) where
+  abbrev pub RunAt : ℕ → Type 0
+  RunAt k = (e k .0 ≤ H) × ((j : ℕ) → j < 2 ^ (H - e k .0) → e (k - k % 2 ^ (H - e k .0) + j) ≡ e k)
+
+  rule-true : runRule H e ≡ true → (k : ℕ) → k < 2 ^ H → RunAt k
+  unfolding runRule
+  rule-true t k h =
+      let a = and-true _ _ (every-at (2 ^ H) _ t k h) in
+      (leb-true (e k .0) H (a .0), λ j q. entry-true _ _ (every-at (2 ^ (H - e k .0)) _ (a .1) j q))
+
+  true-rule : ((k : ℕ) → k < 2 ^ H → RunAt k) → runRule H e ≡ true
+  unfolding runRule
+  true-rule r =
+      every-of (2 ^ H) _
+      (λ k h. rw (le-leb (e k .0) H (r k h .0)) (every-of (2 ^ (H - e k .0)) _ (λ j q. true-entry _ _ (r k h .1 j q))))
+
+  -- the rule of an array as a list
+  module _ (z : Entry ℕ) where
+    inside : (k j : ℕ) → k < 2 ^ H → j < 2 ^ (H - e k .0)
+        → getD (tab (2 ^ H) e) (k - k % 2 ^ (H - e k .0) + j) z ≡ e (k - k % 2 ^ (H - e k .0) + j)
+    inside k j h q = getD-tab (2 ^ H) e _ z (run-lt H (H - e k .0) k j (sub-le H (e k .0)) h q)
+
+    tab-rule : ((k : ℕ) → k < 2 ^ H → RunAt k) → RunRule H (tab (2 ^ H) e) z
+    unfolding RunRule
+    tab-rule r k h = rw (getD-tab (2 ^ H) e k z h) (r k h .0, λ j q. inside k j h q ∙ r k h .1 j q)
+
+    rule-tab : RunRule H (tab (2 ^ H) e) z → (k : ℕ) → k < 2 ^ H → RunAt k
+    unfolding RunRule
+    rule-tab r k h =
+        let s = rw (getD-tab (2 ^ H) e k z h) at (r k h) in
+        (s .0, λ j q. sym (inside k j h q) ∙ s .1 j q)
+
+module _ (H low high : ℕ) (e : ℕ → Entry ℕ) where
+  pub record Good : Type 0 where
+    pub rule : (k : ℕ) → k < 2 ^ H → RunAt H e k
+    pub pointers : (k : ℕ) → k < 2 ^ H → Points low high (e k)
+    pub deepest : greatest (2 ^ H) (λ k. e k .0) ≡ H
+
+  pub good-facts : goodRuns H low high e ≡ true → Good
+  unfolding goodRuns
+  good-facts t =
+      let a = and-true _ _ t in
+      let b = and-true _ _ (a .0) in
+      record {
+        rule = rule-true H e (b .0);
+        pointers = λ k h.
+            let c = and-true _ _ (every-at (2 ^ H) _ (a .1) k h) in
+            (leb-true low (e k .1) (c .0), leb-true (e k .1) high (c .1));
+        deepest = eqb-true (greatest (2 ^ H) (λ k. e k .0)) H (b .1);
+      }
+
+  pub facts-good : Good → goodRuns H low high e ≡ true
+  unfolding goodRuns
+  facts-good g =
+      rw (true-rule H e (g .rule), eq-eqb (greatest (2 ^ H) (λ k. e k .0)) H (g .deepest))
+      (every-of (2 ^ H) _ (λ k h. rw (le-leb low (e k .1) (g .pointers k h .0)) (le-leb (e k .1) high (g .pointers k h .1))))
+
+  -- arrays and tries
+  pub good-is-trie : goodRuns H low high e ≡ true → (t : Trie ℕ) × (height t ≡ H) × (flatten H t 0 ≡ tab (2 ^ H) e)
+  good-is-trie t =
+      let g = good-facts t in
+      is-trie H (tab (2 ^ H) e) (0, 0) (length-tab (2 ^ H) e) (tab-rule H e (0, 0) (g .rule)) (largest-tab (2 ^ H) e ∙ g .deepest)
+
+  pub trie-is-good : (t : Trie ℕ) → height t ≡ H → ((j : ℕ) → j < 2 ^ H → e j ≡ getD (flatten H t 0) j (0, 0))
+      → ((j : ℕ) → j < 2 ^ H → Points low high (e j)) → goodRuns H low high e ≡ true
+  trie-is-good t h same points =
+      let n = length-flatten H t 0 in
+      let fits : height t ≤ H = omega arith in
+      let a : flatten H t 0 ≡ tab (2 ^ H) e =
+      ext-getD (0, 0) (flatten H t 0) (tab (2 ^ H) e) (n ∙ sym (length-tab (2 ^ H) e))
+      (λ j q. let q′ : j < 2 ^ H = omega (arith, n) in sym (same j q′) ∙ sym (getD-tab (2 ^ H) e j (0, 0) q′)) in
+      facts-good
+      (record {
+        rule = rule-tab H e (0, 0) (rw a at (obeys H t (0, 0) fits));
+        pointers = points;
+        deepest = sym (largest-tab (2 ^ H) e) ∙ ap largest (sym a) ∙ largest-is H t 0 fits ∙ zero-add (height t) ∙ h;
+      })
+
+  -- the walk
+  pub record Passed (i m : ℕ) : Type 0 where
+    pub within : i ≤ 2 ^ H
+    pub rule : (k : ℕ) → k < i → RunAt H e k
+    pub pointers : (k : ℕ) → k < i → Points low high (e k)
+    pub deepest : greatest i (λ k. e k .0) ≡ m
+    pub start : (k : ℕ) → i ≡ suc k → i % 2 ^ (H - e k .0) ≡ 0
+
+  pub passed-none : Passed 0 0
+  unfolding greatest
+  passed-none =
+      record {
+        within = omega arith;
+        rule = λ k h. absurd (omega arith);
+        pointers = λ k h. absurd (omega arith);
+        deepest = refl;
+        start = λ k h. zero-mod _;
+      }
+
+  pub passed-more : (i m : ℕ) → Passed i m → i < 2 ^ H → e i .0 ≤ H → i % 2 ^ (H - e i .0) ≡ 0 → low ≤ e i .1 → e i .1 ≤ high
+      → sameRun e i (2 ^ (H - e i .0)) ≡ true → Passed (i + 2 ^ (H - e i .0)) (max m (e i .0))
+  passed-more i m p h deep aligned above below same =
+      let d : ℕ = H - e i .0 in
+      let run = run-true e i (2 ^ d) same in
+      record {
+        within = run-end d i aligned H (sub-le H (e i .0)) h;
+        rule = range-more (RunAt H e) i (2 ^ d) (p .rule) (λ j q. rw (run j q, run-start d i aligned j q) (deep, run));
+        pointers = range-more (λ k. Points low high (e k)) i (2 ^ d) (p .pointers) (λ j q. rw (run j q) (above, below));
+        deepest = greatest-run i (2 ^ d) (λ k. e k .0) (pow-pos d) (λ j q. ap (λ x. x .0) (run j q)) ∙ ap (λ n. max n (e i .0)) (p .deepest);
+        start = λ k q.
+            let last : i + (2 ^ d - 1) ≡ k = omega (arith, pow-pos d) in
+            rw (rw last at (run (2 ^ d - 1) (ones-lt d))) (run-next d i aligned);
+      }
+
+  pub passed-all : (m : ℕ) → Passed (2 ^ H) m → goodRuns H low high e ≡ eqb m H
+  passed-all m p =
+      same-test (goodRuns H low high e) (eqb m H)
+      (λ t. eq-eqb m H (sym (p .deepest) ∙ good-facts t .deepest))
+      (λ t. facts-good (record { rule = p .rule; pointers = p .pointers; deepest = p .deepest ∙ eqb-true m H t }))
+
+  -- where the walk stops
+  fails : (Good → ⊥) → goodRuns H low high e ≡ false
+  fails f = refuted (goodRuns H low high e) (λ t. f (good-facts t))
+
+  pub deep-fails : (i : ℕ) → i < 2 ^ H → H < e i .0 → goodRuns H low high e ≡ false
+  deep-fails i h q = fails (λ g. omega (arith, g .rule i h .0))
+
+  pub low-fails : (i : ℕ) → i < 2 ^ H → e i .1 < low → goodRuns H low high e ≡ false
+  low-fails i h q = fails (λ g. omega (arith, g .pointers i h .0))
+
+  pub high-fails : (i : ℕ) → i < 2 ^ H → high < e i .1 → goodRuns H low high e ≡ false
+  high-fails i h q = fails (λ g. omega (arith, g .pointers i h .1))
+
+  pub run-fails : (i : ℕ) → i < 2 ^ H → e i .0 ≤ H → i % 2 ^ (H - e i .0) ≡ 0 → sameRun e i (2 ^ (H - e i .0)) ≡ false
+      → goodRuns H low high e ≡ false
+  run-fails i h deep aligned f =
+      fails (λ g. false≢true (sym f ∙ true-run e i (2 ^ (H - e i .0)) (λ j q. rw (aligned, sub-zero) at (g .rule i h .1 j q))))
+
+  unaligned : (i m : ℕ) → Passed i m → RunAt H e i → (i % 2 ^ (H - e i .0) ≡ 0 → ⊥) → ⊥
+  unaligned zero m p r f = f (zero-mod _)
+  unaligned (suc k) m p r f =
+      let n : ℕ = 2 ^ (H - e (suc k) .0) in
+      let before : suc k - suc k % n + (suc k % n - 1) ≡ k = omega (arith, mod-le (suc k) n) in
+      let same : e k ≡ e (suc k) = rw before at (r .1 (suc k % n - 1) (omega (arith, mod-lt (suc k) (pow-pos (H - e (suc k) .0))))) in
+      f (rw same at (p .start k refl))
+
+  pub align-fails : (i m : ℕ) → Passed i m → i < 2 ^ H → e i .0 ≤ H → (i % 2 ^ (H - e i .0) ≡ 0 → ⊥) → goodRuns H low high e ≡ false
+  align-fails i m p h deep f = fails (λ g. unaligned i m p (g .rule i h) f)
