@@ -4,9 +4,11 @@ use mathlib.Core.List.{List, [], _∷_, _++_, map, append-assoc, append-nil}
 use Prim.Native.Nat.{ℕ, zero, suc, _+_, _-_, _≤_, _<_}
 use native.Mathlib.Nat.{add-assoc, zero-add}
 use native.Mathlib.Omega.{arith}
+use borrow.Author.Tests.{le-leb, lt-leb}
+use lib.Dec.{leb}
 use lib.ListN.{length, getD, take, drop, replicate, drop-of-length-le, List·getD-append}
 use lib.Seq.{length-take-le, take-append-le, drop-append-le, take-append-add, drop-append-add, getD-take, getD-drop, getD-append-add}
-use Rattle.lists.specs.Lists.{replaced}
+use Rattle.lists.specs.Lists.{replaced, part}
 
 pub map-replicate : {A B : Type 0} (f : A → B) (n : ℕ) (x : A) → map f (replicate n x) ≡ replicate n (f x)
 map-replicate f zero x = refl
@@ -17,6 +19,14 @@ pub getD-past : {A : Type 0} (xs ys : List A) (z : A) (j : ℕ) {i : ℕ} → i 
 getD-past xs ys z j e = ap (λ n. getD (xs ++ ys) n z) e ∙ getD-append-add xs ys j z
 
 module _ {A : Type 0} where
+  pub part-in : (xs : List A) (a n : ℕ) → a + n ≤ length xs → part xs a n ≡ take n (drop a xs)
+  unfolding part
+  part-in xs a n h = rw (le-leb (a + n) (length xs) h, part)
+
+  pub part-out : (xs : List A) (a n : ℕ) → length xs < a + n → part xs a n ≡ []
+  unfolding part
+  part-out xs a n h = rw (lt-leb (a + n) (length xs) h, part)
+
   pub replaced-all : (n : ℕ) (ys xs : List A) → length xs ≡ n → replaced 0 n ys xs ≡ ys
   unfolding replaced
   replaced-all n ys xs e = rw (zero-add n, drop-of-length-le xs {i = n} (omega arith)) (append-nil ys)

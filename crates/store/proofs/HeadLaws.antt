@@ -1,18 +1,19 @@
 -- The head rule, test by test: what a row of tests comes to, and what a head that keeps the rule has.
 use mathlib.Core.Path.{_≡_, refl, sym, ap, _∙_}
 use mathlib.Core.Bool.{Bool, true, false, _&&_}
-use mathlib.Core.List.{List}
+use mathlib.Core.List.{List, []}
 use Prim.Native.Nat.{ℕ, _+_, _-_, _*_, _/_, _^_, _≤_, _<_}
 use native.Mathlib.Omega.{arith}
 use lib.Dec.{leb}
-use lib.ListN.{length}
+use lib.ListN.{length, take, drop}
 use borrow.Author.Tests.{leb-true}
+use Rattle.lists.proofs.Parts.{part-in, part-out}
 use Rattle.lists.proofs.Tests.{and-true}
 use Rattle.tree.specs.Book.{log2, levelBound}
 use Rattle.store.specs.declared.Format.{Format}
 use Rattle.store.specs.declared.Head.{Head}
 use Rattle.store.specs.Format.{width, words}
-use Rattle.store.specs.Head.{word, zeros, headOf, nodeWords, pageWords, size, nodeStart, pageStart, lawfulSizes, lawfulCounts, headRule}
+use Rattle.store.specs.Head.{word, zeros, headOf, nodeWords, pageWords, size, nodeStart, pageStart, pageAt, lawfulSizes, lawfulCounts, headRule}
 
 -- what the code computes is what the definitions name
 pub level-bound-is : (w l W θ C : ℕ) → w ≡ W → l ≡ log2 C → (w - l + (θ - 1)) / θ ≡ levelBound W θ C
@@ -126,3 +127,14 @@ head-facts f s e =
     let b = and-true _ _ (a .0) in
     let c = and-true _ _ (b .0) in
     record { limits = sizes-limits _ _ _ _ (c .0); counts = counts-facts f (headOf s) (a .1); room = leb-true _ _ (b .1) }
+
+pub page-given : (f : Format) (s : List ℕ) (h : Head) (p a w : ℕ) → a ≡ pageStart f h p → w ≡ pageWords f (h .capacity) → a + w ≤ length s
+    → take (a + w - a) (drop a s) ≡ pageAt f s h p
+unfolding pageAt
+page-given f s h p a w i j l =
+    let e : a + w - a ≡ w = omega arith in
+    rw (e, ← i, ← j) (sym (part-in s a w l))
+
+pub page-none : (f : Format) (s : List ℕ) (h : Head) (p a w : ℕ) → a ≡ pageStart f h p → w ≡ pageWords f (h .capacity) → length s < a + w → [] ≡ pageAt f s h p
+unfolding pageAt
+page-none f s h p a w i j l = rw (← i, ← j) (sym (part-out s a w l))

@@ -1,49 +1,39 @@
+-- Test by test.
 use borrow.Author.Needs.{needs}
+use mathlib.Core.Path.{_≡_, refl, sym, ap, _∙_}
+use mathlib.Core.Bool.{true, false}
+use borrow.Author.Tests.{le-leb, lt-leb}
+use Rattle.lists.proofs.Tests.{passed, failed}
+use Rattle.store.proofs.HeadLaws.{rule-is, sizes-limits}
 use Rattle.store.proofs.head_ok.Statement.{statement}
 use Rattle.store.proofs.head_ok.Tie as tie
-use Rattle.store.proofs.head_ok.Reads as reads
-use Rattle.store.proofs.head_ok.Lts as lts
-use Rattle.store.proofs.all_zero.Reads as all-zero-reads
-use Rattle.store.proofs.counts_ok.Reads as counts-ok-reads
-use Rattle.store.proofs.head_of.Reads as head-of-reads
-use Rattle.store.proofs.size_of.Reads as size-of-reads
-use Rattle.store.proofs.sizes_ok.Reads as sizes-ok-reads
 
--- src/lib.rt:233:9
 head-of-requires : tie.Need-head-of-requires
 head-of-requires c κs = search needs
 
--- src/lib.rt:234:9
 sizes-ok-requires : tie.Need-sizes-ok-requires
 sizes-ok-requires c κs = search needs
 
--- src/lib.rt:235:9
 returns : tie.Need-returns
-returns c = search needs
+returns c = rule-is _ _ (c .before .before .head-of .result) false _ _ _ (c .before .before .head-of .ensures) (sym (failed (c .before .sizes-ok .ensures) (c .if1 .taken))) refl refl refl
 
--- src/lib.rt:237:9
 all-zero-requires : tie.Need-all-zero-requires
 all-zero-requires c κs = search needs
 
--- src/lib.rt:238:9
 returns-2 : tie.Need-returns-2
-returns-2 c = search needs
+returns-2 c = rule-is _ _ (c .before .before .before .before .head-of .result) true false _ _ (c .before .before .before .before .head-of .ensures) (sym (passed (c .before .before .before .sizes-ok .ensures) (c .before .before .if1 .left))) (sym (failed (c .before .all-zero .ensures) (c .if2 .taken))) refl refl
 
--- src/lib.rt:240:8
 size-of-requires : tie.Need-size-of-requires
-size-of-requires c κs = search needs
+size-of-requires c κs = let l = sizes-limits _ _ _ _ (passed (c .before .before .before .sizes-ok .ensures) (c .before .before .if1 .left)) in (l .theta, l .capacity, l .nodes, l .pages)
 
--- src/lib.rt:241:9
 returns-3 : tie.Need-returns-3
-returns-3 c = search needs
+returns-3 c = rule-is _ _ (c .before .before .before .before .before .before .head-of .result) true true false _ (c .before .before .before .before .before .before .head-of .ensures) (sym (passed (c .before .before .before .before .before .sizes-ok .ensures) (c .before .before .before .before .if1 .left))) (sym (passed (c .before .before .before .all-zero .ensures) (c .before .before .if2 .left))) (sym (lt-leb _ _ (rw (c .before .size-of .ensures .0) at (c .if3 .taken)))) refl
 
--- src/lib.rt:243:5
 counts-ok-requires : tie.Need-counts-ok-requires
-counts-ok-requires c κs = search needs
+counts-ok-requires c κs = let l = sizes-limits _ _ _ _ (passed (c .before .before .before .before .before .sizes-ok .ensures) (c .before .before .before .before .if1 .left)) in (l .theta-low, l .theta, l .capacity-low, l .capacity)
 
--- src/lib.rt:230:1
 returns-4 : tie.Need-returns-4
-returns-4 c = search needs
+returns-4 c = rule-is _ _ (c .before .before .before .before .before .before .before .head-of .result) true true true _ (c .before .before .before .before .before .before .before .head-of .ensures) (sym (passed (c .before .before .before .before .before .before .sizes-ok .ensures) (c .before .before .before .before .before .if1 .left))) (sym (passed (c .before .before .before .before .all-zero .ensures) (c .before .before .before .if2 .left))) (sym (le-leb _ _ (rw (c .before .before .size-of .ensures .0) at (c .before .if3 .left)))) (c .counts-ok .ensures)
 
 pub head-ok-spec : {M : Type 1} → statement M
 head-ok-spec =

@@ -1,30 +1,29 @@
+-- A block's number, its size and the head before it.
 use borrow.Author.Needs.{needs}
+use Prim.Native.Nat.{_*_, _^_, _≤_}
+use native.Mathlib.Omega.{arith}
+use Rattle.store.proofs.Sizes.{times-lt}
+use Rattle.store.proofs.HeadLaws.{node-start-is}
 use Rattle.store.proofs.node_start.Statement.{statement}
 use Rattle.store.proofs.node_start.Tie as tie
-use Rattle.store.proofs.node_start.Reads as reads
-use Rattle.store.proofs.node_start.Lts as lts
-use Rattle.store.proofs.from_zero.Reads as from-zero-reads
-use Rattle.store.proofs.node_words.Reads as node-words-reads
 
--- src/lib.rt:261:10
+within : (c : tie.After-node-words) → c .before .from-zero .result * c .node-words .result ≤ 2 ^ 32 * 132
+within c = times-lt _ _ (2 ^ 32) 132 (c .before .from-zero .ensures .1) (c .node-words .ensures .2)
+
 from-zero-requires : tie.Need-from-zero-requires
 from-zero-requires c κs = search needs
 
--- src/lib.rt:261:25
 node-words-requires : tie.Need-node-words-requires
 node-words-requires c κs = search needs
 
--- src/lib.rt:261:10
 mul-result : tie.Need-mul-result
-mul-result c = search needs
+mul-result c = omega (arith, within c)
 
--- src/lib.rt:261:5
 add-result : tie.Need-add-result
-add-result c = search needs
+add-result c = omega (arith, within c)
 
--- src/lib.rt:257:1
 returns : tie.Need-returns
-returns c = search needs
+returns c = (node-start-is _ _ _ _ (c .before .from-zero .ensures .0) (c .node-words .ensures .0), omega (arith, within c))
 
 pub node-start-spec : {M : Type 1} → statement M
 node-start-spec =

@@ -1,48 +1,44 @@
+-- Two products of bounded numbers.
 use borrow.Author.Needs.{needs}
+use Prim.Native.Nat.{_*_, _^_, _≤_}
+use native.Mathlib.Omega.{arith}
+use Rattle.store.proofs.Sizes.{times-lt}
+use Rattle.store.proofs.HeadLaws.{page-start-is}
 use Rattle.store.proofs.page_start.Statement.{statement}
 use Rattle.store.proofs.page_start.Tie as tie
-use Rattle.store.proofs.page_start.Reads as reads
-use Rattle.store.proofs.page_start.Lts as lts
-use Rattle.store.proofs.from_zero.Reads as from-zero-reads
-use Rattle.store.proofs.node_words.Reads as node-words-reads
-use Rattle.store.proofs.page_words.Reads as page-words-reads
-use Rattle.store.proofs.wide.Reads as wide-reads
 
--- src/lib.rt:269:10
+nodes : (c : tie.After-node-words) → c .before .wide .result * c .node-words .result ≤ 2 ^ 32 * 132
+nodes c = times-lt _ _ (2 ^ 32) 132 (c .before .wide .ensures .1) (c .node-words .ensures .2)
+
+pages : (c : tie.After-page-words) → c .before .from-zero .result * c .page-words .result ≤ 2 ^ 32 * 257
+pages c = times-lt _ _ (2 ^ 32) 257 (c .before .from-zero .ensures .1) (c .page-words .ensures .1)
+
 wide-requires : tie.Need-wide-requires
 wide-requires c κs = search needs
 
--- src/lib.rt:269:29
 node-words-requires : tie.Need-node-words-requires
 node-words-requires c κs = search needs
 
--- src/lib.rt:269:10
 mul-result : tie.Need-mul-result
-mul-result c = search needs
+mul-result c = omega (arith, nodes c)
 
--- src/lib.rt:269:5
 add-result : tie.Need-add-result
-add-result c = search needs
+add-result c = omega (arith, nodes c)
 
--- src/lib.rt:269:54
 from-zero-requires : tie.Need-from-zero-requires
 from-zero-requires c κs = search needs
 
--- src/lib.rt:269:69
 page-words-requires : tie.Need-page-words-requires
 page-words-requires c κs = search needs
 
--- src/lib.rt:269:54
 mul-result-2 : tie.Need-mul-result-2
-mul-result-2 c = search needs
+mul-result-2 c = omega (arith, pages c)
 
--- src/lib.rt:269:5
 add-result-2 : tie.Need-add-result-2
-add-result-2 c = search needs
+add-result-2 c = omega (arith, nodes (c .before .before), pages c)
 
--- src/lib.rt:265:1
 returns : tie.Need-returns
-returns c = search needs
+returns c = (page-start-is _ _ _ _ _ _ _ (c .before .before .before .wide .ensures .0) (c .before .before .node-words .ensures .0) (c .before .from-zero .ensures .0) (c .page-words .ensures .0), omega (arith, nodes (c .before .before), pages c))
 
 pub page-start-spec : {M : Type 1} → statement M
 page-start-spec =

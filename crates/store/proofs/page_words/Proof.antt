@@ -1,30 +1,29 @@
+-- At most four words for each of 64 records.
 use borrow.Author.Needs.{needs}
+use Prim.Native.Nat.{_*_, _^_, _≤_}
+use native.Mathlib.Omega.{arith}
+use Rattle.store.proofs.Sizes.{times-le}
+use Rattle.store.proofs.HeadLaws.{page-words-is}
 use Rattle.store.proofs.page_words.Statement.{statement}
 use Rattle.store.proofs.page_words.Tie as tie
-use Rattle.store.proofs.page_words.Reads as reads
-use Rattle.store.proofs.page_words.Lts as lts
-use Rattle.store.proofs.wide.Reads as wide-reads
-use Rattle.store.proofs.words_of.Reads as words-of-reads
 
--- src/lib.rt:158:9
+within : (c : tie.After-wide) → c .before .words-of .result * c .wide .result ≤ 4 * 64
+within c = times-le _ _ 4 64 (c .before .words-of .ensures .2) (omega arith)
+
 words-of-requires : tie.Need-words-of-requires
 words-of-requires c κs = search needs
 
--- src/lib.rt:158:23
 wide-requires : tie.Need-wide-requires
 wide-requires c κs = search needs
 
--- src/lib.rt:158:9
 mul-result : tie.Need-mul-result
-mul-result c = search needs
+mul-result c = omega (arith, within c)
 
--- src/lib.rt:158:5
 add-result : tie.Need-add-result
-add-result c = search needs
+add-result c = omega (arith, within c)
 
--- src/lib.rt:154:1
 returns : tie.Need-returns
-returns c = search needs
+returns c = (page-words-is _ _ _ _ (c .before .words-of .ensures .0) (c .wide .ensures .0), omega (arith, within c))
 
 pub page-words-spec : {M : Type 1} → statement M
 page-words-spec =

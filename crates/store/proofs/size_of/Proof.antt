@@ -1,47 +1,44 @@
+-- Two products of bounded numbers.
 use borrow.Author.Needs.{needs}
+use Prim.Native.Nat.{_*_, _^_, _≤_}
+use native.Mathlib.Omega.{arith}
+use Rattle.store.proofs.Sizes.{times-le}
+use Rattle.store.proofs.HeadLaws.{size-is}
 use Rattle.store.proofs.size_of.Statement.{statement}
 use Rattle.store.proofs.size_of.Tie as tie
-use Rattle.store.proofs.size_of.Reads as reads
-use Rattle.store.proofs.size_of.Lts as lts
-use Rattle.store.proofs.node_words.Reads as node-words-reads
-use Rattle.store.proofs.page_words.Reads as page-words-reads
-use Rattle.store.proofs.wide.Reads as wide-reads
 
--- src/lib.rt:166:10
+nodes : (c : tie.After-node-words) → c .before .wide .result * c .node-words .result ≤ 4096 * 132
+nodes c = times-le _ _ 4096 132 (omega arith) (c .node-words .ensures .2)
+
+pages : (c : tie.After-page-words) → c .before .wide2 .result * c .page-words .result ≤ 4096 * 257
+pages c = times-le _ _ 4096 257 (omega arith) (c .page-words .ensures .1)
+
 wide-requires : tie.Need-wide-requires
 wide-requires c κs = search needs
 
--- src/lib.rt:166:24
 node-words-requires : tie.Need-node-words-requires
 node-words-requires c κs = search needs
 
--- src/lib.rt:166:10
 mul-result : tie.Need-mul-result
-mul-result c = search needs
+mul-result c = omega (arith, nodes c)
 
--- src/lib.rt:166:5
 add-result : tie.Need-add-result
-add-result c = search needs
+add-result c = omega (arith, nodes c)
 
--- src/lib.rt:166:44
 wide-requires-2 : tie.Need-wide-requires-2
 wide-requires-2 c κs = search needs
 
--- src/lib.rt:166:58
 page-words-requires : tie.Need-page-words-requires
 page-words-requires c κs = search needs
 
--- src/lib.rt:166:44
 mul-result-2 : tie.Need-mul-result-2
-mul-result-2 c = search needs
+mul-result-2 c = omega (arith, pages c)
 
--- src/lib.rt:166:5
 add-result-2 : tie.Need-add-result-2
-add-result-2 c = search needs
+add-result-2 c = omega (arith, nodes (c .before .before), pages c)
 
--- src/lib.rt:162:1
 returns : tie.Need-returns
-returns c = search needs
+returns c = (size-is _ _ _ _ _ _ _ _ _ (c .before .before .before .wide .ensures .0) (c .before .before .node-words .ensures .0) (c .before .wide2 .ensures .0) (c .page-words .ensures .0), omega (arith, nodes (c .before .before), pages c))
 
 pub size-of-spec : {M : Type 1} → statement M
 size-of-spec =
