@@ -1,0 +1,13 @@
+-- By the level.
+use Rattle.store.proofs.NodeLaws.{low-1, low-above}
+use Rattle.store.proofs.pointer_low.Statement.{statement}
+use Rattle.store.proofs.pointer_low.Tie as tie
+
+returns : tie.Need-returns
+returns c = low-1 _ (c .if1 .taken)
+
+returns-2 : tie.Need-returns-2
+returns-2 c = low-above _ (c .if1 .left)
+
+pub pointer-low-spec : {M : Type 1} → statement M
+pointer-low-spec = tie.close (tie.spec returns returns-2)

@@ -1,0 +1,94 @@
+-- The walk has passed whole runs so far.
+use borrow.Author.Needs.{needs}
+use mathlib.Core.Path.{_≡_, refl, sym, ap, _∙_}
+use mathlib.Core.Bool.{true, false}
+use native.Mathlib.Omega.{arith}
+use Prim.Native.Nat.{ℕ, _+_, _-_, _*_, _^_, _≤_, _<_, max}
+use Rattle.lists.proofs.Tests.{passed, failed}
+use Rattle.store.specs.Node.{entryOf}
+use Rattle.store.proofs.RunWalk.{Passed, passed-none, passed-all}
+use Rattle.store.proofs.NodeLaws.{run-passes, run-refused}
+use Rattle.store.proofs.runs_ok.Statement.{statement}
+use Rattle.store.proofs.runs_ok.Tie as tie
+
+abbrev Inv-loop : tie.InvT-loop
+Inv-loop store at depth low high n deepest₀ i₀ deepest i = (n ≡ 2 ^ depth) × (n ≤ 64) × Passed depth low high (entryOf store at) i deepest
+
+abbrev μ-loop : tie.MeasureT-loop
+μ-loop store at depth low high n deepest₀ i₀ deepest i = n - i
+
+on : (c : tie.After-word Inv-loop μ-loop)
+    → let a = c .before .before .before .before .before .before .before .args in
+    let l = c .before .before .before .before .loop in
+    (c .word .result ≤ a .depth) × Passed (a .depth) (a .low) (a .high) (entryOf (a .store .now) (a .at)) (l .i + 2 ^ (a .depth - c .word .result)) (max (l .deepest) (c .word .result))
+on c =
+    let l = c .before .before .before .before .loop in
+    rw (← (c .word .ensures)) at
+    (run-passes _ _ _ _ _ _ (l .inv .2) (omega (arith, l .inv .0)) (passed (c .before .before .run-ok .ensures) (c .before .if1 .left)))
+
+pow2-requires : tie.Need-pow2-requires Inv-loop μ-loop
+pow2-requires c κs = search needs
+
+loop-holds : tie.Need-loop-holds Inv-loop μ-loop
+loop-holds c = (c .pow2 .ensures .0, c .pow2 .ensures .2, passed-none _ _ _ _)
+
+run-ok-requires : tie.Need-run-ok-requires Inv-loop μ-loop
+run-ok-requires c κs = search needs
+
+returns : tie.Need-returns Inv-loop μ-loop
+returns c = sym (run-refused _ _ _ _ _ _ (c .before .before .before .loop .inv .2) (omega (arith, c .before .before .before .loop .inv .0)) (failed (c .before .run-ok .ensures) (c .if1 .taken)))
+
+add-word : tie.Need-add-word Inv-loop μ-loop
+add-word c = search needs
+
+mul-word : tie.Need-mul-word Inv-loop μ-loop
+mul-word c = search needs
+
+add-word-2 : tie.Need-add-word-2 Inv-loop μ-loop
+add-word-2 c = search needs
+
+word-requires : tie.Need-word-requires Inv-loop μ-loop
+word-requires c κs = search needs
+
+larger-requires : tie.Need-larger-requires Inv-loop μ-loop
+larger-requires c κs = search needs
+
+sub-pow2 : tie.Need-sub-pow2 Inv-loop μ-loop
+sub-pow2 c = on (c .before) .0
+
+pow2-requires-2 : tie.Need-pow2-requires-2 Inv-loop μ-loop
+pow2-requires-2 c κs = search needs
+
+add-i : tie.Need-add-i Inv-loop μ-loop
+add-i c = search needs
+
+loop-less : tie.Need-loop-less Inv-loop μ-loop
+loop-less c = search needs
+
+loop-again : tie.Need-loop-again Inv-loop μ-loop
+loop-again c = (c .before .before .before .before .before .before .loop .inv .0, c .before .before .before .before .before .before .loop .inv .1, rw (c .before .larger .ensures, c .pow22 .ensures .0) (on (c .before .before) .1))
+
+returns-2 : tie.Need-returns-2 Inv-loop μ-loop
+returns-2 c = let e : c .before .loop .i ≡ 2 ^ c .before .before .before .before .args .depth = omega (arith, c .before .loop .inv .0, c .before .loop .inv .2 .within) in sym (passed-all _ _ _ _ (c .before .loop .deepest) (rw e at (c .before .loop .inv .2)))
+
+pub runs-ok-spec : {M : Type 1} → statement M
+runs-ok-spec =
+    tie.close
+    (tie.spec
+    Inv-loop
+    μ-loop
+    pow2-requires
+    loop-holds
+    run-ok-requires
+    returns
+    add-word
+    mul-word
+    add-word-2
+    word-requires
+    larger-requires
+    sub-pow2
+    pow2-requires-2
+    add-i
+    loop-less
+    loop-again
+    returns-2)

@@ -1,0 +1,125 @@
+-- The loop has seen only entries as the first.
+use borrow.Author.Needs.{needs}
+use mathlib.Core.Path.{_≡_, refl, sym, ap, _∙_}
+use mathlib.Core.Bool.{true, false}
+use native.Mathlib.Omega.{arith}
+use borrow.Author.Tests.{eq-eqb, ne-eqb, le-leb, lt-leb}
+use Prim.Native.Nat.{_+_, _-_, _*_, _≤_}
+use lib.ListN.{getD}
+use Rattle.store.specs.Node.{entryOf, sameRun}
+use Rattle.store.proofs.NodeLaws.{run-none, run-more, run-other-depth, run-other-pointer}
+use Rattle.store.proofs.same_run.Statement.{statement}
+use Rattle.store.proofs.same_run.Tie as tie
+
+abbrev Inv-loop : tie.InvT-loop
+Inv-loop store at i n h p j₀ j = (j ≤ n) × (h ≡ getD store (at + 4 + 2 * i) 0) × (p ≡ getD store (at + 5 + 2 * i) 0) × (sameRun (entryOf store at) i j ≡ true)
+
+abbrev μ-loop : tie.MeasureT-loop
+μ-loop store at i n h p j₀ j = n - j
+
+add-word : tie.Need-add-word Inv-loop μ-loop
+add-word c = search needs
+
+mul-word : tie.Need-mul-word Inv-loop μ-loop
+mul-word c = search needs
+
+add-word-2 : tie.Need-add-word-2 Inv-loop μ-loop
+add-word-2 c = search needs
+
+word-requires : tie.Need-word-requires Inv-loop μ-loop
+word-requires c κs = search needs
+
+add-word-3 : tie.Need-add-word-3 Inv-loop μ-loop
+add-word-3 c = search needs
+
+mul-word-2 : tie.Need-mul-word-2 Inv-loop μ-loop
+mul-word-2 c = search needs
+
+add-word-4 : tie.Need-add-word-4 Inv-loop μ-loop
+add-word-4 c = search needs
+
+word-requires-2 : tie.Need-word-requires-2 Inv-loop μ-loop
+word-requires-2 c κs = search needs
+
+loop-holds : tie.Need-loop-holds Inv-loop μ-loop
+loop-holds c = (search needs, c .before .word .ensures, c .word2 .ensures, run-none _ _)
+
+add-word-5 : tie.Need-add-word-5 Inv-loop μ-loop
+add-word-5 c = search needs
+
+add-word-6 : tie.Need-add-word-6 Inv-loop μ-loop
+add-word-6 c = search needs
+
+mul-word-3 : tie.Need-mul-word-3 Inv-loop μ-loop
+mul-word-3 c = search needs
+
+add-word-7 : tie.Need-add-word-7 Inv-loop μ-loop
+add-word-7 c = search needs
+
+word-requires-3 : tie.Need-word-requires-3 Inv-loop μ-loop
+word-requires-3 c κs = search needs
+
+returns : tie.Need-returns Inv-loop μ-loop
+returns c = sym (run-other-depth _ _ (c .before .before .before .loop .j) _ (omega arith) (λ e. c .if1 .taken (c .before .word3 .ensures ∙ e ∙ sym (c .before .before .before .loop .inv .1))))
+
+add-word-8 : tie.Need-add-word-8 Inv-loop μ-loop
+add-word-8 c = search needs
+
+add-word-9 : tie.Need-add-word-9 Inv-loop μ-loop
+add-word-9 c = search needs
+
+mul-word-4 : tie.Need-mul-word-4 Inv-loop μ-loop
+mul-word-4 c = search needs
+
+add-word-10 : tie.Need-add-word-10 Inv-loop μ-loop
+add-word-10 c = search needs
+
+word-requires-4 : tie.Need-word-requires-4 Inv-loop μ-loop
+word-requires-4 c κs = search needs
+
+returns-2 : tie.Need-returns-2 Inv-loop μ-loop
+returns-2 c = sym (run-other-pointer _ _ (c .before .before .before .before .before .loop .j) _ (omega arith) (sym (c .before .before .before .word3 .ensures) ∙ c .before .before .if1 .left ∙ c .before .before .before .before .before .loop .inv .1) (λ e. c .if2 .taken (c .before .word4 .ensures ∙ e ∙ sym (c .before .before .before .before .before .loop .inv .2))))
+
+add-j : tie.Need-add-j Inv-loop μ-loop
+add-j c = search needs
+
+loop-less : tie.Need-loop-less Inv-loop μ-loop
+loop-less c = search needs
+
+loop-again : tie.Need-loop-again Inv-loop μ-loop
+loop-again c = (search needs, c .before .before .before .before .before .loop .inv .1, c .before .before .before .before .before .loop .inv .2, run-more _ _ _ (c .before .before .before .before .before .loop .inv .3) (sym (c .before .before .before .word3 .ensures) ∙ c .before .before .if1 .left ∙ c .before .before .before .before .before .loop .inv .1) (sym (c .before .word4 .ensures) ∙ c .if2 .left ∙ c .before .before .before .before .before .loop .inv .2))
+
+returns-3 : tie.Need-returns-3 Inv-loop μ-loop
+returns-3 c = let e : c .before .loop .j ≡ c .before .before .before .before .before .args .n = omega arith in sym (rw e at (c .before .loop .inv .3))
+
+pub same-run-spec : {M : Type 1} → statement M
+same-run-spec =
+    tie.close
+    (tie.spec
+    Inv-loop
+    μ-loop
+    add-word
+    mul-word
+    add-word-2
+    word-requires
+    add-word-3
+    mul-word-2
+    add-word-4
+    word-requires-2
+    loop-holds
+    add-word-5
+    add-word-6
+    mul-word-3
+    add-word-7
+    word-requires-3
+    returns
+    add-word-8
+    add-word-9
+    mul-word-4
+    add-word-10
+    word-requires-4
+    returns-2
+    add-j
+    loop-less
+    loop-again
+    returns-3)
