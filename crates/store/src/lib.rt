@@ -2,13 +2,13 @@
 ghost use mathlib.Core.Path.{_≡_};
 ghost use mathlib.Core.Bool.{true};
 ghost use Prim.Native.Nat.{ℕ, _+_, _-_, _*_, _/_, _%_, _^_, _≤_, _<_, max};
-ghost use lib.ListN.{length, getD};
+ghost use lib.ListN.{length, getD, replicate};
 ghost use Rattle.lists.specs.Lists.{part};
 ghost use Rattle.tree.specs.Book.{log2, levelBound};
 ghost use Rattle.store.specs.Format.{width, words};
 ghost use Rattle.store.specs.Head.{zeros, headOf, nodeWords, pageWords, size, nodeStart, pageStart, pageAt, lawfulSizes, lawfulCounts, headRule};
 ghost use Rattle.store.specs.Node.{entryOf, sameRun, goodRuns, linkRule, pointerLow, pointerHigh, runTest, nodeRule, entryNumber};
-ghost use Rattle.store.specs.SetUp.{setUp, reply};
+ghost use Rattle.store.specs.SetUp.{marked, setUp, reply};
 
 pub enum Format {
     Plots,
@@ -423,4 +423,47 @@ pub fn entry_number(f: Format, key: u64, used: u32, depth: u32) -> usize
     let mask = (1u64 << depth) - 1;
     let n = (key >> (width_of(f) - used - depth)) & mask;
     n as usize
+}
+
+// Sets every word of a part to 0.
+fn clear(part: &mut [u32])
+    ensures { λ _. ⌜ now (part .exit) ≡ replicate (length (now (part .entry))) 0 ⌝ }
+{
+    let n = part.len();
+    let mut i: usize = 0;
+    while i < n {
+        part[i] = 0;
+        i += 1;
+    }
+}
+
+// Writes the words of a store just set up that are not 0: its head, and the level of node 1.
+fn mark(part: &mut [u32], theta: u32, capacity: u32, nodes: u32, pages: u32)
+    requires { ⌜ 18 ≤ length (now part) ⌝ }
+    ensures { λ _. ⌜ now (part .exit) ≡ marked (now (part .entry)) theta capacity nodes pages ⌝ }
+{
+    part[0] = theta;
+    part[1] = capacity;
+    part[2] = nodes;
+    part[3] = pages;
+    part[4] = 1;
+    part[6] = 1;
+    part[7] = 1;
+    part[17] = 1;
+}
+
+// Sets a store up: refused with 4 or 5, or cleared and headed. Words beyond the size stay.
+pub fn set_up(store: &mut [u32], f: Format, theta: u32, capacity: u32, nodes: u32, pages: u32) -> SetUpAnswer
+    ensures { λ r. ⌜ (reply r ≡ setUp f theta capacity nodes pages (now (store .entry)) .reply) × (now (store .exit) ≡ setUp f theta capacity nodes pages (now (store .entry)) .words) ⌝ }
+{
+    if !sizes_ok(theta, capacity, nodes, pages) {
+        return SetUpAnswer::OutsideLimits;
+    }
+    let n = size_of(f, theta, capacity, nodes, pages);
+    if store.len() < n {
+        return SetUpAnswer::TooShort;
+    }
+    clear(&mut store[..n]);
+    mark(store, theta, capacity, nodes, pages);
+    SetUpAnswer::Done(n as u32)
 }
