@@ -1,0 +1,125 @@
+-- What the functions' proofs, the promises and callers share: a balance is at most the price, what one record does to each total, and that totals
+-- with fewer than 2^32 records have room for one more.
+-- Assumes nothing.
+use mathlib.Core.Bool.{true, false, _&&_, true≢false}
+use mathlib.Core.Path.{_≡_, refl, sym, ap, _∙_}
+use mathlib.Core.List.{List, [], _∷_, _++_}
+use mathlib.Core.Logic.{inl, inr}
+use Prim.Native.Nat.{ℕ, _+_, _-_, _*_, _^_, _≤_, _<_}
+use native.Mathlib.Omega.{arith}
+use lib.Dec.{ltb}
+use lib.ListN.{length}
+use borrow.Author.Tests.{eq-eqb, ne-eqb, ltb-true, ltb-false}
+use Rattle.lists.proofs.Cases.{bool-cases}
+use Rattle.plot.specs.declared.BalanceAnswer.{BalanceAnswer}
+use Rattle.plot.specs.Plot.{lawfulDay, lawfulTerm}
+use Rattle.plot.specs.Money.{Reply, reply, balanceReply}
+use Rattle.plot.proofs.Promises.{balance-within-price}
+use Rattle.store.specs.declared.Item.{Item}
+use Rattle.totals.specs.declared.Totals.{Totals}
+use Rattle.totals.specs.Totals.{noTotals, worth, earlier, updatedOf, totalsOf, Room}
+use Rattle.totals.specs.Promises.{worths}
+
+-- A value that stands in the reply of `balance` is the record's worth.
+pub worth-replied :
+    (it : Item) (today : ℕ) {b a : BalanceAnswer} →
+    b ≡ a →
+    reply b ≡ balanceReply (it .price) (it .lease) (it .last) today →
+    reply a .value ≡ worth it today
+unfolding worth
+worth-replied it today e h = sym (ap (λ b. reply b .value) e) ∙ ap (λ (r : Reply). r .value) h
+
+pub worth-within : (it : Item) (today : ℕ) → worth it today ≤ it .price
+unfolding worth balanceReply
+worth-within it today =
+    elim (bool-cases (lawfulTerm (it .lease) (it .last) && lawfulDay today)) [
+      | inl e ↦ rw (e, worth, balanceReply) (balance-within-price (it .price) (it .lease) (it .last) today)
+      | inr e ↦ rw (e, worth, balanceReply) (omega arith)
+    ]
+
+-- The tests of `earlier`, one after another.
+module _ (t : Totals) (it : Item) where
+  pub earlier-perpetual : it .lease ≡ 0 → earlier t it ≡ false
+  unfolding earlier
+  earlier-perpetual h = rw (eq-eqb (it .lease) 0 h)
+
+  pub earlier-first : (it .lease ≡ 0 → ⊥) → t .key ≡ 0 → earlier t it ≡ true
+  unfolding earlier
+  earlier-first h k = rw (ne-eqb (it .lease) 0 h, eq-eqb (t .key) 0 k)
+
+  pub earlier-test : (it .lease ≡ 0 → ⊥) → (t .key ≡ 0 → ⊥) → earlier t it ≡ ltb (it .last) (t .last)
+  unfolding earlier
+  earlier-test h k = rw (ne-eqb (it .lease) 0 h, ne-eqb (t .key) 0 k)
+
+  pub earlier-leased : earlier t it ≡ true → it .lease ≡ 0 → ⊥
+  earlier-leased e h = true≢false (sym e ∙ earlier-perpetual h)
+
+  pub earlier-before : earlier t it ≡ true → (t .key ≡ 0 → ⊥) → it .last < t .last
+  earlier-before e k = ltb-true (it .last) (t .last) (sym (earlier-test (earlier-leased e) k) ∙ e)
+
+  pub later-after : earlier t it ≡ false → (it .lease ≡ 0 → ⊥) → (t .key ≡ 0 → ⊥) × (t .last ≤ it .last)
+  later-after e l =
+      let k : t .key ≡ 0 → ⊥ = λ h. true≢false (sym (earlier-first l h) ∙ e) in
+      (k, ltb-false (it .last) (t .last) (sym (earlier-test l k) ∙ e))
+
+-- One record more.
+module _ (t : Totals) (it : Item) (today : ℕ) where
+  pub updated-taken :
+      earlier t it ≡ true →
+      updatedOf t it today ≡ record { count = t .count + 1; total = t .total + worth it today; key = it .key; last = it .last }
+  unfolding updatedOf
+  updated-taken e = rw (e, updatedOf)
+
+  pub updated-kept :
+      earlier t it ≡ false →
+      updatedOf t it today ≡ record { count = t .count + 1; total = t .total + worth it today; key = t .key; last = t .last }
+  unfolding updatedOf
+  updated-kept e = rw (e, updatedOf)
+
+  -- what both cases have in common
+  updated-both :
+      {n : ℕ} (f : Totals → ℕ) →
+      f (record { count = t .count + 1; total = t .total + worth it today; key = it .key; last = it .last }) ≡ n →
+      f (record { count = t .count + 1; total = t .total + worth it today; key = t .key; last = t .last }) ≡ n →
+      f (updatedOf t it today) ≡ n
+  updated-both f p q = elim (bool-cases (earlier t it)) [ inl e ↦ ap f (updated-taken e) ∙ p | inr e ↦ ap f (updated-kept e) ∙ q ]
+
+  pub updated-count : updatedOf t it today .count ≡ t .count + 1
+  updated-count = updated-both (λ u. u .count) refl refl
+
+  pub updated-total : updatedOf t it today .total ≡ t .total + worth it today
+  updated-total = updated-both (λ u. u .total) refl refl
+
+  pub updated-total-within : it .price < 2 ^ 32 → updatedOf t it today .total ≤ t .total + (2 ^ 32 - 1)
+  updated-total-within h = omega (arith, updated-total, worth-within it today)
+
+-- The totals of a list, its last record taken off.
+pub totals-last : (t : Totals) (its : List Item) (it : Item) (today : ℕ) → totalsOf t (its ++ (it ∷ [])) today ≡ updatedOf (totalsOf t its today) it today
+unfolding totalsOf
+totals-last t [] it today = refl
+totals-last t (i ∷ its) it today = totals-last (updatedOf t i today) its it today
+
+-- Count and total of a list.
+pub totals-count : (t : Totals) (its : List Item) (today : ℕ) → totalsOf t its today .count ≡ t .count + length its
+unfolding totalsOf
+totals-count t [] today = omega arith
+totals-count t (it ∷ its) today = omega (arith, totals-count (updatedOf t it today) its today, updated-count t it today)
+
+pub totals-total : (t : Totals) (its : List Item) (today : ℕ) → totalsOf t its today .total ≡ t .total + worths its today
+unfolding totalsOf
+totals-total t [] today = omega arith
+totals-total t (it ∷ its) today = omega (arith, totals-total (updatedOf t it today) its today, updated-total t it today)
+
+-- Each record counted has added at most 2^32 − 1.
+abbrev pub Bounded : Totals → Type 0
+Bounded t = t .total ≤ t .count * (2 ^ 32 - 1)
+
+pub bounded-none : Bounded noTotals
+unfolding noTotals
+bounded-none = omega arith
+
+pub bounded-updated : (t : Totals) (it : Item) (today : ℕ) → Bounded t → it .price < 2 ^ 32 → Bounded (updatedOf t it today)
+bounded-updated t it today b h = omega (arith, updated-count t it today, updated-total-within t it today h)
+
+pub bounded-room : (t : Totals) → Bounded t → t .count < 2 ^ 32 → Room t
+bounded-room t b h = record { count = omega arith; total = omega arith }

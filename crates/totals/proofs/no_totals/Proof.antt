@@ -1,0 +1,13 @@
+-- `totals::no_totals` meets its contract: the struct is the definition's.
+-- Assumes nothing.
+use mathlib.Core.Path.{refl}
+use Rattle.totals.specs.Totals.{noTotals}
+use Rattle.totals.proofs.no_totals.Statement.{statement}
+use Rattle.totals.proofs.no_totals.Tie as tie
+
+returns : tie.Need-returns
+unfolding noTotals
+returns c = refl
+
+pub no-totals-spec : {M : Type 1} → statement M
+no-totals-spec = tie.close (tie.spec returns)
