@@ -1,46 +1,43 @@
+-- The part is zeros so far, and as it was after them.
 use borrow.Author.Needs.{needs}
+use mathlib.Core.Path.{_≡_, sym, ap, _∙_}
+use mathlib.Core.List.{_++_, append-nil}
+use Prim.Native.Nat.{_-_, _≤_}
+use native.Mathlib.Omega.{arith}
+use lib.ListN.{length, drop, replicate, length-set, drop-of-length-le}
+use borrow.Author.Fill.{fill-none, fill-more}
 use Rattle.store.proofs.clear.Statement.{statement}
 use Rattle.store.proofs.clear.Tie as tie
-use Rattle.store.proofs.clear.Reads as reads
-use Rattle.store.proofs.clear.Lts as lts
 
 abbrev Inv-loop : tie.InvT-loop
-Inv-loop part₀ n i₀ part i = ?
+Inv-loop part₀ n i₀ part i = (i ≤ n) × (n ≡ length part₀) × (length part ≡ n) × (part ≡ replicate i 0 ++ drop i part₀)
 
 abbrev μ-loop : tie.MeasureT-loop
-μ-loop part₀ n i₀ part i = ?
+μ-loop part₀ n i₀ part i = n - i
 
--- src/lib.rt:434:5
 loop-holds : tie.Need-loop-holds Inv-loop μ-loop
-loop-holds c = search needs
+loop-holds c = (search needs, search needs, search needs, fill-none _ 0)
 
--- src/lib.rt:435:9
 mul-part : tie.Need-mul-part Inv-loop μ-loop
 mul-part c = search needs
 
--- src/lib.rt:435:9
 slice-write-part : tie.Need-slice-write-part Inv-loop μ-loop
 slice-write-part c = search needs
 
--- src/lib.rt:436:9
 add-i : tie.Need-add-i Inv-loop μ-loop
 add-i c = search needs
 
--- src/lib.rt:434:5
 loop-less : tie.Need-loop-less Inv-loop μ-loop
 loop-less c = search needs
 
--- src/lib.rt:434:5
 loop-again : tie.Need-loop-again Inv-loop μ-loop
-loop-again c = search needs
+loop-again c = (search needs, search needs, simp length-set (c .before .loop .inv .2), rw (c .before .loop .inv .3) (fill-more (c .before .loop .i) 0 (c .before .before .args .part .now) (omega arith)))
 
--- src/lib.rt:429:1
 same-length : tie.Need-same-length Inv-loop μ-loop
-same-length c = search needs
+same-length c = c .before .loop .inv .2
 
--- src/lib.rt:429:1
 returns : tie.Need-returns Inv-loop μ-loop
-returns c = search needs
+returns c = let l = c .before .loop in let s = c .before .before .args .part .now in let e : l .i ≡ length s = omega arith in l .inv .3 ∙ rw (e, drop-of-length-le s {i = length s} (omega arith)) (append-nil _)
 
 pub clear-spec : {M : Type 1} → statement M
 clear-spec =

@@ -1,47 +1,40 @@
+-- Store by store.
 use borrow.Author.Needs.{needs}
+use native.Mathlib.Omega.{arith}
+use lib.ListN.{length-set}
+use Rattle.store.specs.SetUp.{marked}
 use Rattle.store.proofs.mark.Statement.{statement}
 use Rattle.store.proofs.mark.Tie as tie
-use Rattle.store.proofs.mark.Reads as reads
-use Rattle.store.proofs.mark.Lts as lts
 
--- src/lib.rt:445:5
 slice-write-part : tie.Need-slice-write-part
 slice-write-part c = search needs
 
--- src/lib.rt:446:5
 slice-write-part-2 : tie.Need-slice-write-part-2
-slice-write-part-2 c = search needs
+slice-write-part-2 c = simp length-set (omega arith)
 
--- src/lib.rt:447:5
 slice-write-part-3 : tie.Need-slice-write-part-3
-slice-write-part-3 c = search needs
+slice-write-part-3 c = simp length-set (omega arith)
 
--- src/lib.rt:448:5
 slice-write-part-4 : tie.Need-slice-write-part-4
-slice-write-part-4 c = search needs
+slice-write-part-4 c = simp length-set (omega arith)
 
--- src/lib.rt:449:5
 slice-write-part-5 : tie.Need-slice-write-part-5
-slice-write-part-5 c = search needs
+slice-write-part-5 c = simp length-set (omega arith)
 
--- src/lib.rt:450:5
 slice-write-part-6 : tie.Need-slice-write-part-6
-slice-write-part-6 c = search needs
+slice-write-part-6 c = simp length-set (omega arith)
 
--- src/lib.rt:451:5
 slice-write-part-7 : tie.Need-slice-write-part-7
-slice-write-part-7 c = search needs
+slice-write-part-7 c = simp length-set (omega arith)
 
--- src/lib.rt:452:5
 slice-write-part-8 : tie.Need-slice-write-part-8
-slice-write-part-8 c = search needs
+slice-write-part-8 c = simp length-set (omega arith)
 
--- src/lib.rt:441:1
 same-length : tie.Need-same-length
-same-length c = search needs
+same-length c = simp length-set
 
--- src/lib.rt:441:1
 returns : tie.Need-returns
+unfolding marked
 returns c = search needs
 
 pub mark-spec : {M : Type 1} → statement M
