@@ -7,7 +7,8 @@ use native.Mathlib.Decide.{decLt, ℕ-discrete}
 use native.Mathlib.Numerals.{add-one}
 use native.Mathlib.Omega.{arith}
 use lib.ListN.{length, getD}
-use borrow.Author.Tests.{not-true, not-false}
+use lib.Dec.{ltb}
+use borrow.Author.Tests.{not-true, not-false, ltb-true, lt-ltb}
 use Rattle.lists.specs.Lists.{every, greatest, tab}
 
 pub and-true : (a b : Bool) → (a && b) ≡ true → (a ≡ true) × (b ≡ true)
@@ -23,6 +24,11 @@ pub same-test : (a b : Bool) → (a ≡ true → b ≡ true) → (b ≡ true →
 same-test true b f g = sym (f refl)
 same-test false true f g = g refl
 same-test false false f g = refl
+
+-- a test that cannot hold
+pub untrue : {b : Bool} → (b ≡ true → ⊥) → false ≡ b
+untrue {b = true} h = absurd (h refl)
+untrue {b = false} h = refl
 
 -- a branch on a call's result r, where r is a definition's test b
 pub passed : {r b : Bool} → r ≡ b → not r ≡ false → b ≡ true
@@ -62,6 +68,20 @@ every-ext n t u h =
     same-test (every n t) (every n u)
     (λ e. every-of n u (λ k q. sym (h k q) ∙ every-at n t e k q))
     (λ e. every-of n t (λ k q. h k q ∙ every-at n u e k q))
+
+-- a function that rises at each step rises over any steps
+pub rising :
+    (n : ℕ) (g : ℕ → ℕ) → every (n - 1) (λ i. ltb (g i) (g (i + 1))) ≡ true → (i j : ℕ) → i < j → j < n → g i < g j
+rising n g e i zero h l = absurd (omega arith)
+rising n g e i (suc j) h l =
+    let s : g j < g (suc j) = rw (add-one j) at (ltb-true (g j) (g (j + 1)) (every-at (n - 1) _ e j (omega arith))) in
+    elim (decLt i j) [
+      | yes q ↦ omega (arith, rising n g e i j q (omega arith))
+      | no q ↦ let d : i ≡ j = omega arith in rw d s
+    ]
+
+pub rising-test : (n : ℕ) (g : ℕ → ℕ) → ((i j : ℕ) → i < j → j < n → g i < g j) → every (n - 1) (λ i. ltb (g i) (g (i + 1))) ≡ true
+rising-test n g h = every-of (n - 1) _ (λ i q. lt-ltb (g i) (g (i + 1)) (h i (i + 1) (omega arith) (omega arith)))
 
 pub greatest-le : (n : ℕ) (f : ℕ → ℕ) (m : ℕ) → ((k : ℕ) → k < n → f k ≤ m) → greatest n f ≤ m
 unfolding greatest

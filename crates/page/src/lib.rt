@@ -3,9 +3,9 @@ use plot::Record;
 use store::Format;
 use store::Item;
 ghost use mathlib.Core.Path.{_≡_};
-ghost use Prim.Native.Nat.{_+_, _-_, _*_, _/_, _^_, _≤_, _<_};
-ghost use lib.ListN.{length, getD};
-ghost use Rattle.store.specs.Format.{width, words};
+ghost use Prim.Native.Nat.{_+_, _/_, _^_, _≤_, _<_};
+ghost use lib.ListN.{getD};
+ghost use Rattle.store.specs.Format.{width};
 ghost use Rattle.page.specs.Page.{itemAt, lawfulItem, ordered, pageRule, agrees, above, firstAbove};
 
 // A reader stands at a record of a page.
@@ -55,18 +55,26 @@ pub fn open<'a>(page: &'a [u32], at: usize) -> Reader<'a>
     Reader { page, at }
 }
 
+// Where the next record stands.
+fn after(at: usize) -> usize
+    requires { ⌜ at < 2 ^ 32 ⌝ }
+    ensures { λ r. ⌜ r ≡ at + 1 ⌝ }
+{
+    at + 1
+}
+
 // One step: the record at the reader, and the reader at the next one.
 pub fn advance<'a>(r: Reader<'a>, f: Format) -> Read<'a>
     requires { ⌜ r .at < 2 ^ 32 ⌝ }
     ensures { λ q. ⌜ (q .item ≡ itemAt f (now (r .entry .page)) (r .entry .at)) × (q .rest .page ≡ r .entry .page) × (q .rest .at ≡ r .entry .at + 1) ⌝ }
 {
-    let at = r.at;
-    let item = item_at(r.page, f, at);
+    let item = item_at(r.page, f, r.at);
+    let at = after(r.at);
     Read {
         item: item,
         rest: Reader {
             page: r.page,
-            at: at + 1,
+            at: at,
         },
     }
 }

@@ -1,0 +1,106 @@
+-- Each early return says no to one part of the rule; the zeros are left. At most 4 words of at most 64 records are far from any bound.
+use borrow.Author.Needs.{needs}
+use mathlib.Core.Path.{_≡_, sym, _∙_}
+use mathlib.Core.Bool.{Bool, true, false, false≢true}
+use mathlib.Core.List.{List}
+use Prim.Native.Nat.{ℕ, _+_, _-_, _*_, _≤_}
+use native.Mathlib.Nat.{mul-le-mul}
+use native.Mathlib.Omega.{arith}
+use Rattle.lists.proofs.Tests.{untrue, passed, failed}
+use Rattle.store.specs.declared.Format.{Format}
+use Rattle.store.specs.Format.{words}
+use Rattle.store.specs.Head.{zeros}
+use Rattle.page.specs.Page.{count, ordered, pageRule}
+use Rattle.page.proofs.Laws.{Kept, rule-facts, rule-rest, facts-ordered}
+use Rattle.page.proofs.page_ok.Statement.{statement}
+use Rattle.page.proofs.page_ok.Tie as tie
+
+module _ (f : Format) (C : ℕ) (pg : List ℕ) where
+  broken : (Kept f C pg → ⊥) → false ≡ pageRule f C pg
+  broken h = untrue (λ e. h (rule-facts f C pg e))
+
+  module _ {n : ℕ} (en : n ≡ count pg) where
+    disordered : ordered f pg n ≡ false → false ≡ pageRule f C pg
+    disordered o = broken (λ h. false≢true (sym o ∙ rw en (facts-ordered f pg (count pg) (h .order))))
+
+    blanks :
+        {c w : ℕ} {r : Bool} →
+        c ≡ C →
+        w ≡ words f →
+        1 ≤ n →
+        n ≤ c →
+        ordered f pg n ≡ true →
+        r ≡ zeros pg (1 + w * n) (w * (c - n)) →
+        r ≡ pageRule f C pg
+    blanks ec ew s h o e = (rw (en, ec, ew) at e) ∙ sym (rule-rest f C pg (omega arith) (omega arith) (rw en at o))
+
+count-of-requires : tie.Need-count-of-requires
+count-of-requires c κs = search needs
+
+wide-requires : tie.Need-wide-requires
+wide-requires c κs = search needs
+
+returns : tie.Need-returns
+returns c = broken _ _ _ (λ h. omega (arith, h .some))
+
+returns-2 : tie.Need-returns-2
+returns-2 c = broken _ _ _ (λ h. omega (arith, h .fits))
+
+in-order-requires : tie.Need-in-order-requires
+in-order-requires c κs = search needs
+
+returns-3 : tie.Need-returns-3
+returns-3 c =
+    disordered _ _ _ (c .before .before .before .before .before .count-of .ensures .0)
+    (failed (c .before .in-order .ensures) (c .if3 .taken))
+
+words-of-requires : tie.Need-words-of-requires
+words-of-requires c κs = search needs
+
+-- the words of the records, and those after them
+low : (c : tie.After-words-of) → c .words-of .result * c .before .before .before .before .before .before .count-of .result ≤ 4 * 64
+low c = mul-le-mul {m₂ = 64} (c .words-of .ensures .2) (omega arith)
+
+high :
+    (c : tie.After-words-of) →
+    c .words-of .result * (c .before .before .before .before .before .wide .result - c .before .before .before .before .before .before .count-of .result) ≤ 4 * 64
+high c = mul-le-mul {m₂ = 64} (c .words-of .ensures .2) (omega arith)
+
+mul-all-zero : tie.Need-mul-all-zero
+mul-all-zero c = record { fits = omega (arith, low c) }
+
+add-all-zero : tie.Need-add-all-zero
+add-all-zero c = record { fits = omega (arith, low c) }
+
+mul-all-zero-2 : tie.Need-mul-all-zero-2
+mul-all-zero-2 c = record { fits = omega (arith, high c) }
+
+all-zero-requires : tie.Need-all-zero-requires
+all-zero-requires c κs = omega (arith, low c, high c)
+
+returns-4 : tie.Need-returns-4
+returns-4 c =
+    blanks _ _ _ (c .before .before .before .before .before .before .before .count-of .ensures .0)
+    (c .before .before .before .before .before .before .wide .ensures .0)
+    (c .before .words-of .ensures .0)
+    (omega arith)
+    (omega arith)
+    (passed (c .before .before .before .in-order .ensures) (c .before .before .if3 .left))
+    (c .all-zero .ensures)
+
+pub page-ok-spec : {M : Type 1} → statement M
+page-ok-spec =
+    tie.close
+    (tie.spec
+    count-of-requires
+    wide-requires
+    returns
+    returns-2
+    in-order-requires
+    returns-3
+    words-of-requires
+    mul-all-zero
+    add-all-zero
+    mul-all-zero-2
+    all-zero-requires
+    returns-4)

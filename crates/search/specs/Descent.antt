@@ -1,0 +1,62 @@
+-- The descent with a key. Document 01, "Descent and splits" and "Reading".
+--   stepOf f s h k level n used  == what a visit of node n gives: whether it keeps the rules, and the key's entry
+--   lost                         == a descent that met damage
+--   descend f s h k level n used steps == the way of the key k from node n of this level down to its page, with the steps on it
+--   descent f s h k              == the same from the root
+-- A step is the node, the key's entry number in it, that entry's local depth, and the bits used before the node; the step of level l stands at
+-- l − 1 of the 32 steps.
+use mathlib.Core.Bool.{Bool, true, false, _&&_}
+use mathlib.Core.List.{List}
+use Prim.Native.Nat.{ℕ, zero, suc, _+_}
+use lib.Dec.{leb}
+use lib.ListN.{set, replicate}
+use Rattle.store.specs.declared.Format.{Format}
+use Rattle.store.specs.declared.Head.{Head}
+use Rattle.store.specs.Format.{width}
+use Rattle.store.specs.Head.{nodeStart}
+use Rattle.store.specs.Node.{depthWord, entryDepth, entryPointer, nodeRule, entryNumber}
+use Rattle.search.specs.declared.Step.{Step}
+use Rattle.search.specs.declared.Visit.{Visit}
+use Rattle.search.specs.declared.Descent.{Descent}
+
+abbrev pub noStep : Step
+noStep = record { node = 0; entry = 0; depth = 0; used = 0 }
+
+unfoldable pub noSteps : List Step
+noSteps = replicate 32 noStep
+
+unfoldable pub damagedNode : Visit
+damagedNode = record { ok = false; entry = 0; depth = 0; pointer = 0 }
+
+-- the entry i of the node block at b
+unfoldable pub entryVisit : List ℕ → ℕ → ℕ → Visit
+entryVisit s b i = record { ok = true; entry = i; depth = entryDepth s b i; pointer = entryPointer s b i }
+
+-- "On a path, the bits used before a node and its H together are at most 32"
+unfoldable pub stepOf : Format → List ℕ → Head → ℕ → ℕ → ℕ → ℕ → Visit
+stepOf f s h k level n used =
+    elim (nodeRule h s (nodeStart h n) level && leb (used + depthWord s (nodeStart h n)) (width f)) [
+      | true ↦ entryVisit s (nodeStart h n) (entryNumber (width f) k used (depthWord s (nodeStart h n)))
+      | false ↦ damagedNode
+    ]
+
+unfoldable pub lost : Descent
+lost = record { ok = false; page = 0; used = 0; steps = noSteps }
+
+unfoldable pub stepTaken : List Step → ℕ → ℕ → ℕ → Visit → List Step
+stepTaken steps l n used v = set steps l (record { node = n; entry = v .entry; depth = v .depth; used = used })
+
+-- "The entry's h bits, not H, are then used up." "Level-1 entries point to pages or null, higher ones to nodes one level down."
+unfoldable pub descend : Format → List ℕ → Head → ℕ → ℕ → ℕ → ℕ → List Step → Descent
+descend f s h k zero n used steps = record { ok = true; page = n; used = used; steps = steps }
+descend f s h k (suc l) n used steps =
+    elim (stepOf f s h k (suc l) n used .ok) [
+      | true ↦
+          descend f s h k l (stepOf f s h k (suc l) n used .pointer) (used + stepOf f s h k (suc l) n used .depth)
+          (stepTaken steps l n used (stepOf f s h k (suc l) n used))
+      | false ↦ lost
+    ]
+
+-- "The root's level is the head's."
+unfoldable pub descent : Format → List ℕ → Head → ℕ → Descent
+descent f s h k = descend f s h k (h .levels) (h .root) 0 noSteps
