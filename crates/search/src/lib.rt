@@ -7,7 +7,7 @@ ghost use Prim.Native.Nat.{_+_, _-_, _*_, _/_, _^_, _≤_, _<_};
 ghost use lib.ListN.{length, getD};
 ghost use Rattle.store.specs.Format.{width};
 ghost use Rattle.store.specs.Head.{nodeStart, pageAt};
-ghost use Rattle.store.specs.Node.{nodeRule};
+ghost use Rattle.store.specs.Node.{depthWord};
 ghost use Rattle.search.specs.Descent.{stepOf, descent};
 ghost use Rattle.search.specs.Find.{reply, soughtReply, soundPage, inPage, findOf, findReply};
 ghost use Rattle.search.specs.Next.{firstPointer, runAfter, visitAfter, linked, onward, hop, follow, afterOwn, nextOf, nextReply};
@@ -55,7 +55,7 @@ pub enum FindAnswer {
 }
 
 // Visits node n at this level, after the used bits.
-pub fn visit(store: &[u32], f: Format, head: Head, key: u64, level: u32, n: u32, used: u32) -> Visit
+pub fn visit_node(store: &[u32], f: Format, head: Head, key: u64, level: u32, n: u32, used: u32) -> Visit
     requires { ⌜ (head .theta ≤ 6) × (used ≤ width f) ⌝ }
     ensures { λ r. ⌜ (r ≡ stepOf f (now (store .entry)) head key level n used) × (used + r .depth ≤ width f) ⌝ }
 {
@@ -102,7 +102,7 @@ pub fn descend(store: &[u32], f: Format, head: Head, key: u64) -> Descent
     let mut used: u32 = 0;
     let mut level = store::wide(head.levels);
     while level > 0 {
-        let v = visit(store, f, head, key, level as u32, node, used);
+        let v = visit_node(store, f, head, key, level as u32, node, used);
         if !v.ok {
             return Descent {
                 ok: false,
@@ -207,7 +207,7 @@ pub fn less(x: u32, y: u32) -> u32
 
 // The first pointer of a node that is not null, from entry i on; 0 if there is none.
 pub fn first_pointer(store: &[u32], at: usize, depth: u32, start: usize) -> u32
-    requires { ⌜ (at < 2 ^ 40) × (depth ≤ 6) × (start < 2 ^ 32) ⌝ }
+    requires { ⌜ (at < 2 ^ 40) × (depth ≤ 6) × (start < 2 ^ 40) ⌝ }
     ensures { λ r. ⌜ r ≡ firstPointer (now (store .entry)) at depth 64 start ⌝ }
 {
     let n = store::pow2(depth);
@@ -276,4 +276,85 @@ pub fn go_on(store: &[u32], head: Head, n: u32, left: u32) -> Hop
         return Hop::Ends(Sought::Damaged);
     }
     Hop::On(m)
+}
+
+// What node n gives from entry i on, with so many links left.
+pub fn hop_from(store: &[u32], f: Format, head: Head, strict: bool, key: u64, n: u32, i: usize, left: u32) -> Hop
+    requires { ⌜ (head .theta ≤ 6) × (head .capacity ≤ 64) × (i < 2 ^ 40) × (depthWord (now store) (nodeStart head n) ≤ head .theta) ⌝ }
+    ensures { λ r. ⌜ r ≡ hop f (now (store .entry)) head strict key n i left ⌝ }
+{
+    let at = store::node_start(head, n);
+    let p = first_pointer(store, at, store::word(store, at), i);
+    if p != 0 {
+        return Hop::Ends(visit_after(store, f, head, strict, key, p));
+    }
+    go_on(store, head, n, left)
+}
+
+// The answer from an entry of a node on, along the forward links.
+pub fn follow_from(store: &[u32], f: Format, head: Head, strict: bool, key: u64, first: u32, start: usize) -> Sought
+    requires { ⌜ (head .theta ≤ 6) × (head .capacity ≤ 64) × (head .taken ≤ 4096) × (start < 2 ^ 40) × (depthWord (now store) (nodeStart head first) ≤ head .theta) ⌝ }
+    ensures { λ r. ⌜ r ≡ follow f (now (store .entry)) head strict key (head .taken + 1) first start ⌝ }
+{
+    let mut n = first;
+    let mut i = start;
+    let mut turns = head.taken + 1;
+    while turns > 0 {
+        turns -= 1;
+        let hop = hop_from(store, f, head, strict, key, n, i, turns);
+        match hop {
+            Hop::Ends(a) => {
+                return a;
+            }
+            Hop::On(m) => {
+                n = m;
+                i = 0;
+            }
+        }
+    }
+    Sought::Damaged
+}
+
+// The answer after the sought key's own run in its terminal node.
+pub fn after_own(store: &[u32], f: Format, head: Head, strict: bool, key: u64, t: Step) -> Sought
+    requires { ⌜ (head .theta ≤ 6) × (head .capacity ≤ 64) × (head .taken ≤ 4096) × (depthWord (now store) (nodeStart head (t .node)) ≤ head .theta) ⌝ }
+    ensures { λ r. ⌜ r ≡ afterOwn f (now (store .entry)) head strict key t ⌝ }
+{
+    let at = store::node_start(head, t.node);
+    let start = run_after(store::word(store, at), t.depth, t.entry);
+    follow_from(store, f, head, strict, key, t.node, start)
+}
+
+// Next, in a store that keeps the head rule: the first record above the key, or, if not strict, at or above it.
+pub fn next_under(store: &[u32], f: Format, head: Head, strict: bool, key: u64) -> Sought
+    requires { ⌜ (head .theta ≤ 6) × (head .capacity ≤ 64) × (head .taken ≤ 4096) × (1 ≤ head .levels) × (head .levels ≤ 32) ⌝ }
+    ensures { λ r. ⌜ r ≡ nextOf f (now (store .entry)) head strict key ⌝ }
+{
+    let d = descend(store, f, head, key);
+    if !d.ok {
+        return Sought::Damaged;
+    }
+    let t = d.steps[0];
+    if d.page == 0 {
+        return after_own(store, f, head, strict, key, t);
+    }
+    let page = store::page_at(store, f, head, d.page);
+    if !page_sound(page, f, head, key, d.used) {
+        return Sought::Damaged;
+    }
+    let i = page::first_above(page, f, strict, key);
+    if i < page::count_of(page) {
+        return Sought::Record(page::read_one(page, f, i));
+    }
+    after_own(store, f, head, strict, key, t)
+}
+
+// The record with the smallest key above the given one, or none.
+pub fn next(store: &[u32], f: Format, key: u64) -> FindAnswer
+    ensures { λ r. ⌜ reply r ≡ nextReply f (now (store .entry)) key ⌝ }
+{
+    if !store::head_ok(store, f) {
+        return FindAnswer::HeadBroken;
+    }
+    answer_of(next_under(store, f, store::head_of(store), true, key))
 }
