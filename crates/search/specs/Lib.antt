@@ -1,3 +1,5 @@
 pub mod Descent
 pub mod Find
 pub mod Next
+pub mod Range
+pub mod Summary

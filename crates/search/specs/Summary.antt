@@ -1,0 +1,88 @@
+-- Summary. Document 01, "Reading".
+--   Summed               == whether no damage was met, and the totals
+--   sumFrom f s h high today fuel strict k t == the totals t with the records from the key k to high
+--   summed f s h low high today == the totals from low to high
+--   SummaryReply, summaryReply == document 01's number and values for each case of a `SummaryAnswer`
+--   summaryOf f s low high today == what summary is to reply
+use mathlib.Core.Bool.{Bool, true, false}
+use mathlib.Core.List.{List}
+use Prim.Native.Nat.{ℕ, zero, suc, _+_, _-_}
+use lib.Dec.{ltb, eqb}
+use Rattle.plot.specs.Plot.{lawfulDay}
+use Rattle.store.specs.declared.Format.{Format}
+use Rattle.store.specs.declared.Head.{Head}
+use Rattle.store.specs.Head.{headOf, headRule}
+use Rattle.totals.specs.declared.Totals.{Totals}
+use Rattle.totals.specs.Totals.{noTotals, updatedOf}
+use Rattle.search.specs.declared.Sought.{Sought}
+use Rattle.search.specs.declared.Sought.the-variants.{Record, Nothing, Damaged}
+use Rattle.search.specs.declared.Summing.{Summing}
+use Rattle.search.specs.declared.SummaryAnswer.{SummaryAnswer}
+use Rattle.search.specs.declared.SummaryAnswer.the-variants.{Summed, SummaryHeadBroken, SummaryLowAboveHigh, TodayOutside, SummaryDamaged}
+use Rattle.search.specs.Next.{nextOf}
+
+abbrev pub done : Totals → Summing
+done t = record { ok = true; totals = t }
+
+unfoldable pub damage : Summing
+damage = record { ok = false; totals = noTotals }
+
+unfoldable pub sumFrom : Format → List ℕ → Head → ℕ → ℕ → ℕ → Bool → ℕ → Totals → Summing
+sumFrom f s h high today zero strict k t = done t
+sumFrom f s h high today (suc fuel) strict k t =
+    elim (nextOf f s h strict k) [
+      | Damaged ↦ damage
+      | Nothing ↦ done t
+      | Record it ↦
+          elim (ltb high (it .key)) [
+            | true ↦ done t
+            | false ↦
+                elim (eqb (it .key) high) [
+                  | true ↦ done (updatedOf t it today)
+                  | false ↦ sumFrom f s h high today fuel true (it .key) (updatedOf t it today)
+                ]
+          ]
+    ]
+
+-- "Summary over low, high and today is one running sheet, brought up to date record by record"
+unfoldable pub summed : Format → List ℕ → Head → ℕ → ℕ → ℕ → Summing
+summed f s h low high today = sumFrom f s h high today (high + 1 - low + 1) false low noTotals
+
+pub record SummaryReply : Type 0 where
+  pub number : ℕ
+  pub count : ℕ
+  pub total : ℕ
+  pub key : ℕ
+
+abbrev pub refused : ℕ → SummaryReply
+refused n = record { number = n; count = 0; total = 0; key = 0 }
+
+abbrev pub summaryReply : SummaryAnswer → SummaryReply
+summaryReply (Summed n t k) = record { number = 0; count = n; total = t; key = k }
+summaryReply SummaryHeadBroken = refused 3
+summaryReply SummaryLowAboveHigh = refused 7
+summaryReply TodayOutside = refused 6
+summaryReply SummaryDamaged = refused 9
+
+abbrev pub summingReply : Summing → SummaryReply
+summingReply r =
+    elim (r .ok) [
+      | true ↦ record { number = 0; count = r .totals .count; total = r .totals .total; key = r .totals .key }
+      | false ↦ refused 9
+    ]
+
+-- "the others 3, 7, 6, then 9, 8, 10"
+unfoldable pub summaryOf : Format → List ℕ → ℕ → ℕ → ℕ → SummaryReply
+summaryOf f s low high today =
+    elim (headRule f s) [
+      | false ↦ refused 3
+      | true ↦
+          elim (ltb high low) [
+            | true ↦ refused 7
+            | false ↦
+                elim (lawfulDay today) [
+                  | false ↦ refused 6
+                  | true ↦ summingReply (summed f s (headOf s) low high today)
+                ]
+          ]
+    ]
