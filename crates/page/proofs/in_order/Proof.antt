@@ -92,7 +92,7 @@ returns c =
 returns-2 : tie.Need-returns-2 Inv-loop μ-loop
 returns-2 c =
     behind _ _ _ (c .before .before .before .before .read-one .ensures) _ (c .before .before .before .before .before .loop-test .taken) _
-    (c .before .before .before .before .before .before .loop .inv .2) (c .if2 .taken)
+    (c .before .before .before .before .before .before .loop .inv .2) (omega arith)
 
 add-i : tie.Need-add-i Inv-loop μ-loop
 add-i c = search needs
@@ -106,7 +106,7 @@ loop-again c = (
   past _ _ _ (c .before .before .before .before .read-one .ensures) _ (c .before .before .before .before .before .before .loop .inv .1)
       (c .before .before .before .before .before .before .loop .inv .2)
       (passed (c .before .before .before .lawful-item .ensures) (c .before .before .if1 .left))
-      (c .if2 .left),
+      (omega arith),
   next _ _ _ (c .before .before .before .before .read-one .ensures),
 )
 

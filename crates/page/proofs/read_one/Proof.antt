@@ -1,5 +1,5 @@
 -- A walk of the MIR, by hand: the reader that `open` returns is held in a local and passed to `advance`, and of what that returns the record is
--- taken. In a local of a body MIR erases the lifetime of a struct's type; what the struct owns does not say the lifetime's name.
+-- taken.
 use mathlib.Core.Path.{_≡_, refl, sym, ap, subst, _∙_}
 use Prim.Native.Nat.{ℕ, _+_, _<_, _^_}
 use mathlib.Core.List.{List, [], _∷_}
@@ -95,7 +95,7 @@ module _ {M : Type 1} (𝓤 : URA M) (H : Heap 𝓤) (A : Atoms 𝓤) (W : Given
   abbrev at : List Val × (List Val × (List Val × Unit {0}))
   at = (v ∷ [], (fv ∷ [], (vint w64 n ∷ [], tt)))
 
-  -- the lifetime in the structs' types as a local of a body has them
+  -- in a local of a body MIR erases the lifetime of a struct's type; what the struct owns does not say the lifetime's name
   abbrev αᵉ : NamedLft
   αᵉ = record { mir = erased; lft = κ }
 
