@@ -9,6 +9,7 @@ ghost use lib.ListN.{length, drop};
 ghost use Rattle.store.specs.Format.{width, words};
 ghost use Rattle.store.specs.Head.{nodeStart, pageAt};
 ghost use Rattle.store.specs.Node.{depthWord};
+ghost use mathlib.Core.Bool.{false};
 ghost use mathlib.Core.List.{_++_};
 ghost use Rattle.search.specs.Range.{itemWords, flat, ranged, listing, firsts, rangeReply, rangeOf};
 ghost use Rattle.search.specs.Summary.{summed, summaryReply, summaryOf};
@@ -379,7 +380,7 @@ pub struct Listing {
 
 // The outcome of a range with room for so many records; nothing is written.
 pub fn list(store: &[u32], f: Format, head: Head, low: u64, high: u64, room: u64) -> Listing
-    requires { ⌜ (head .theta ≤ 6) × (head .capacity ≤ 64) × (head .taken ≤ 4096) × (1 ≤ head .levels) × (head .levels ≤ 32) ⌝ }
+    requires { ⌜ (head .theta ≤ 6) × (head .capacity ≤ 64) × (head .taken ≤ 4096) × (1 ≤ head .levels) × (head .levels ≤ 32) × (low ≤ high) ⌝ }
     ensures { λ r. ⌜ (r ≡ listing (ranged f (now (store .entry)) head low high room)) × (r .count ≤ room) ⌝ }
 {
     let mut strict = false;
@@ -524,7 +525,7 @@ pub enum SummaryAnswer {
 
 // The totals of the records from low to high.
 pub fn sum(store: &[u32], f: Format, head: Head, low: u64, high: u64, today: u32) -> Summing
-    requires { ⌜ (head .theta ≤ 6) × (head .capacity ≤ 64) × (head .taken ≤ 4096) × (1 ≤ head .levels) × (head .levels ≤ 32) × (high < 2 ^ 32) ⌝ }
+    requires { ⌜ (head .theta ≤ 6) × (head .capacity ≤ 64) × (head .taken ≤ 4096) × (1 ≤ head .levels) × (head .levels ≤ 32) × (low ≤ high) × (high < 2 ^ 32) ⌝ }
     ensures { λ r. ⌜ r ≡ summed f (now (store .entry)) head low high today ⌝ }
 {
     let mut strict = false;

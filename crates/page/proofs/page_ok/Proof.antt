@@ -1,9 +1,9 @@
--- Each early return says no to one part of the rule; the zeros are left. At most 4 words of at most 64 records are far from any bound.
+-- Each early return says no to one part of the rule, and the zeros are left.
 use borrow.Author.Needs.{needs}
 use mathlib.Core.Path.{_≡_, sym, _∙_}
 use mathlib.Core.Bool.{Bool, true, false, false≢true}
 use mathlib.Core.List.{List}
-use Prim.Native.Nat.{ℕ, _+_, _-_, _*_, _≤_}
+use Prim.Native.Nat.{ℕ, _+_, _-_, _*_, _^_, _≤_, _<_}
 use native.Mathlib.Nat.{mul-le-mul}
 use native.Mathlib.Omega.{arith}
 use Rattle.lists.proofs.Tests.{untrue, passed, failed}
@@ -34,6 +34,17 @@ module _ (f : Format) (C : ℕ) (pg : List ℕ) where
         r ≡ pageRule f C pg
     blanks ec ew s h o e = (rw (en, ec, ew) at e) ∙ sym (rule-rest f C pg (omega arith) (omega arith) (rw en at o))
 
+-- the words of the records and those after them, far from any bound
+module _ (w x : ℕ) (few : w ≤ 4) (fit : x ≤ 64) where
+  product : w * x < 2 ^ 64
+  product = omega (arith, mul-le-mul {m₂ = 64} few fit)
+
+  start : 1 + w * x < 2 ^ 64
+  start = omega (arith, mul-le-mul {m₂ = 64} few fit)
+
+  end : (y : ℕ) → y ≤ 64 → 1 + w * x + w * y < 2 ^ 63
+  end y q = omega (arith, mul-le-mul {m₂ = 64} few fit, mul-le-mul {m₂ = 64} few q)
+
 count-of-requires : tie.Need-count-of-requires
 count-of-requires c κs = search needs
 
@@ -57,26 +68,17 @@ returns-3 c =
 words-of-requires : tie.Need-words-of-requires
 words-of-requires c κs = search needs
 
--- the words of the records, and those after them
-low : (c : tie.After-words-of) → c .words-of .result * c .before .before .before .before .before .before .count-of .result ≤ 4 * 64
-low c = mul-le-mul {m₂ = 64} (c .words-of .ensures .2) (omega arith)
-
-high :
-    (c : tie.After-words-of) →
-    c .words-of .result * (c .before .before .before .before .before .wide .result - c .before .before .before .before .before .before .count-of .result) ≤ 4 * 64
-high c = mul-le-mul {m₂ = 64} (c .words-of .ensures .2) (omega arith)
-
 mul-all-zero : tie.Need-mul-all-zero
-mul-all-zero c = record { fits = omega (arith, low c) }
+mul-all-zero c = record { fits = product _ _ (c .words-of .ensures .2) (omega arith) }
 
 add-all-zero : tie.Need-add-all-zero
-add-all-zero c = record { fits = omega (arith, low c) }
+add-all-zero c = record { fits = start _ _ (c .words-of .ensures .2) (omega arith) }
 
 mul-all-zero-2 : tie.Need-mul-all-zero-2
-mul-all-zero-2 c = record { fits = omega (arith, high c) }
+mul-all-zero-2 c = record { fits = product _ _ (c .words-of .ensures .2) (omega arith) }
 
 all-zero-requires : tie.Need-all-zero-requires
-all-zero-requires c κs = omega (arith, low c, high c)
+all-zero-requires c κs = end _ _ (c .words-of .ensures .2) (omega arith) _ (omega arith)
 
 returns-4 : tie.Need-returns-4
 returns-4 c =

@@ -1,0 +1,4 @@
+use Rattle.search.proofs.range.Statement.{statement}
+
+pub range-spec : {M : Type 1} → statement M
+range-spec = ?later
