@@ -1,2 +1,4 @@
-pub mod RangeLaws
+pub mod DescentLaws
+pub mod FindLaws
 pub mod NextLaws
+pub mod RangeLaws

@@ -3,6 +3,7 @@ use mathlib.Core.Path.{_≡_, refl, sym, ap, _∙_}
 use mathlib.Core.Bool.{Bool, true, false, _&&_}
 use mathlib.Core.List.{List, []}
 use Prim.Native.Nat.{ℕ, _+_, _-_, _*_, _/_, _^_, _≤_, _<_}
+use native.Mathlib.Nat.{div-le-of-le-mul}
 use native.Mathlib.Omega.{arith}
 use lib.Dec.{leb}
 use lib.ListN.{length, take, drop}
@@ -11,6 +12,7 @@ use Rattle.lists.proofs.Parts.{part-in, part-out}
 use Rattle.lists.proofs.Tests.{and-true}
 use Rattle.tree.specs.Book.{log2, levelBound}
 use Rattle.store.specs.declared.Format.{Format}
+use Rattle.store.specs.declared.Format.the-variants.{Plots}
 use Rattle.store.specs.declared.Head.{Head}
 use Rattle.store.specs.Format.{width, words}
 use Rattle.store.specs.Head.{word, zeros, headOf, nodeWords, pageWords, size, nodeStart, pageStart, pageAt, lawfulSizes, lawfulCounts, headRule}
@@ -85,6 +87,15 @@ sizes-limits θ C N P e =
       pages-low = leb-true _ _ (b .1);
       pages = leb-true _ _ (a .1);
     }
+
+pub width-within : (f : Format) → width f ≤ 64
+unfolding width
+width-within Plots = omega arith
+
+-- a lawful head has at most 32 levels
+pub levels-within : (f : Format) (θ C : ℕ) → 1 ≤ θ → levelBound (width f) θ C ≤ 32
+unfolding levelBound width
+levels-within Plots θ C low = div-le-of-le-mul θ (omega arith)
 
 pub record Counts (f : Format) (h : Head) : Type 0 where
   pub taken-low : 1 ≤ h .taken

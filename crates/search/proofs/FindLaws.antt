@@ -1,0 +1,62 @@
+-- Find, test by test.
+use mathlib.Core.Path.{_≡_, ap, _∙_}
+use mathlib.Core.Bool.{Bool, true, false, _&&_}
+use mathlib.Core.List.{List}
+use Prim.Native.Nat.{ℕ}
+use lib.Dec.{ltb, eqb}
+use borrow.Author.Tests.{eq-eqb, ne-eqb}
+use Rattle.store.specs.declared.Format.{Format}
+use Rattle.store.specs.declared.Head.{Head}
+use Rattle.store.specs.declared.Item.{Item}
+use Rattle.store.specs.Head.{headRule, pageAt}
+use Rattle.page.specs.Page.{count, itemAt, pageRule, agrees, firstAbove}
+use Rattle.search.specs.declared.Descent.{Descent}
+use Rattle.search.specs.declared.Sought.{Sought}
+use Rattle.search.specs.declared.Sought.the-variants.{Record, Nothing, Damaged}
+use Rattle.search.specs.Descent.{descent}
+use Rattle.search.specs.Find.{soundPage, inPage, findOf, Reply, noItem, soughtReply, checked}
+
+pub sound-is : (f : Format) (h : Head) (pg : List ℕ) (k used : ℕ) (a b : Bool) → a ≡ pageRule f (h .capacity) pg → b ≡ agrees f pg k used
+    → (a && b) ≡ soundPage f h pg k used
+unfolding soundPage
+sound-is f h pg k used a b p q = rw (p, q)
+
+-- the record, where a test holds
+abbrev pub kept : Bool → Item → Sought
+kept t it = elim t [ true ↦ Record it | false ↦ Nothing ]
+
+pub in-page-is : (f : Format) (pg : List ℕ) (k i : ℕ) (it : Item) (a b : Bool) → i ≡ firstAbove f pg false k → it ≡ itemAt f pg i
+    → a ≡ ltb i (count pg) → b ≡ eqb (it .key) k → kept (a && b) it ≡ inPage f pg k
+unfolding inPage
+in-page-is f pg k i it a b e p q r =
+    let same : it ≡ itemAt f pg (firstAbove f pg false k) = rw e at p in
+    ap (kept (a && b)) same ∙ rw (q, r, same, e)
+
+-- the ways out of find
+module _ (f : Format) (s : List ℕ) (h : Head) (k : ℕ) (d : Descent) (e : d ≡ descent f s h k) where
+  pub find-lost : d .ok ≡ false → Damaged ≡ findOf f s h k
+  unfolding findOf
+  find-lost p = rw (rw e at p, findOf)
+
+  module _ (ok : d .ok ≡ true) where
+    pub find-null : d .page ≡ 0 → Nothing ≡ findOf f s h k
+    unfolding findOf
+    find-null p = rw (rw e at ok, eq-eqb _ _ (rw e at p), findOf)
+
+    module _ (some : d .page ≡ 0 → ⊥) where
+      pub find-unsound : soundPage f h (pageAt f s h (d .page)) k (d .used) ≡ false → Damaged ≡ findOf f s h k
+      unfolding findOf
+      find-unsound p = rw (rw e at ok, ne-eqb _ _ (rw e at some), rw e at p, findOf)
+
+      pub find-sound : soundPage f h (pageAt f s h (d .page)) k (d .used) ≡ true → inPage f (pageAt f s h (d .page)) k ≡ findOf f s h k
+      unfolding findOf
+      find-sound p = rw (e, rw e at ok, ne-eqb _ _ (rw e at some), rw e at p, findOf)
+
+-- a reply by the head rule
+pub broken : (f : Format) (s : List ℕ) (a : Sought) → headRule f s ≡ false → _≡_ {A = Reply} (record { number = 3; item = noItem }) (checked f s a)
+unfolding checked
+broken f s a e = rw (e, checked)
+
+pub answered : (f : Format) (s : List ℕ) (a : Sought) → headRule f s ≡ true → soughtReply a ≡ checked f s a
+unfolding checked
+answered f s a e = rw (e, checked)

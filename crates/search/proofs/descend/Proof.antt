@@ -1,0 +1,79 @@
+-- What is left of the way, from the node and the level that the loop has reached, is the whole way.
+use borrow.Author.Needs.{needs}
+use mathlib.Core.Path.{_≡_}
+use Prim.Native.Nat.{_≤_}
+use native.Mathlib.Omega.{arith}
+use borrow.Author.Tests.{not-true, not-false}
+use Rattle.store.specs.Format.{width}
+use Rattle.store.proofs.HeadLaws.{width-within}
+use Rattle.search.specs.Descent.{noSteps, lost, stepTaken, descend, descent}
+use Rattle.search.proofs.DescentLaws.{turn-lost, turn-on, turn-out}
+use Rattle.search.proofs.descend.Statement.{statement}
+use Rattle.search.proofs.descend.Tie as tie
+
+abbrev Inv-loop : tie.InvT-loop
+Inv-loop store f head key blank steps₀ node₀ used₀ level₀ steps node used level =
+    (level ≤ 32) × (used ≤ width f) × (descend f store head key level node used steps ≡ descent f store head key)
+
+abbrev μ-loop : tie.MeasureT-loop
+μ-loop store f head key blank steps₀ node₀ used₀ level₀ steps node used level = level
+
+wide-requires : tie.Need-wide-requires Inv-loop μ-loop
+wide-requires c κs = search needs
+
+loop-holds : tie.Need-loop-holds Inv-loop μ-loop
+unfolding descent noSteps
+loop-holds c = (omega arith, omega arith, rw (c .wide .ensures .0))
+
+cast-visit-node : tie.Need-cast-visit-node Inv-loop μ-loop
+cast-visit-node c = search needs
+
+visit-node-requires : tie.Need-visit-node-requires Inv-loop μ-loop
+visit-node-requires c κs = search needs
+
+returns : tie.Need-returns Inv-loop μ-loop
+unfolding lost noSteps
+returns c = (turn-lost _ _ _ _ _ _ _ _ _ (c .before .before .visit-node .ensures .0) (omega arith) _ (c .before .before .before .before .loop .inv .2) (not-true _ (c .if1 .taken)), omega arith)
+
+sub-level : tie.Need-sub-level Inv-loop μ-loop
+sub-level c = search needs
+
+mul-steps : tie.Need-mul-steps Inv-loop μ-loop
+mul-steps c = search needs
+
+array-set-from-steps : tie.Need-array-set-from-steps Inv-loop μ-loop
+array-set-from-steps c = search needs
+
+add-used : tie.Need-add-used Inv-loop μ-loop
+add-used c =
+    let a = c .before .before .before .before .before .before .before .before .args in
+    omega (arith, width-within (a .f), c .before .before .before .visit-node .ensures .1)
+
+loop-less : tie.Need-loop-less Inv-loop μ-loop
+loop-less c = search needs
+
+loop-again : tie.Need-loop-again Inv-loop μ-loop
+unfolding stepTaken
+loop-again c = (omega arith, omega arith, turn-on _ _ _ _ _ _ _ _ _ (c .before .before .before .visit-node .ensures .0) (omega arith) _ (c .before .before .before .before .before .loop .inv .2) (not-false _ (c .before .if1 .left)))
+
+returns-2 : tie.Need-returns-2 Inv-loop μ-loop
+returns-2 c = (turn-out _ _ _ _ _ _ _ _ (omega arith) _ (c .before .loop .inv .2), omega arith)
+
+pub descend-spec : {M : Type 1} → statement M
+descend-spec =
+    tie.close
+    (tie.spec
+    Inv-loop
+    μ-loop
+    wide-requires
+    loop-holds
+    cast-visit-node
+    visit-node-requires
+    returns
+    sub-level
+    mul-steps
+    array-set-from-steps
+    add-used
+    loop-less
+    loop-again
+    returns-2)
