@@ -1,4 +1,5 @@
 pub mod DescentLaws
 pub mod FindLaws
 pub mod NextLaws
+pub mod FromLaws
 pub mod RangeLaws

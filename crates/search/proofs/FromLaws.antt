@@ -1,0 +1,56 @@
+-- Next from the descent on: one law for each way out.
+use mathlib.Core.Path.{_≡_, refl, sym, ap, _∙_}
+use mathlib.Core.Bool.{Bool, true, false}
+use mathlib.Core.List.{List}
+use Prim.Native.Nat.{ℕ, _≤_, _<_}
+use lib.Dec.{ltb, eqb}
+use lib.ListN.{getD}
+use borrow.Author.Tests.{lt-ltb, le-ltb, eq-eqb, ne-eqb}
+use Rattle.store.specs.declared.Format.{Format}
+use Rattle.store.specs.declared.Head.{Head}
+use Rattle.store.specs.declared.Item.{Item}
+use Rattle.store.specs.Head.{nodeStart, pageAt}
+use Rattle.store.specs.Node.{depthWord}
+use Rattle.store.proofs.NodeLaws.{node-facts}
+use Rattle.page.specs.Page.{count, itemAt, firstAbove}
+use Rattle.search.specs.declared.Descent.{Descent}
+use Rattle.search.specs.declared.Sought.{Sought}
+use Rattle.search.specs.declared.Sought.the-variants.{Record, Nothing, Damaged}
+use Rattle.search.specs.Descent.{noStep, descent}
+use Rattle.search.specs.Find.{soundPage}
+use Rattle.search.specs.Next.{afterOwn, fromDescent, nextOf}
+use Rattle.search.proofs.DescentLaws.{terminal-depth}
+
+module _ (f : Format) (s : List ℕ) (h : Head) (strict : Bool) (k : ℕ) (d : Descent) (is : d ≡ descent f s h k) where
+  whole : fromDescent f s h strict k d ≡ nextOf f s h strict k
+  unfolding nextOf
+  whole = ap (fromDescent f s h strict k) is
+
+  pub from-lost : d .ok ≡ false → Damaged ≡ nextOf f s h strict k
+  unfolding fromDescent
+  from-lost o = sym (sym whole ∙ rw (o, fromDescent))
+
+  pub from-null : d .ok ≡ true → d .page ≡ 0 → afterOwn f s h strict k (getD (d .steps) 0 noStep) ≡ nextOf f s h strict k
+  unfolding fromDescent
+  from-null o z = sym (sym whole ∙ rw (o, eq-eqb (d .page) 0 z, fromDescent))
+
+  module _ (o : d .ok ≡ true) (z : d .page ≡ 0 → ⊥) where
+    pub from-unsound : soundPage f h (pageAt f s h (d .page)) k (d .used) ≡ false → Damaged ≡ nextOf f s h strict k
+    unfolding fromDescent
+    from-unsound p = sym (sym whole ∙ rw (o, ne-eqb (d .page) 0 z, p, fromDescent))
+
+    module _ (p : soundPage f h (pageAt f s h (d .page)) k (d .used) ≡ true) where
+      pub from-found : firstAbove f (pageAt f s h (d .page)) strict k < count (pageAt f s h (d .page))
+          → Record (itemAt f (pageAt f s h (d .page)) (firstAbove f (pageAt f s h (d .page)) strict k)) ≡ nextOf f s h strict k
+      unfolding fromDescent
+      from-found l = sym (sym whole ∙ rw (o, ne-eqb (d .page) 0 z, p, lt-ltb _ _ l, fromDescent))
+
+      pub from-after : count (pageAt f s h (d .page)) ≤ firstAbove f (pageAt f s h (d .page)) strict k
+          → afterOwn f s h strict k (getD (d .steps) 0 noStep) ≡ nextOf f s h strict k
+      unfolding fromDescent
+      from-after l = sym (sym whole ∙ rw (o, ne-eqb (d .page) 0 z, p, le-ltb _ _ l, fromDescent))
+
+-- the terminal node is no deeper than θ
+pub terminal : (f : Format) (s : List ℕ) (h : Head) (k : ℕ) (d : Descent) → d ≡ descent f s h k → d .ok ≡ true → 1 ≤ h .levels → h .levels ≤ 32
+    → depthWord s (nodeStart h (getD (d .steps) 0 noStep .node)) ≤ h .theta
+terminal f s h k d is o low high = rw is (node-facts h s _ 1 (terminal-depth f s h k low high (rw is at o)) .depth)

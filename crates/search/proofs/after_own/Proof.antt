@@ -1,0 +1,25 @@
+-- From the run after the own one on.
+use borrow.Author.Needs.{needs}
+use Rattle.search.proofs.NextLaws.{depth-small, own-is}
+use Rattle.search.proofs.after_own.Statement.{statement}
+use Rattle.search.proofs.after_own.Tie as tie
+
+node-start-requires : tie.Need-node-start-requires
+node-start-requires c κs = search needs
+
+word-requires : tie.Need-word-requires
+word-requires c κs = search needs
+
+run-after-requires : tie.Need-run-after-requires
+run-after-requires c κs = depth-small (c .before .before .before .args .store .now) _ _ (c .before .node-start .ensures .0) (c .word .ensures) (c .before .before .before .pre .3) (c .before .before .before .pre .0)
+
+follow-from-requires : tie.Need-follow-from-requires
+follow-from-requires c κs = search needs
+
+returns : tie.Need-returns
+returns c = own-is _ (c .before .before .before .before .before .args .store .now) _ _ _ _ (c .before .before .before .node-start .ensures .0) (c .before .before .word .ensures) (c .before .run-after .ensures .0) (c .follow-from .ensures)
+
+pub after-own-spec : {M : Type 1} → statement M
+after-own-spec =
+    tie.close
+    (tie.spec node-start-requires word-requires run-after-requires follow-from-requires returns)

@@ -1,0 +1,66 @@
+-- The answer from where the loop stands is the answer from the start.
+use borrow.Author.Needs.{needs}
+use mathlib.Core.Path.{_≡_, refl, sym, _∙_}
+use Prim.Native.Nat.{_+_, _-_, _^_, _≤_, _<_}
+use native.Mathlib.Omega.{arith}
+use Rattle.store.specs.Head.{nodeStart}
+use Rattle.store.specs.Node.{depthWord}
+use Rattle.search.specs.Next.{follow}
+use Rattle.search.proofs.NextLaws.{follow-spent, turn-ends, turn-on, turn-deep}
+use Rattle.search.proofs.follow_from.Statement.{statement}
+use Rattle.search.proofs.follow_from.Tie as tie
+
+abbrev Inv-loop : tie.InvT-loop
+Inv-loop store f head strict key first start n₀ i₀ turns₀ n i turns =
+    (turns ≤ 4097) × (i < 2 ^ 40) × (depthWord store (nodeStart head n) ≤ head .theta)
+    × (follow f store head strict key turns n i ≡ follow f store head strict key (head .taken + 1) first start)
+
+abbrev μ-loop : tie.MeasureT-loop
+μ-loop store f head strict key first start n₀ i₀ turns₀ n i turns = turns
+
+add-turns : tie.Need-add-turns Inv-loop μ-loop
+add-turns c = search needs
+
+loop-holds : tie.Need-loop-holds Inv-loop μ-loop
+loop-holds c = (omega arith, c .before .before .pre .3, c .before .before .pre .4, refl)
+
+sub-turns : tie.Need-sub-turns Inv-loop μ-loop
+sub-turns c = search needs
+
+hop-from-requires : tie.Need-hop-from-requires Inv-loop μ-loop
+hop-from-requires c κs = search needs
+
+enum-known-hop : tie.Need-enum-known-hop Inv-loop μ-loop
+enum-known-hop c = search needs
+
+returns : tie.Need-returns Inv-loop μ-loop
+returns c = turn-ends _ _ _ _ _ _ _ _ (c .before .before .before .before .loop-test .taken) (c .before .before .before .hop-from .ensures) (c .before .hop .given .1) ∙ c .before .before .before .before .before .loop .inv .3
+
+enum-known-hop-2 : tie.Need-enum-known-hop-2 Inv-loop μ-loop
+enum-known-hop-2 c = search needs
+
+loop-less : tie.Need-loop-less Inv-loop μ-loop
+loop-less c = search needs
+
+loop-again : tie.Need-loop-again Inv-loop μ-loop
+loop-again c = (omega arith, omega arith, turn-deep _ _ _ _ _ _ _ _ (c .before .before .before .before .loop-test .taken) (c .before .before .before .hop-from .ensures) (c .before .hop2 .given .1), turn-on _ _ _ _ _ _ _ _ (c .before .before .before .before .loop-test .taken) (c .before .before .before .hop-from .ensures) (c .before .hop2 .given .1) ∙ c .before .before .before .before .before .loop .inv .3)
+
+returns-2 : tie.Need-returns-2 Inv-loop μ-loop
+returns-2 c = let e : 0 ≡ c .before .loop .turns = omega arith in sym (follow-spent _ _ _ _ _ _ _) ∙ rw (sym e) at (c .before .loop .inv .3)
+
+pub follow-from-spec : {M : Type 1} → statement M
+follow-from-spec =
+    tie.close
+    (tie.spec
+    Inv-loop
+    μ-loop
+    add-turns
+    loop-holds
+    sub-turns
+    hop-from-requires
+    enum-known-hop
+    returns
+    enum-known-hop-2
+    loop-less
+    loop-again
+    returns-2)

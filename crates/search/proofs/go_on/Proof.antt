@@ -1,0 +1,43 @@
+-- Test by test.
+use borrow.Author.Needs.{needs}
+use Rattle.lists.proofs.Tests.{passed, failed}
+use Rattle.search.proofs.NextLaws.{onward-none, onward-spent, onward-broken, onward-goes}
+use Rattle.search.proofs.go_on.Statement.{statement}
+use Rattle.search.proofs.go_on.Tie as tie
+
+node-start-requires : tie.Need-node-start-requires
+node-start-requires c κs = search needs
+
+add-word : tie.Need-add-word
+add-word c = search needs
+
+word-requires : tie.Need-word-requires
+word-requires c κs = search needs
+
+returns : tie.Need-returns
+returns c = onward-none _ _ _ _ (c .before .before .node-start .ensures .0) (c .before .word .ensures) (c .if1 .taken)
+
+returns-2 : tie.Need-returns-2
+returns-2 c = onward-spent _ _ _ _ (c .before .before .before .node-start .ensures .0) (c .before .before .word .ensures) (c .before .if1 .left) (c .if2 .taken)
+
+is-linked-requires : tie.Need-is-linked-requires
+is-linked-requires c κs = search needs
+
+returns-3 : tie.Need-returns-3
+returns-3 c = onward-broken _ _ _ _ (c .before .before .before .before .before .node-start .ensures .0) (c .before .before .before .before .word .ensures) (c .before .before .before .if1 .left) (c .before .before .if2 .left) (failed (c .before .is-linked .ensures) (c .if3 .taken))
+
+returns-4 : tie.Need-returns-4
+returns-4 c = onward-goes _ _ _ _ (c .before .before .before .before .before .node-start .ensures .0) (c .before .before .before .before .word .ensures) (c .before .before .before .if1 .left) (c .before .before .if2 .left) (passed (c .before .is-linked .ensures) (c .if3 .left))
+
+pub go-on-spec : {M : Type 1} → statement M
+go-on-spec =
+    tie.close
+    (tie.spec
+    node-start-requires
+    add-word
+    word-requires
+    returns
+    returns-2
+    is-linked-requires
+    returns-3
+    returns-4)

@@ -1,0 +1,39 @@
+-- The first key of a page that keeps the rule speaks for all.
+use borrow.Author.Needs.{needs}
+use Rattle.lists.proofs.Tests.{passed, failed}
+use Rattle.search.proofs.NextLaws.{visit-broken, visit-below, visit-gives}
+use Rattle.search.proofs.visit_after.Statement.{statement}
+use Rattle.search.proofs.visit_after.Tie as tie
+
+page-at-requires : tie.Need-page-at-requires
+page-at-requires c κs = search needs
+
+page-ok-requires : tie.Need-page-ok-requires
+page-ok-requires c κs = search needs
+
+returns : tie.Need-returns
+returns c = visit-broken _ _ _ _ _ _ (c .before .before .page-at .ensures) (failed (c .before .page-ok .ensures) (c .if1 .taken))
+
+read-one-requires : tie.Need-read-one-requires
+read-one-requires c κs = search needs
+
+is-above-requires : tie.Need-is-above-requires
+is-above-requires c κs = search needs
+
+returns-2 : tie.Need-returns-2
+returns-2 c = visit-below _ _ _ _ _ _ (c .before .before .before .before .before .page-at .ensures) (passed (c .before .before .before .before .page-ok .ensures) (c .before .before .before .if1 .left)) (c .before .before .read-one .ensures) (failed (c .before .is-above .ensures) (c .if2 .taken))
+
+returns-3 : tie.Need-returns-3
+returns-3 c = visit-gives _ _ _ _ _ _ (c .before .before .before .before .before .page-at .ensures) (passed (c .before .before .before .before .page-ok .ensures) (c .before .before .before .if1 .left)) (c .before .before .read-one .ensures) (passed (c .before .is-above .ensures) (c .if2 .left))
+
+pub visit-after-spec : {M : Type 1} → statement M
+visit-after-spec =
+    tie.close
+    (tie.spec
+    page-at-requires
+    page-ok-requires
+    returns
+    read-one-requires
+    is-above-requires
+    returns-2
+    returns-3)
