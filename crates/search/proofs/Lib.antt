@@ -3,3 +3,5 @@ pub mod FindLaws
 pub mod NextLaws
 pub mod FromLaws
 pub mod RangeLaws
+pub mod SummaryLaws
+pub mod FillLaws

@@ -72,28 +72,28 @@ module _ (f : Format) (s : List ℕ) (h : Head) (high : ℕ) where
   outcome-start low room = outcome-listing (rangeFrom f s h high (high + 1 - low + 1) false low room)
 
   module _ (fuel : ℕ) (strict : Bool) (k room c : ℕ) where
-    from-damaged : nextOf f s h strict k ≡ Damaged → rangeFrom f s h high (suc fuel) strict k room ≡ broken
+    pub from-damaged : nextOf f s h strict k ≡ Damaged → rangeFrom f s h high (suc fuel) strict k room ≡ broken
     unfolding rangeFrom
     from-damaged e = rw (e, rangeFrom)
 
-    from-nothing : nextOf f s h strict k ≡ Nothing → rangeFrom f s h high (suc fuel) strict k room ≡ ended
+    pub from-nothing : nextOf f s h strict k ≡ Nothing → rangeFrom f s h high (suc fuel) strict k room ≡ ended
     unfolding rangeFrom
     from-nothing e = rw (e, rangeFrom)
 
     module _ (it : Item) (e : nextOf f s h strict k ≡ Record it) where
-      from-passed : high < it .key → rangeFrom f s h high (suc fuel) strict k room ≡ ended
+      pub from-passed : high < it .key → rangeFrom f s h high (suc fuel) strict k room ≡ ended
       unfolding rangeFrom
       from-passed p = rw (e, lt-ltb high (it .key) p, rangeFrom)
 
-      from-full : it .key ≤ high → room ≡ 0 → rangeFrom f s h high (suc fuel) strict k room ≡ record { ok = true; items = []; more = it .key }
+      pub from-full : it .key ≤ high → room ≡ 0 → rangeFrom f s h high (suc fuel) strict k room ≡ record { ok = true; items = []; more = it .key }
       unfolding rangeFrom
       from-full p q = rw (e, le-ltb high (it .key) p, eq-eqb room 0 q, rangeFrom)
 
-      from-last : (room ≡ 0 → ⊥) → it .key ≡ high → rangeFrom f s h high (suc fuel) strict k room ≡ record { ok = true; items = it ∷ []; more = 0 }
+      pub from-last : (room ≡ 0 → ⊥) → it .key ≡ high → rangeFrom f s h high (suc fuel) strict k room ≡ record { ok = true; items = it ∷ []; more = 0 }
       unfolding rangeFrom
       from-last q p = rw (e, le-ltb high (it .key) (omega arith), ne-eqb room 0 q, eq-eqb (it .key) high p, rangeFrom)
 
-      from-on : (room ≡ 0 → ⊥) → it .key < high → rangeFrom f s h high (suc fuel) strict k room ≡ also it (rangeFrom f s h high fuel true (it .key) (room - 1))
+      pub from-on : (room ≡ 0 → ⊥) → it .key < high → rangeFrom f s h high (suc fuel) strict k room ≡ also it (rangeFrom f s h high fuel true (it .key) (room - 1))
       unfolding rangeFrom
       from-on q p = rw (e, le-ltb high (it .key) (omega arith), ne-eqb room 0 q, ne-eqb (it .key) high (λ z. omega arith), rangeFrom)
 

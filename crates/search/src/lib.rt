@@ -60,7 +60,15 @@ pub enum FindAnswer {
 }
 
 // Visits node n at this level, after the used bits.
-pub fn visit_node(store: &[u32], f: Format, head: Head, key: u64, level: u32, n: u32, used: u32) -> Visit
+pub fn visit_node(
+    store: &[u32],
+    f: Format,
+    head: Head,
+    key: u64,
+    level: u32,
+    n: u32,
+    used: u32,
+) -> Visit
     requires { ⌜ (head .theta ≤ 6) × (used ≤ width f) ⌝ }
     ensures { λ r. ⌜ (r ≡ stepOf f (now (store .entry)) head key level n used) × (used + r .depth ≤ width f) ⌝ }
 {
@@ -284,7 +292,16 @@ pub fn go_on(store: &[u32], head: Head, n: u32, left: u32) -> Hop
 }
 
 // What node n gives from entry i on, with so many links left.
-pub fn hop_from(store: &[u32], f: Format, head: Head, strict: bool, key: u64, n: u32, i: usize, left: u32) -> Hop
+pub fn hop_from(
+    store: &[u32],
+    f: Format,
+    head: Head,
+    strict: bool,
+    key: u64,
+    n: u32,
+    i: usize,
+    left: u32,
+) -> Hop
     requires { ⌜ (head .theta ≤ 6) × (head .capacity ≤ 64) × (i < 2 ^ 40) × (depthWord (now store) (nodeStart head n) ≤ head .theta) ⌝ }
     ensures { λ r. ⌜ r ≡ hop f (now (store .entry)) head strict key n i left ⌝ }
 {
@@ -297,7 +314,15 @@ pub fn hop_from(store: &[u32], f: Format, head: Head, strict: bool, key: u64, n:
 }
 
 // The answer from an entry of a node on, along the forward links.
-pub fn follow_from(store: &[u32], f: Format, head: Head, strict: bool, key: u64, first: u32, start: usize) -> Sought
+pub fn follow_from(
+    store: &[u32],
+    f: Format,
+    head: Head,
+    strict: bool,
+    key: u64,
+    first: u32,
+    start: usize,
+) -> Sought
     requires { ⌜ (head .theta ≤ 6) × (head .capacity ≤ 64) × (head .taken ≤ 4096) × (start < 2 ^ 40) × (depthWord (now store) (nodeStart head first) ≤ head .theta) ⌝ }
     ensures { λ r. ⌜ r ≡ follow f (now (store .entry)) head strict key (head .taken + 1) first start ⌝ }
 {
@@ -590,7 +615,14 @@ pub fn summary(store: &[u32], f: Format, low: u32, high: u32, today: u32) -> Sum
     if !plot::lawful_day(today) {
         return SummaryAnswer::TodayOutside;
     }
-    let r = sum(store, f, store::head_of(store), wide(low), wide(high), today);
+    let r = sum(
+        store,
+        f,
+        store::head_of(store),
+        wide(low),
+        wide(high),
+        today,
+    );
     if !r.ok {
         return SummaryAnswer::SummaryDamaged;
     }

@@ -404,7 +404,13 @@ pub fn node_ok(store: &[u32], head: Head, at: usize, level: u32) -> bool
     if !links_ok(head, level, word(store, at + 2), word(store, at + 3)) {
         return false;
     }
-    if !runs_ok(store, at, depth, pointer_low(level), pointer_high(head, level)) {
+    if !runs_ok(
+        store,
+        at,
+        depth,
+        pointer_low(level),
+        pointer_high(head, level),
+    ) {
         return false;
     }
     let n = pow2(depth);
@@ -453,7 +459,14 @@ fn mark(part: &mut [u32], theta: u32, capacity: u32, nodes: u32, pages: u32)
 }
 
 // Sets a store up: refused with 4 or 5, or cleared and headed. Words beyond the size stay.
-pub fn set_up(store: &mut [u32], f: Format, theta: u32, capacity: u32, nodes: u32, pages: u32) -> SetUpAnswer
+pub fn set_up(
+    store: &mut [u32],
+    f: Format,
+    theta: u32,
+    capacity: u32,
+    nodes: u32,
+    pages: u32,
+) -> SetUpAnswer
     ensures { λ r. ⌜ (reply r ≡ setUp f theta capacity nodes pages (now (store .entry)) .reply) × (now (store .exit) ≡ setUp f theta capacity nodes pages (now (store .entry)) .words) ⌝ }
 {
     if !sizes_ok(theta, capacity, nodes, pages) {

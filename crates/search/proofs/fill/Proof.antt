@@ -1,101 +1,124 @@
+-- The records written so far are the first ones of the walk.
 use borrow.Author.Needs.{needs}
+use mathlib.Core.Path.{_≡_, refl, sym, ap, _∙_}
+use mathlib.Core.Bool.{Bool, true, false}
+use mathlib.Core.List.{List, [], _∷_, _++_}
+use Prim.Native.Nat.{ℕ, _+_, _-_, _*_, _≤_, _<_}
+use native.Mathlib.Omega.{arith}
+use lib.ListN.{length, drop, length-append}
+use Rattle.store.specs.declared.Format.{Format}
+use Rattle.store.specs.declared.Item.{Item}
+use Rattle.store.specs.Format.{words}
+use Rattle.search.specs.declared.Sought.{Sought}
+use Rattle.search.specs.declared.Sought.the-variants.{Record, Nothing, Damaged}
+use Rattle.search.specs.Next.{nextOf}
+use Rattle.search.specs.Range.{itemWords, flat, firsts}
+use Rattle.search.proofs.FillLaws.{firsts-none, firsts-lost, room-more, part-room, length-filled, fill-more, walk-more, walk-short, walk-end, fill-end}
 use Rattle.search.proofs.fill.Statement.{statement}
 use Rattle.search.proofs.fill.Tie as tie
-use Rattle.search.proofs.fill.Reads as reads
-use Rattle.search.proofs.fill.Lts as lts
-use Rattle.search.proofs.next_under.Reads as next-under-reads
-use Rattle.search.proofs.write_item.Reads as write-item-reads
-use Rattle.store.proofs.words_of.Reads as words-of-reads
 
 abbrev Inv-loop : tie.InvT-loop
-Inv-loop store f head low n out₀ w strict₀ k₀ at₀ i₀ out strict k at i = ?
+Inv-loop store f head low n out₀ w strict₀ k₀ at₀ i₀ out strict k at i = (its : List Item) × (length its ≡ i) × (i ≤ n) × (at ≡ words f * i) × (length out ≡ length out₀) × (out ≡ flat f its ++ drop (words f * i) out₀) × (its ++ firsts f store head strict k (n - i) ≡ firsts f store head false low n) × (w ≡ words f)
 
 abbrev μ-loop : tie.MeasureT-loop
-μ-loop store f head low n out₀ w strict₀ k₀ at₀ i₀ out strict k at i = ?
+μ-loop store f head low n out₀ w strict₀ k₀ at₀ i₀ out strict k at i = n - i
 
--- src/lib.rt:468:9
+room : (c : tie.In-loop Inv-loop μ-loop) → c .before .loop .at + words (c .before .before .before .before .before .args .f) ≤ length (c .before .loop .out)
+room c =
+    let a = c .before .before .before .before .before .args in
+    let l = c .before .loop in
+    omega (arith, l .inv .3, l .inv .4, room-more (words (a .f)) (l .i) (a .n) (length (a .out .now)) (c .loop-test .taken) (c .before .before .before .before .before .pre .5))
+
+start : (f : Format) (out : List ℕ) → out ≡ flat f [] ++ drop 0 out
+unfolding flat
+start f out = refl
+
 words-of-requires : tie.Need-words-of-requires Inv-loop μ-loop
 words-of-requires c κs = search needs
 
--- src/lib.rt:473:5
 loop-holds : tie.Need-loop-holds Inv-loop μ-loop
-loop-holds c = search needs
+loop-holds c =
+    let a = c .before .before .before .args in
+    let z : words (a .f) * 0 ≡ 0 = omega arith in
+    let n : a .n - 0 ≡ a .n = omega arith in
+    rw (z, n) ([], refl, omega arith, refl, refl, start (a .f) (a .out .now), refl, c .words-of .ensures .0)
 
--- src/lib.rt:474:13
 next-under-requires : tie.Need-next-under-requires Inv-loop μ-loop
 next-under-requires c κs = search needs
 
--- src/lib.rt:476:28
 enum-known-a : tie.Need-enum-known-a Inv-loop μ-loop
 enum-known-a c = search needs
 
--- src/lib.rt:477:28
 mul-write-item : tie.Need-mul-write-item Inv-loop μ-loop
-mul-write-item c = search needs
+mul-write-item c = let r = room (c .before .before .before .before) in search needs
 
--- src/lib.rt:477:28
 sub-write-item : tie.Need-sub-write-item Inv-loop μ-loop
-sub-write-item c = search needs
+sub-write-item c = omega (arith, room (c .before .before .before .before))
 
--- src/lib.rt:477:28
 part-write-item-start : tie.Need-part-write-item-start Inv-loop μ-loop
-part-write-item-start c = search needs
+part-write-item-start c = let r = room (c .before .before .before .before) in search needs
 
--- src/lib.rt:477:28
 part-write-item-end : tie.Need-part-write-item-end Inv-loop μ-loop
-part-write-item-end c = search needs
+part-write-item-end c = let r = room (c .before .before .before .before) in search needs
 
--- src/lib.rt:477:17
 write-item-requires : tie.Need-write-item-requires Inv-loop μ-loop
-write-item-requires c κs = search needs
+write-item-requires c κs = part-room _ _ (c .before .before .before .before .before .before .loop .out) (room (c .before .before .before .before .before))
 
--- src/lib.rt:480:17
 add-at : tie.Need-add-at Inv-loop μ-loop
-add-at c = search needs
+add-at c = let r = room (c .before .before .before .before .before .before .before .before) in omega (arith, r, c .before .before .before .before .before .before .before .before .before .loop .inv .7)
 
--- src/lib.rt:481:17
 add-i : tie.Need-add-i Inv-loop μ-loop
 add-i c = search needs
 
--- src/lib.rt:473:5
 loop-less : tie.Need-loop-less Inv-loop μ-loop
 loop-less c = search needs
 
--- src/lib.rt:473:5
 loop-again : tie.Need-loop-again Inv-loop μ-loop
-loop-again c = search needs
+loop-again c =
+    let a = c .before .before .before .before .before .before .before .before .before .before .before .before .before .args in
+    let p = c .before .before .before .before .before .before .before .before .before in
+    let l = p .loop in
+    let it = c .before .before .before .before .before .a .given .0 .0 in
+    let lt : l .i < a .n = c .before .before .before .before .before .before .before .before .loop-test .taken in
+    let len : length (l .inv .0 ++ (it ∷ [])) ≡ l .i + 1 = length-append (l .inv .0) (it ∷ []) ∙ omega (arith, l .inv .1) in
+    let e = fill-more (a .f) (l .inv .0) it (l .i) (l .at) (l .out) (a .out .now) (c .before .before .write-item .last .0) (l .inv .5) (l .inv .1) (l .inv .3) (c .before .before .write-item .ensures) in
+    let room = room-more (words (a .f)) (l .i) (a .n) (length (a .out .now)) lt (c .before .before .before .before .before .before .before .before .before .before .before .before .before .pre .5) in (
+      l .inv .0 ++ (it ∷ []),
+      len,
+      omega arith,
+      omega (arith, l .inv .3, l .inv .7),
+      length-filled (a .f) (l .inv .0 ++ (it ∷ [])) (l .i + 1) (a .out .now) _ len (omega arith) e,
+      e,
+      walk-more _ _ _ _ _ (l .i) (a .n) (l .inv .0) _ it lt (sym (c .before .before .before .before .before .before .before .next-under .ensures) ∙ c .before .before .before .before .before .a .given .1) (l .inv .6),
+      l .inv .7,
+    )
 
--- src/lib.rt:484:17
 enum-told : tie.Need-enum-told Inv-loop μ-loop
 enum-told c = search needs
 
--- src/lib.rt:484:17
 same-length : tie.Need-same-length Inv-loop μ-loop
-same-length c = search needs
+same-length c = c .before .before .before .before .loop .inv .4
 
--- src/lib.rt:484:17
 returns : tie.Need-returns Inv-loop μ-loop
-returns c = search needs
+returns c = absurd (walk-short _ _ _ _ _ _ _ (c .before .before .before .before .loop .inv .0) _ (c .before .before .before .loop-test .taken) (c .before .before .before .before .loop .inv .1) (firsts-none _ _ _ _ _ _ (sym (c .before .before .next-under .ensures) ∙ c .enum-told .given .1)) (c .before .before .before .before .loop .inv .6) (c .before .before .before .before .before .before .before .before .pre .6))
 
--- src/lib.rt:487:17
 enum-told-2 : tie.Need-enum-told-2 Inv-loop μ-loop
 enum-told-2 c = search needs
 
--- src/lib.rt:487:17
 same-length-2 : tie.Need-same-length-2 Inv-loop μ-loop
-same-length-2 c = search needs
+same-length-2 c = c .before .before .before .before .loop .inv .4
 
--- src/lib.rt:487:17
 returns-2 : tie.Need-returns-2 Inv-loop μ-loop
-returns-2 c = search needs
+returns-2 c = absurd (walk-short _ _ _ _ _ _ _ (c .before .before .before .before .loop .inv .0) _ (c .before .before .before .loop-test .taken) (c .before .before .before .before .loop .inv .1) (firsts-lost _ _ _ _ _ _ (sym (c .before .before .next-under .ensures) ∙ c .enum-told2 .given .1)) (c .before .before .before .before .loop .inv .6) (c .before .before .before .before .before .before .before .before .pre .6))
 
--- src/lib.rt:464:1
 same-length-3 : tie.Need-same-length-3 Inv-loop μ-loop
-same-length-3 c = search needs
+same-length-3 c = c .before .loop .inv .4
 
--- src/lib.rt:464:1
 returns-3 : tie.Need-returns-3 Inv-loop μ-loop
-returns-3 c = search needs
+returns-3 c =
+    let l = c .before .loop in
+    let e : l .i ≡ c .before .before .before .before .before .args .n = omega (arith, l .inv .2) in
+    fill-end _ (l .inv .0) _ _ _ _ _ (walk-end _ _ _ _ _ _ _ (l .inv .0) _ e (l .inv .6)) e (l .inv .5)
 
 pub fill-spec : {M : Type 1} → statement M
 fill-spec =

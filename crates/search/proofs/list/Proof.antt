@@ -55,8 +55,7 @@ enum-told c = search needs
 
 returns : tie.Need-returns Inv-loop μ-loop
 returns c =
-    let p = c .before .before .before .before in
-    (
+    let p = c .before .before .before .before in (
       sym (turn-damaged _ _ _ _ (p .loop .inv .0) _ _ _ _ (p .loop .inv .2) (left p) (sym (c .before .before .next-under .ensures) ∙ c .enum-told .given .1)) ∙ p .loop .inv .4,
       omega arith,
     )
@@ -66,8 +65,7 @@ enum-told-2 c = search needs
 
 returns-2 : tie.Need-returns-2 Inv-loop μ-loop
 returns-2 c =
-    let p = c .before .before .before .before in
-    (
+    let p = c .before .before .before .before in (
       sym (turn-nothing _ _ _ _ (p .loop .inv .0) _ _ _ _ (p .loop .inv .2) (left p) (sym (c .before .before .next-under .ensures) ∙ c .enum-told2 .given .1)) ∙ p .loop .inv .4,
       p .loop .inv .2,
     )
@@ -77,16 +75,14 @@ enum-known-a c = search needs
 
 returns-3 : tie.Need-returns-3 Inv-loop μ-loop
 returns-3 c =
-    let p = c .before .before .before .before .before .before .before in
-    (
+    let p = c .before .before .before .before .before .before .before in (
       sym (turn-passed _ _ _ _ (p .loop .inv .0) _ _ _ _ (p .loop .inv .2) (left p) _ (record-is (c .before .before .before)) (c .if1 .taken)) ∙ p .loop .inv .4,
       p .loop .inv .2,
     )
 
 returns-4 : tie.Need-returns-4 Inv-loop μ-loop
 returns-4 c =
-    let p = c .before .before .before .before .before .before .before .before in
-    (
+    let p = c .before .before .before .before .before .before .before .before in (
       sym (turn-full _ _ _ _ (p .loop .inv .0) _ _ _ _ (p .loop .inv .2) (left p) _ (record-is (c .before .before .before .before)) (c .before .if1 .left) (c .if2 .taken)) ∙ p .loop .inv .4,
       p .loop .inv .2,
     )
@@ -96,8 +92,7 @@ add-count c = omega (arith, c .before .before .before .before .before .before .b
 
 returns-5 : tie.Need-returns-5 Inv-loop μ-loop
 returns-5 c =
-    let p = c .before .before .before .before .before .before .before .before .before .before in
-    (
+    let p = c .before .before .before .before .before .before .before .before .before .before in (
       sym (turn-last _ _ _ _ (p .loop .inv .0) _ _ _ _ (p .loop .inv .2) (left p) _ (record-is (c .before .before .before .before .before .before)) (c .before .before .if2 .left) (c .if3 .taken)) ∙ p .loop .inv .4,
       omega (arith, p .loop .inv .2, c .before .before .if2 .left),
     )
@@ -107,8 +102,7 @@ loop-less c = omega (arith, lead-true, record-on (c .before .before))
 
 loop-again : tie.Need-loop-again Inv-loop μ-loop
 loop-again c =
-    let p = c .before .before .before .before .before .before .before .before .before .before in
-    (
+    let p = c .before .before .before .before .before .before .before .before .before .before in (
       p .loop .inv .0 - 1,
       omega (arith, lead-true, p .loop .inv .1, p .loop .inv .3, record-on (c .before .before)),
       omega (arith, p .loop .inv .2, c .before .before .if2 .left),

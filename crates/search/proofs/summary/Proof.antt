@@ -1,57 +1,45 @@
+-- One law for each way out.
 use borrow.Author.Needs.{needs}
+use mathlib.Core.Path.{_≡_, _∙_}
+use native.Mathlib.Omega.{arith}
+use borrow.Author.Tests.{not-true, not-false}
+use Rattle.lists.proofs.Tests.{passed, failed}
+use Rattle.search.proofs.SummaryLaws.{readable, summary-head, summary-order, summary-day, summary-is, summing-bad, summing-good}
 use Rattle.search.proofs.summary.Statement.{statement}
 use Rattle.search.proofs.summary.Tie as tie
-use Rattle.search.proofs.summary.Reads as reads
-use Rattle.search.proofs.summary.Lts as lts
-use Rattle.plot.proofs.lawful_day.Reads as lawful-day-reads
-use Rattle.search.proofs.sum.Reads as sum-reads
-use Rattle.search.proofs.wide.Reads as wide-reads
-use Rattle.store.proofs.head_of.Reads as head-of-reads
-use Rattle.store.proofs.head_ok.Reads as head-ok-reads
 
--- src/lib.rt:584:9
 head-ok-requires : tie.Need-head-ok-requires
 head-ok-requires c κs = search needs
 
--- src/lib.rt:585:9
 returns : tie.Need-returns
-returns c = search needs
+returns c = summary-head _ _ _ _ _ (failed (c .before .head-ok .ensures) (c .if1 .taken))
 
--- src/lib.rt:588:9
 returns-2 : tie.Need-returns-2
-returns-2 c = search needs
+returns-2 c = summary-order _ _ _ _ _ (passed (c .before .before .head-ok .ensures) (c .before .if1 .left)) (c .if2 .taken)
 
--- src/lib.rt:590:9
 lawful-day-requires : tie.Need-lawful-day-requires
 lawful-day-requires c κs = search needs
 
--- src/lib.rt:591:9
 returns-3 : tie.Need-returns-3
-returns-3 c = search needs
+returns-3 c = summary-day _ _ _ _ _ (passed (c .before .before .before .before .head-ok .ensures) (c .before .before .before .if1 .left)) (c .before .before .if2 .left) (failed (c .before .lawful-day .ensures) (c .if3 .taken))
 
--- src/lib.rt:593:27
 head-of-requires : tie.Need-head-of-requires
 head-of-requires c κs = search needs
 
--- src/lib.rt:593:50
 wide-requires : tie.Need-wide-requires
 wide-requires c κs = search needs
 
--- src/lib.rt:593:61
 wide-requires-2 : tie.Need-wide-requires-2
 wide-requires-2 c κs = search needs
 
--- src/lib.rt:593:9
 sum-requires : tie.Need-sum-requires
-sum-requires c κs = search needs
+sum-requires c κs = let p = readable _ _ _ (c .before .before .head-of .ensures) (passed (c .before .before .before .before .before .before .before .head-ok .ensures) (c .before .before .before .before .before .before .if1 .left)) in (p .0, p .1, p .2, p .3, p .4, omega arith, omega arith)
 
--- src/lib.rt:595:9
 returns-4 : tie.Need-returns-4
-returns-4 c = search needs
+returns-4 c = summing-bad (c .before .before .sum .result) (not-true _ (c .if4 .taken)) ∙ summary-is _ _ _ _ _ (passed (c .before .before .before .before .before .before .before .before .before .before .head-ok .ensures) (c .before .before .before .before .before .before .before .before .before .if1 .left)) (c .before .before .before .before .before .before .before .before .if2 .left) (passed (c .before .before .before .before .before .before .before .lawful-day .ensures) (c .before .before .before .before .before .before .if3 .left)) _ (rw (c .before .before .before .before .before .head-of .ensures, c .before .before .before .before .wide .ensures .0, c .before .before .before .wide2 .ensures .0) at (c .before .before .sum .ensures))
 
--- src/lib.rt:581:1
 returns-5 : tie.Need-returns-5
-returns-5 c = search needs
+returns-5 c = summing-good (c .before .before .before .sum .result) (not-false _ (c .before .if4 .left)) ∙ summary-is _ _ _ _ _ (passed (c .before .before .before .before .before .before .before .before .before .before .before .head-ok .ensures) (c .before .before .before .before .before .before .before .before .before .before .if1 .left)) (c .before .before .before .before .before .before .before .before .before .if2 .left) (passed (c .before .before .before .before .before .before .before .before .lawful-day .ensures) (c .before .before .before .before .before .before .before .if3 .left)) _ (rw (c .before .before .before .before .before .before .head-of .ensures, c .before .before .before .before .before .wide .ensures .0, c .before .before .before .before .wide2 .ensures .0) at (c .before .before .before .sum .ensures))
 
 pub summary-spec : {M : Type 1} → statement M
 summary-spec =

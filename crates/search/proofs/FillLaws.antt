@@ -1,0 +1,235 @@
+-- What the second pass of a range writes: record after record, each at the end of those before.
+use mathlib.Core.Path.{_≡_, refl, sym, ap, ap₂, _∙_}
+use mathlib.Core.Bool.{Bool, true, false, false≢true}
+use mathlib.Core.Logic.{inl, inr}
+use mathlib.Core.List.{List, [], _∷_, _++_, append-assoc, append-nil}
+use Prim.Native.Nat.{ℕ, zero, suc, _+_, _-_, _*_, _/_, _%_, _^_, _≤_, _<_}
+use native.Mathlib.Decide.{decLt, ℕ-discrete}
+use native.Mathlib.Omega.{arith}
+use lib.ListN.{length, take, drop, set, length-append, length-take, length-drop}
+use lib.Seq.{take-at, drop-at, take-length, drop-length, drop-drop}
+use native.Mathlib.Nat.{mul-le-mul-left, mul-comm, le-div-iff-mul-le}
+use borrow.Author.Tests.{lt-ltb, le-ltb}
+use Rattle.lists.proofs.Cases.{bool-cases}
+use Rattle.store.specs.Head.{headOf, headRule}
+use Rattle.store.specs.declared.Format.{Format}
+use Rattle.store.specs.declared.Format.the-variants.{Plots}
+use Rattle.store.specs.declared.Head.{Head}
+use Rattle.store.specs.declared.Item.{Item}
+use Rattle.store.specs.Format.{words}
+use Rattle.search.specs.declared.Sought.{Sought}
+use Rattle.search.specs.declared.Sought.the-variants.{Record, Nothing, Damaged}
+use Rattle.search.specs.Next.{nextOf}
+use Rattle.search.specs.declared.Listing.{Listing}
+use Rattle.search.specs.Range.{itemWords, flat, Ranged, also, rangeFrom, ranged, listing, firsts, refused, listed, rangeOf}
+use Rattle.search.proofs.RangeLaws.{from-damaged, from-nothing, from-passed, from-full, from-last, from-on}
+
+pub plot-words : (f : Format) → words f ≡ 4
+unfolding words
+plot-words Plots = refl
+
+set-four : (p : List ℕ) (a b c d : ℕ) → 4 ≤ length p → set (set (set (set p 0 a) 1 b) 2 c) 3 d ≡ a ∷ b ∷ c ∷ d ∷ drop 4 p
+set-four [] a b c d h = absurd (omega arith)
+set-four (w ∷ []) a b c d h = absurd (omega arith)
+set-four (w ∷ x ∷ []) a b c d h = absurd (omega arith)
+set-four (w ∷ x ∷ y ∷ []) a b c d h = absurd (omega arith)
+set-four (w ∷ x ∷ y ∷ z ∷ p) a b c d h = refl
+
+pub written : (f : Format) (it : Item) (p : List ℕ) (k : ℕ) → k ≡ it .key % 2 ^ 32 → words f ≤ length p
+    → set (set (set (set p 0 k) 1 (it .price)) 2 (it .lease)) 3 (it .last) ≡ itemWords f it ++ drop (words f) p
+unfolding itemWords words
+written Plots it p k e h = set-four p k (it .price) (it .lease) (it .last) h ∙ rw e
+
+pub length-item : (f : Format) (it : Item) → length (itemWords f it) ≡ words f
+unfolding itemWords words
+length-item Plots it = refl
+
+pub length-flat : (f : Format) (its : List Item) → length (flat f its) ≡ words f * length its
+unfolding flat
+length-flat f [] = omega arith
+length-flat f (it ∷ its) = length-append (itemWords f it) (flat f its) ∙ omega (arith, length-item f it, length-flat f its)
+
+pub flat-last : (f : Format) (its : List Item) (it : Item) → flat f (its ++ (it ∷ [])) ≡ flat f its ++ itemWords f it
+unfolding flat
+flat-last f [] it = append-nil (itemWords f it)
+flat-last f (x ∷ its) it = ap (λ (l : List ℕ). itemWords f x ++ l) (flat-last f its it) ∙ sym (append-assoc (itemWords f x) (flat f its) (itemWords f it))
+
+-- the records of a range are the first ones of its walk
+module _ (f : Format) (s : List ℕ) (h : Head) where
+  pub firsts-on : (strict : Bool) (k n : ℕ) (it : Item) → nextOf f s h strict k ≡ Record it → firsts f s h strict k (suc n) ≡ it ∷ firsts f s h true (it .key) n
+  unfolding firsts
+  firsts-on strict k n it e = rw (e, firsts)
+
+  pub firsts-none : (strict : Bool) (k n : ℕ) → nextOf f s h strict k ≡ Nothing → firsts f s h strict k (suc n) ≡ []
+  unfolding firsts
+  firsts-none strict k n e = rw (e, firsts)
+
+  pub firsts-lost : (strict : Bool) (k n : ℕ) → nextOf f s h strict k ≡ Damaged → firsts f s h strict k (suc n) ≡ []
+  unfolding firsts
+  firsts-lost strict k n e = rw (e, firsts)
+
+-- room for one record more
+pub room-more : (w i n L : ℕ) → i < n → w * n ≤ L → w * i + w ≤ L
+room-more w i n L h l =
+    let m : w * (i + 1) ≤ w * n = mul-le-mul-left w (omega arith) in
+    omega arith
+
+pub part-room : (w at : ℕ) (out : List ℕ) → at + w ≤ length out → w ≤ length (take (length out - at) (drop at out))
+part-room w at out h = simp (length-take, length-drop) (omega arith)
+
+pub length-filled : (f : Format) (its : List Item) (m : ℕ) (out t : List ℕ) → length its ≡ m → words f * m ≤ length out
+    → t ≡ flat f its ++ drop (words f * m) out → length t ≡ length out
+length-filled f its m out t e h q =
+    ap length q ∙ length-append (flat f its) (drop (words f * m) out)
+    ∙ rw (length-drop, length-flat f its, e) (omega arith)
+
+-- one record more, at the end of those written
+pub fill-more : (f : Format) (its : List Item) (it : Item) (i at : ℕ) (out first last : List ℕ)
+    → out ≡ flat f its ++ drop (words f * i) first → length its ≡ i → at ≡ words f * i
+    → last ≡ itemWords f it ++ drop (words f) (take (length out - at) (drop at out))
+    → take at out ++ (last ++ drop (length out - at) (drop at out)) ≡ flat f (its ++ (it ∷ [])) ++ drop (words f * (i + 1)) first
+fill-more f its it i at out first last o l a e =
+    let A = flat f its in
+    let B = drop (words f * i) first in
+    let n : length A ≡ at = length-flat f its ∙ rw l (sym a) in
+    let front : take at out ≡ A = ap (take at) o ∙ take-at A B at n in
+    let back : drop at out ≡ B = ap (drop at) o ∙ drop-at A B at n in
+    let rest : length out - at ≡ length B = omega (arith, ap length o, length-append A B) in
+    let whole : take (length out - at) (drop at out) ≡ B = rw (back, rest) (take-length B) in
+    let none : drop (length out - at) (drop at out) ≡ [] = rw (back, rest) (drop-length B) in
+    let next : words f * i + words f ≡ words f * (i + 1) = omega arith in
+    let tail : drop (words f) B ≡ drop (words f * (i + 1)) first = drop-drop (words f) (words f * i) first ∙ ap (λ (m : ℕ). drop m first) next in
+    rw (front, none, e, whole, flat-last f its it, ← tail) (simp (append-nil, append-assoc))
+
+-- the walk, one record on
+pub walk-more : (f : Format) (s : List ℕ) (h : Head) (strict : Bool) (k i n : ℕ) (its all : List Item) (it : Item) → i < n
+    → nextOf f s h strict k ≡ Record it → its ++ firsts f s h strict k (n - i) ≡ all
+    → (its ++ (it ∷ [])) ++ firsts f s h true (it .key) (n - (i + 1)) ≡ all
+walk-more f s h strict k i n its all it l e q =
+    let m : n - i ≡ suc (n - (i + 1)) = omega arith in
+    append-assoc its (it ∷ []) (firsts f s h true (it .key) (n - (i + 1)))
+    ∙ ap (λ (r : List Item). its ++ r) (sym (ap (firsts f s h strict k) m ∙ firsts-on f s h strict k (n - (i + 1)) it e)) ∙ q
+
+-- a walk that ends early has fewer records
+pub walk-short : (f : Format) (s : List ℕ) (h : Head) (strict : Bool) (k i n : ℕ) (its all : List Item) → i < n → length its ≡ i
+    → firsts f s h strict k (suc (n - (i + 1))) ≡ [] → its ++ firsts f s h strict k (n - i) ≡ all → length all ≡ n → ⊥
+walk-short f s h strict k i n its all l c e q a =
+    let m : n - i ≡ suc (n - (i + 1)) = omega arith in
+    let z : its ++ [] ≡ all = ap (λ (r : List Item). its ++ r) (sym (ap (firsts f s h strict k) m ∙ e)) ∙ q in
+    omega (arith, ap length (sym (append-nil its) ∙ z))
+
+pub walk-end : (f : Format) (s : List ℕ) (h : Head) (strict : Bool) (k i n : ℕ) (its all : List Item) → i ≡ n
+    → its ++ firsts f s h strict k (n - i) ≡ all → its ≡ all
+unfolding firsts
+walk-end f s h strict k i n its all e q =
+    let z : n - i ≡ 0 = omega arith in
+    sym (append-nil its) ∙ ap (λ (m : ℕ). its ++ firsts f s h strict k m) (sym z) ∙ q
+
+pub fill-end : (f : Format) (its all : List Item) (i n : ℕ) (out first : List ℕ) → its ≡ all → i ≡ n → out ≡ flat f its ++ drop (words f * i) first
+    → out ≡ flat f all ++ drop (words f * n) first
+fill-end f its all i n out first a b e = e ∙ rw (a, b)
+
+-- a range's records are the first ones of its walk
+module _ (f : Format) (s : List ℕ) (h : Head) (high : ℕ) where
+  abbrev Same : ℕ → Bool → ℕ → ℕ → Type 0
+  Same fuel strict k room =
+      rangeFrom f s h high fuel strict k room .ok ≡ true
+      → firsts f s h strict k (length (rangeFrom f s h high fuel strict k room .items)) ≡ rangeFrom f s h high fuel strict k room .items
+
+  none-read : (strict : Bool) (k : ℕ) → firsts f s h strict k 0 ≡ []
+  unfolding firsts
+  none-read strict k = refl
+
+  same-on : (fuel : ℕ) (strict : Bool) (k room : ℕ) (it : Item) → nextOf f s h strict k ≡ Record it → Same fuel true (it .key) (room - 1) → Same (suc fuel) strict k room
+  unfolding also
+  same-on fuel strict k room it e ih =
+      elim (decLt high (it .key)) [
+        | yes p ↦ rw (from-passed f s h high fuel strict k room 0 it e p) (λ o. none-read strict k)
+        | no p ↦
+            elim (ℕ-discrete room 0) [
+              | yes q ↦ rw (from-full f s h high fuel strict k room 0 it e (omega arith) q) (λ o. none-read strict k)
+              | no q ↦
+                  elim (ℕ-discrete (it .key) high) [
+                    | yes r ↦ rw (from-last f s h high fuel strict k room 0 it e q r)
+                        (λ o. firsts-on f s h strict k 0 it e ∙ ap (λ (l : List Item). it ∷ l) (none-read true (it .key)))
+                    | no r ↦ rw (from-on f s h high fuel strict k room 0 it e q (omega arith))
+                        (λ o. firsts-on f s h strict k (length (rangeFrom f s h high fuel true (it .key) (room - 1) .items)) it e ∙ ap (λ (l : List Item). it ∷ l) (ih o))
+                  ]
+            ]
+      ]
+
+  same-step : (fuel : ℕ) (strict : Bool) (k room : ℕ) (a : Sought) → nextOf f s h strict k ≡ a → ((it : Item) → Same fuel true (it .key) (room - 1)) → Same (suc fuel) strict k room
+  same-step fuel strict k room Damaged e ih = rw (from-damaged f s h high fuel strict k room 0 e) (λ o. absurd (false≢true o))
+  same-step fuel strict k room Nothing e ih = rw (from-nothing f s h high fuel strict k room 0 e) (λ o. none-read strict k)
+  same-step fuel strict k room (Record it) e ih = same-on fuel strict k room it e (ih it)
+
+  pub range-firsts : (fuel : ℕ) (strict : Bool) (k room : ℕ) → Same fuel strict k room
+  unfolding rangeFrom
+  range-firsts zero strict k room o = none-read strict k
+  range-firsts (suc fuel) strict k room o = same-step fuel strict k room (nextOf f s h strict k) refl (λ it. range-firsts fuel true (it .key) (room - 1)) o
+
+-- the outcome without the records
+pub listing-ok : (r : Ranged) → listing r .ok ≡ r .ok
+unfolding listing
+listing-ok r =
+    elim (bool-cases (r .ok)) [
+      | inl e ↦ rw (e, listing)
+      | inr e ↦ rw (e, listing)
+    ]
+
+pub listing-count : (r : Ranged) → r .ok ≡ true → (listing r .count ≡ length (r .items)) × (listing r .more ≡ r .more)
+unfolding listing
+listing-count r e = (rw (e, listing), rw (e, listing))
+
+-- the ways out of range
+module _ (f : Format) (s : List ℕ) (low high : ℕ) (out : List ℕ) where
+  pub range-head : headRule f s ≡ false → (refused 3 ≡ rangeOf f s low high out .reply) × (out ≡ rangeOf f s low high out .words)
+  unfolding rangeOf
+  range-head r = (rw (r, rangeOf), rw (r, rangeOf))
+
+  pub range-order : headRule f s ≡ true → high < low → (refused 7 ≡ rangeOf f s low high out .reply) × (out ≡ rangeOf f s low high out .words)
+  unfolding rangeOf
+  range-order r o = (rw (r, lt-ltb high low o, rangeOf), rw (r, lt-ltb high low o, rangeOf))
+
+  abbrev R : Ranged
+  R = ranged f s (headOf s) low high (length out / words f)
+
+  range-given : headRule f s ≡ true → low ≤ high → rangeOf f s low high out ≡ listed f out R
+  unfolding rangeOf
+  range-given r o = rw (r, le-ltb high low o, rangeOf)
+
+  module _ (r : headRule f s ≡ true) (o : low ≤ high) (l : Listing) (e : l ≡ listing R) where
+    pub range-damaged : l .ok ≡ false → (refused 9 ≡ rangeOf f s low high out .reply) × (out ≡ rangeOf f s low high out .words)
+    unfolding listed
+    range-damaged d =
+        let k : R .ok ≡ false = sym (ap (λ (x : Listing). x .ok) e ∙ listing-ok R) ∙ d in
+        rw (range-given r o) (rw (k, listed), rw (k, listed))
+
+    sound : l .ok ≡ true → R .ok ≡ true
+    sound d = sym (ap (λ (x : Listing). x .ok) e ∙ listing-ok R) ∙ d
+
+    counted : l .ok ≡ true → l .count ≡ length (R .items)
+    counted d = ap (λ (x : Listing). x .count) e ∙ listing-count R (sound d) .0
+
+    pub range-walk : l .ok ≡ true → firsts f s (headOf s) false low (l .count) ≡ R .items
+    unfolding ranged
+    range-walk d = rw (counted d) (range-firsts f s (headOf s) high (high + 1 - low + 1) false low (length out / words f) (sound d))
+
+    pub range-length : l .ok ≡ true → length (firsts f s (headOf s) false low (l .count)) ≡ l .count
+    range-length d = ap length (range-walk d) ∙ sym (counted d)
+
+    pub range-listed : (t : List ℕ) → l .ok ≡ true → t ≡ flat f (firsts f s (headOf s) false low (l .count)) ++ drop (words f * l .count) out
+        → (record { number = 0; count = l .count; more = l .more } ≡ rangeOf f s low high out .reply) × (t ≡ rangeOf f s low high out .words)
+    unfolding listed
+    range-listed t d w =
+        let m : l .more ≡ R .more = ap (λ (x : Listing). x .more) e ∙ listing-count R (sound d) .1 in
+        rw (range-given r o) (
+          rw (sound d, m, counted d, listed),
+          w ∙ rw (range-walk d, counted d, sound d, listed),
+        )
+
+-- as many records as fit
+pub records-fit : (f : Format) (L n : ℕ) → n ≤ L / words f → words f * n ≤ L
+records-fit f L n h =
+    let w : 0 < words f = omega (arith, plot-words f) in
+    rw (mul-comm (words f) n) (le-div-iff-mul-le w .0 h)

@@ -1,0 +1,57 @@
+-- Summary and range, one law for each way out.
+use mathlib.Core.Path.{_≡_, refl, sym, ap, _∙_}
+use mathlib.Core.Bool.{Bool, true, false}
+use mathlib.Core.List.{List, _++_}
+use Prim.Native.Nat.{ℕ, _+_, _-_, _*_, _/_, _≤_, _<_}
+use native.Mathlib.Omega.{arith}
+use lib.Dec.{ltb}
+use lib.ListN.{length, drop}
+use borrow.Author.Tests.{lt-ltb, le-ltb}
+use Rattle.plot.specs.Plot.{lawfulDay}
+use Rattle.store.specs.declared.Format.{Format}
+use Rattle.store.specs.declared.Head.{Head}
+use Rattle.store.specs.Format.{words}
+use Rattle.store.specs.Head.{headOf, headRule}
+use Rattle.store.proofs.HeadLaws.{head-facts, levels-within}
+use Rattle.search.specs.declared.Summing.{Summing}
+use Rattle.search.specs.Summary.{SummaryReply, refused, summed, summingReply, summaryOf}
+use Rattle.search.specs.Range.{Ranged, RangeReply, ranged, listed, rangeOf}
+
+-- what a store that keeps the head rule has, as the readings ask it
+pub readable : (f : Format) (s : List ℕ) (h : Head) → h ≡ headOf s → headRule f s ≡ true
+    → (h .theta ≤ 6) × (h .capacity ≤ 64) × (h .taken ≤ 4096) × (1 ≤ h .levels) × (h .levels ≤ 32)
+readable f s h e r =
+    let p = head-facts f s r in
+    let t = headOf s in
+    rw e (
+      p .limits .theta,
+      p .limits .capacity,
+      omega (arith, p .counts .taken, p .limits .nodes),
+      p .counts .levels-low,
+      omega (arith, p .counts .levels, levels-within f (t .theta) (t .capacity) (p .limits .theta-low)),
+    )
+
+module _ (f : Format) (s : List ℕ) (low high today : ℕ) where
+  pub summary-head : headRule f s ≡ false → refused 3 ≡ summaryOf f s low high today
+  unfolding summaryOf
+  summary-head r = rw (r, summaryOf)
+
+  pub summary-order : headRule f s ≡ true → high < low → refused 7 ≡ summaryOf f s low high today
+  unfolding summaryOf
+  summary-order r o = rw (r, lt-ltb high low o, summaryOf)
+
+  pub summary-day : headRule f s ≡ true → low ≤ high → lawfulDay today ≡ false → refused 6 ≡ summaryOf f s low high today
+  unfolding summaryOf
+  summary-day r o d = rw (r, le-ltb high low o, d, summaryOf)
+
+  pub summary-is : headRule f s ≡ true → low ≤ high → lawfulDay today ≡ true → (r : Summing) → r ≡ summed f s (headOf s) low high today
+      → summingReply r ≡ summaryOf f s low high today
+  unfolding summaryOf
+  summary-is r o d t e = ap summingReply e ∙ rw (r, le-ltb high low o, d, summaryOf)
+
+pub summing-bad : (r : Summing) → r .ok ≡ false → refused 9 ≡ summingReply r
+summing-bad r e = rw e
+
+pub summing-good : (r : Summing) → r .ok ≡ true
+    → record { number = 0; count = r .totals .count; total = r .totals .total; key = r .totals .key } ≡ summingReply r
+summing-good r e = rw e
