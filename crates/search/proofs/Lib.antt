@@ -5,3 +5,4 @@ pub mod FromLaws
 pub mod RangeLaws
 pub mod SummaryLaws
 pub mod FillLaws
+pub mod Promises

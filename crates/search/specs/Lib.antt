@@ -3,3 +3,4 @@ pub mod Find
 pub mod Next
 pub mod Range
 pub mod Summary
+pub mod Promises
