@@ -47,6 +47,13 @@ above-lead false k x e = omega (arith, leb-true k x e)
 unfoldable pub outcome : ℕ → Ranged → Listing
 outcome c r = elim (r .ok) [ true ↦ record { ok = true; count = c + length (r .items); more = r .more } | false ↦ record { ok = false; count = 0; more = 0 } ]
 
+-- an outcome and totals from their parts
+pub listing-is : (r : Listing) (o : Bool) (n m : ℕ) → (r .ok ≡ o) × (r .count ≡ n) × (r .more ≡ m) → r ≡ record { ok = o; count = n; more = m }
+listing-is r o n m p = rw (← (p .0), ← (p .1), ← (p .2))
+
+pub summing-is : (r : Summing) (o : Bool) (t : Totals) → (r .ok ≡ o) × (r .totals ≡ t) → r ≡ record { ok = o; totals = t }
+summing-is r o t p = rw (← (p .0), ← (p .1))
+
 outcome-listing : (r : Ranged) → outcome 0 r ≡ listing r
 unfolding outcome listing
 outcome-listing r =

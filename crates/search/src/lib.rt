@@ -403,6 +403,13 @@ pub struct Listing {
     pub more: u64,
 }
 
+// An outcome from its parts.
+fn outcome_of(ok: bool, count: u64, more: u64) -> Listing
+    ensures { λ r. ⌜ (r .ok ≡ ok) × (r .count ≡ count) × (r .more ≡ more) ⌝ }
+{
+    Listing { ok, count, more }
+}
+
 // The outcome of a range with room for so many records; nothing is written.
 pub fn list(store: &[u32], f: Format, head: Head, low: u64, high: u64, room: u64) -> Listing
     requires { ⌜ (head .theta ≤ 6) × (head .capacity ≤ 64) × (head .taken ≤ 4096) × (1 ≤ head .levels) × (head .levels ≤ 32) × (low ≤ high) ⌝ }
@@ -415,52 +422,28 @@ pub fn list(store: &[u32], f: Format, head: Head, low: u64, high: u64, room: u64
         let a = next_under(store, f, head, strict, k);
         match a {
             Sought::Damaged => {
-                return Listing {
-                    ok: false,
-                    count: 0,
-                    more: 0,
-                };
+                return outcome_of(false, 0, 0);
             }
             Sought::Nothing => {
-                return Listing {
-                    ok: true,
-                    count,
-                    more: 0,
-                };
+                return outcome_of(true, count, 0);
             }
             Sought::Record(item) => {
                 if item.key > high {
-                    return Listing {
-                        ok: true,
-                        count,
-                        more: 0,
-                    };
+                    return outcome_of(true, count, 0);
                 }
                 if count == room {
-                    return Listing {
-                        ok: true,
-                        count,
-                        more: item.key,
-                    };
+                    return outcome_of(true, count, item.key);
                 }
                 count += 1;
                 if item.key == high {
-                    return Listing {
-                        ok: true,
-                        count,
-                        more: 0,
-                    };
+                    return outcome_of(true, count, 0);
                 }
                 k = item.key;
                 strict = true;
             }
         }
     }
-    Listing {
-        ok: true,
-        count,
-        more: 0,
-    }
+    outcome_of(true, count, 0)
 }
 
 // The low 32 bits of a key.
@@ -548,6 +531,13 @@ pub enum SummaryAnswer {
     SummaryDamaged,
 }
 
+// Totals, and whether no damage was met.
+fn summing_of(ok: bool, totals: Totals) -> Summing
+    ensures { λ r. ⌜ (r .ok ≡ ok) × (r .totals ≡ totals) ⌝ }
+{
+    Summing { ok, totals }
+}
+
 // The totals of the records from low to high.
 pub fn sum(store: &[u32], f: Format, head: Head, low: u64, high: u64, today: u32) -> Summing
     requires { ⌜ (head .theta ≤ 6) × (head .capacity ≤ 64) × (head .taken ≤ 4096) × (1 ≤ head .levels) × (head .levels ≤ 32) × (low ≤ high) × (high < 2 ^ 32) ⌝ }
@@ -560,40 +550,25 @@ pub fn sum(store: &[u32], f: Format, head: Head, low: u64, high: u64, today: u32
         let a = next_under(store, f, head, strict, k);
         match a {
             Sought::Damaged => {
-                return Summing {
-                    ok: false,
-                    totals: totals::no_totals(),
-                };
+                return summing_of(false, totals::no_totals());
             }
             Sought::Nothing => {
-                return Summing {
-                    ok: true,
-                    totals: t,
-                };
+                return summing_of(true, t);
             }
             Sought::Record(item) => {
                 if item.key > high {
-                    return Summing {
-                        ok: true,
-                        totals: t,
-                    };
+                    return summing_of(true, t);
                 }
                 t = totals::added(t, item, today);
                 if item.key == high {
-                    return Summing {
-                        ok: true,
-                        totals: t,
-                    };
+                    return summing_of(true, t);
                 }
                 k = item.key;
                 strict = true;
             }
         }
     }
-    Summing {
-        ok: true,
-        totals: t,
-    }
+    summing_of(true, t)
 }
 
 fn wide(x: u32) -> u64

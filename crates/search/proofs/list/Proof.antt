@@ -8,7 +8,7 @@ use Rattle.search.specs.declared.Sought.{Sought}
 use Rattle.search.specs.declared.Sought.the-variants.{Record, Nothing, Damaged}
 use Rattle.search.specs.Next.{nextOf}
 use Rattle.search.specs.Range.{rangeFrom, ranged, listing}
-use Rattle.search.proofs.RangeLaws.{lead, lead-false, lead-true, outcome, outcome-start, next-lead, turn-damaged, turn-nothing, turn-passed, turn-full, turn-last, turn-on}
+use Rattle.search.proofs.RangeLaws.{listing-is, lead, lead-false, lead-true, outcome, outcome-start, next-lead, turn-damaged, turn-nothing, turn-passed, turn-full, turn-last, turn-on}
 use Rattle.search.proofs.list.Statement.{statement}
 use Rattle.search.proofs.list.Tie as tie
 
@@ -53,49 +53,69 @@ next-under-requires c κs = search needs
 enum-told : tie.Need-enum-told Inv-loop μ-loop
 enum-told c = search needs
 
+outcome-of-requires : tie.Need-outcome-of-requires Inv-loop μ-loop
+outcome-of-requires c κs = search needs
+
 returns : tie.Need-returns Inv-loop μ-loop
 returns c =
-    let p = c .before .before .before .before in (
-      sym (turn-damaged _ _ _ _ (p .loop .inv .0) _ _ _ _ (p .loop .inv .2) (left p) (sym (c .before .before .next-under .ensures) ∙ c .enum-told .given .1)) ∙ p .loop .inv .4,
+    rw (listing-is (c .outcome-of .result) _ _ _ (c .outcome-of .ensures))
+    (let p = c .before .before .before .before .before in (
+      sym (turn-damaged _ _ _ _ (p .loop .inv .0) _ _ _ _ (p .loop .inv .2) (left p) (sym (c .before .before .before .next-under .ensures) ∙ c .before .enum-told .given .1)) ∙ p .loop .inv .4,
       omega arith,
-    )
+    ))
 
 enum-told-2 : tie.Need-enum-told-2 Inv-loop μ-loop
 enum-told-2 c = search needs
 
+outcome-of-requires-2 : tie.Need-outcome-of-requires-2 Inv-loop μ-loop
+outcome-of-requires-2 c κs = search needs
+
 returns-2 : tie.Need-returns-2 Inv-loop μ-loop
 returns-2 c =
-    let p = c .before .before .before .before in (
-      sym (turn-nothing _ _ _ _ (p .loop .inv .0) _ _ _ _ (p .loop .inv .2) (left p) (sym (c .before .before .next-under .ensures) ∙ c .enum-told2 .given .1)) ∙ p .loop .inv .4,
+    rw (listing-is (c .outcome-of2 .result) _ _ _ (c .outcome-of2 .ensures))
+    (let p = c .before .before .before .before .before in (
+      sym (turn-nothing _ _ _ _ (p .loop .inv .0) _ _ _ _ (p .loop .inv .2) (left p) (sym (c .before .before .before .next-under .ensures) ∙ c .before .enum-told2 .given .1)) ∙ p .loop .inv .4,
       p .loop .inv .2,
-    )
+    ))
 
 enum-known-a : tie.Need-enum-known-a Inv-loop μ-loop
 enum-known-a c = search needs
 
+outcome-of-requires-3 : tie.Need-outcome-of-requires-3 Inv-loop μ-loop
+outcome-of-requires-3 c κs = search needs
+
 returns-3 : tie.Need-returns-3 Inv-loop μ-loop
 returns-3 c =
-    let p = c .before .before .before .before .before .before .before in (
-      sym (turn-passed _ _ _ _ (p .loop .inv .0) _ _ _ _ (p .loop .inv .2) (left p) _ (record-is (c .before .before .before)) (c .if1 .taken)) ∙ p .loop .inv .4,
+    rw (listing-is (c .outcome-of3 .result) _ _ _ (c .outcome-of3 .ensures))
+    (let p = c .before .before .before .before .before .before .before .before in (
+      sym (turn-passed _ _ _ _ (p .loop .inv .0) _ _ _ _ (p .loop .inv .2) (left p) _ (record-is (c .before .before .before .before)) (c .before .if1 .taken)) ∙ p .loop .inv .4,
       p .loop .inv .2,
-    )
+    ))
+
+outcome-of-requires-4 : tie.Need-outcome-of-requires-4 Inv-loop μ-loop
+outcome-of-requires-4 c κs = search needs
 
 returns-4 : tie.Need-returns-4 Inv-loop μ-loop
 returns-4 c =
-    let p = c .before .before .before .before .before .before .before .before in (
-      sym (turn-full _ _ _ _ (p .loop .inv .0) _ _ _ _ (p .loop .inv .2) (left p) _ (record-is (c .before .before .before .before)) (c .before .if1 .left) (c .if2 .taken)) ∙ p .loop .inv .4,
+    rw (listing-is (c .outcome-of4 .result) _ _ _ (c .outcome-of4 .ensures))
+    (let p = c .before .before .before .before .before .before .before .before .before in (
+      sym (turn-full _ _ _ _ (p .loop .inv .0) _ _ _ _ (p .loop .inv .2) (left p) _ (record-is (c .before .before .before .before .before)) (c .before .before .if1 .left) (c .before .if2 .taken)) ∙ p .loop .inv .4,
       p .loop .inv .2,
-    )
+    ))
 
 add-count : tie.Need-add-count Inv-loop μ-loop
 add-count c = omega (arith, c .before .before .before .before .before .before .before .before .loop .inv .2, c .if2 .left)
 
+outcome-of-requires-5 : tie.Need-outcome-of-requires-5 Inv-loop μ-loop
+outcome-of-requires-5 c κs = search needs
+
 returns-5 : tie.Need-returns-5 Inv-loop μ-loop
 returns-5 c =
-    let p = c .before .before .before .before .before .before .before .before .before .before in (
-      sym (turn-last _ _ _ _ (p .loop .inv .0) _ _ _ _ (p .loop .inv .2) (left p) _ (record-is (c .before .before .before .before .before .before)) (c .before .before .if2 .left) (c .if3 .taken)) ∙ p .loop .inv .4,
-      omega (arith, p .loop .inv .2, c .before .before .if2 .left),
-    )
+    rw (listing-is (c .outcome-of5 .result) _ _ _ (c .outcome-of5 .ensures))
+    (let p = c .before .before .before .before .before .before .before .before .before .before .before in (
+      sym (turn-last _ _ _ _ (p .loop .inv .0) _ _ _ _ (p .loop .inv .2) (left p) _ (record-is (c .before .before .before .before .before .before .before)) (c .before .before .before .if2 .left) (c .before .if3 .taken)) ∙ p .loop .inv .4,
+      omega (arith, p .loop .inv .2, c .before .before .before .if2 .left),
+    ))
 
 loop-less : tie.Need-loop-less Inv-loop μ-loop
 loop-less c = omega (arith, lead-true, record-on (c .before .before))
@@ -111,8 +131,13 @@ loop-again c =
           ∙ p .loop .inv .4,
     )
 
+outcome-of-requires-6 : tie.Need-outcome-of-requires-6 Inv-loop μ-loop
+outcome-of-requires-6 c κs = search needs
+
 returns-6 : tie.Need-returns-6 Inv-loop μ-loop
-returns-6 c = absurd (omega (arith, c .before .loop .inv .3))
+returns-6 c =
+    rw (listing-is (c .outcome-of6 .result) _ _ _ (c .outcome-of6 .ensures))
+    (absurd (omega (arith, c .before .before .loop .inv .3)))
 
 pub list-spec : {M : Type 1} → statement M
 list-spec =
@@ -123,14 +148,20 @@ list-spec =
     loop-holds
     next-under-requires
     enum-told
+    outcome-of-requires
     returns
     enum-told-2
+    outcome-of-requires-2
     returns-2
     enum-known-a
+    outcome-of-requires-3
     returns-3
+    outcome-of-requires-4
     returns-4
     add-count
+    outcome-of-requires-5
     returns-5
     loop-less
     loop-again
+    outcome-of-requires-6
     returns-6)

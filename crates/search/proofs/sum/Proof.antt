@@ -10,7 +10,7 @@ use Rattle.search.specs.declared.Sought.{Sought}
 use Rattle.search.specs.declared.Sought.the-variants.{Record, Nothing, Damaged}
 use Rattle.search.specs.Next.{nextOf}
 use Rattle.search.specs.Summary.{sumFrom, summed}
-use Rattle.search.proofs.RangeLaws.{lead, lead-false, lead-true, next-lead, adds-damaged, adds-nothing, adds-passed, adds-last, adds-on}
+use Rattle.search.proofs.RangeLaws.{summing-is, lead, lead-false, lead-true, next-lead, adds-damaged, adds-nothing, adds-passed, adds-last, adds-on}
 use Rattle.search.proofs.sum.Statement.{statement}
 use Rattle.search.proofs.sum.Tie as tie
 
@@ -61,38 +61,54 @@ enum-told c = search needs
 no-totals-requires-2 : tie.Need-no-totals-requires-2 Inv-loop μ-loop
 no-totals-requires-2 c κs = search needs
 
+summing-of-requires : tie.Need-summing-of-requires Inv-loop μ-loop
+summing-of-requires c κs = search needs
+
 returns : tie.Need-returns Inv-loop μ-loop
 returns c =
-    let p = c .before .before .before .before .before in
-    rw (c .no-totals2 .ensures)
-    (sym (adds-damaged _ _ _ _ _ (p .loop .inv .0) _ _ _ (left p) (sym (c .before .before .before .next-under .ensures) ∙ c .before .enum-told .given .1)) ∙ p .loop .inv .5)
+    rw (summing-is (c .summing-of .result) _ _ (c .summing-of .ensures))
+    (let p = c .before .before .before .before .before .before in
+    rw (c .before .no-totals2 .ensures)
+    (sym (adds-damaged _ _ _ _ _ (p .loop .inv .0) _ _ _ (left p) (sym (c .before .before .before .before .next-under .ensures) ∙ c .before .before .enum-told .given .1)) ∙ p .loop .inv .5))
 
 enum-told-2 : tie.Need-enum-told-2 Inv-loop μ-loop
 enum-told-2 c = search needs
 
+summing-of-requires-2 : tie.Need-summing-of-requires-2 Inv-loop μ-loop
+summing-of-requires-2 c κs = search needs
+
 returns-2 : tie.Need-returns-2 Inv-loop μ-loop
 returns-2 c =
-    let p = c .before .before .before .before in
-    sym (adds-nothing _ _ _ _ _ (p .loop .inv .0) _ _ _ (left p) (sym (c .before .before .next-under .ensures) ∙ c .enum-told2 .given .1)) ∙ p .loop .inv .5
+    rw (summing-is (c .summing-of2 .result) _ _ (c .summing-of2 .ensures))
+    (let p = c .before .before .before .before .before in
+    sym (adds-nothing _ _ _ _ _ (p .loop .inv .0) _ _ _ (left p) (sym (c .before .before .before .next-under .ensures) ∙ c .before .enum-told2 .given .1)) ∙ p .loop .inv .5)
 
 enum-known-a : tie.Need-enum-known-a Inv-loop μ-loop
 enum-known-a c = search needs
 
+summing-of-requires-3 : tie.Need-summing-of-requires-3 Inv-loop μ-loop
+summing-of-requires-3 c κs = search needs
+
 returns-3 : tie.Need-returns-3 Inv-loop μ-loop
 returns-3 c =
-    let p = c .before .before .before .before .before .before .before in
-    sym (adds-passed _ _ _ _ _ (p .loop .inv .0) _ _ _ (left p) _ (record-is (c .before .before .before)) (c .if1 .taken)) ∙ p .loop .inv .5
+    rw (summing-is (c .summing-of3 .result) _ _ (c .summing-of3 .ensures))
+    (let p = c .before .before .before .before .before .before .before .before in
+    sym (adds-passed _ _ _ _ _ (p .loop .inv .0) _ _ _ (left p) _ (record-is (c .before .before .before .before)) (c .before .if1 .taken)) ∙ p .loop .inv .5)
 
 added-requires : tie.Need-added-requires Inv-loop μ-loop
 added-requires c κs =
     let l = c .before .before .before .before .before .before .before .loop in
     bounded-room (l .t) (l .inv .3) (omega (arith, l .inv .4, record-on (c .before .before .before), c .if1 .left))
 
+summing-of-requires-4 : tie.Need-summing-of-requires-4 Inv-loop μ-loop
+summing-of-requires-4 c κs = search needs
+
 returns-4 : tie.Need-returns-4 Inv-loop μ-loop
 returns-4 c =
-    let p = c .before .before .before .before .before .before .before .before .before .before in
-    rw (c .before .before .added .ensures)
-    (sym (adds-last _ _ _ _ _ (p .loop .inv .0) _ _ _ (left p) _ (record-is (c .before .before .before .before .before .before)) (c .if2 .taken)) ∙ p .loop .inv .5)
+    rw (summing-is (c .summing-of4 .result) _ _ (c .summing-of4 .ensures))
+    (let p = c .before .before .before .before .before .before .before .before .before .before .before in
+    rw (c .before .before .before .added .ensures)
+    (sym (adds-last _ _ _ _ _ (p .loop .inv .0) _ _ _ (left p) _ (record-is (c .before .before .before .before .before .before .before)) (c .before .if2 .taken)) ∙ p .loop .inv .5))
 
 loop-less : tie.Need-loop-less Inv-loop μ-loop
 loop-less c = omega (arith, lead-true, record-on (c .before .before .before .before .before .before))
@@ -110,8 +126,13 @@ loop-again c =
       sym (adds-on _ _ _ _ _ (p .loop .inv .0) _ _ _ (left p) _ (record-is a) (omega (arith, c .before .before .before .if1 .left, c .if2 .left))) ∙ p .loop .inv .5,
     )
 
+summing-of-requires-5 : tie.Need-summing-of-requires-5 Inv-loop μ-loop
+summing-of-requires-5 c κs = search needs
+
 returns-5 : tie.Need-returns-5 Inv-loop μ-loop
-returns-5 c = absurd (omega (arith, c .before .loop .inv .2))
+returns-5 c =
+    rw (summing-is (c .summing-of5 .result) _ _ (c .summing-of5 .ensures))
+    (absurd (omega (arith, c .before .before .loop .inv .2)))
 
 pub sum-spec : {M : Type 1} → statement M
 sum-spec =
@@ -124,13 +145,18 @@ sum-spec =
     next-under-requires
     enum-told
     no-totals-requires-2
+    summing-of-requires
     returns
     enum-told-2
+    summing-of-requires-2
     returns-2
     enum-known-a
+    summing-of-requires-3
     returns-3
     added-requires
+    summing-of-requires-4
     returns-4
     loop-less
     loop-again
+    summing-of-requires-5
     returns-5)
