@@ -13,7 +13,7 @@ ghost use mathlib.Core.Bool.{false};
 ghost use mathlib.Core.List.{_++_};
 ghost use Rattle.search.specs.Range.{itemWords, flat, ranged, listing, firsts, rangeReply, rangeOf};
 ghost use Rattle.search.specs.Summary.{summed, summaryReply, summaryOf};
-ghost use Rattle.search.specs.Descent.{stepOf, descent};
+ghost use Rattle.search.specs.Descent.{stepOf, lost, descent};
 ghost use Rattle.search.specs.Find.{reply, soughtReply, soundPage, inPage, findOf, findReply};
 ghost use Rattle.search.specs.Next.{firstPointer, runAfter, visitAfter, linked, onward, hop, follow, afterOwn, nextOf, nextReply};
 
@@ -99,6 +99,24 @@ pub fn visit_node(
     }
 }
 
+// A way that met damage.
+fn lost_way() -> Descent
+    ensures { λ r. ⌜ r ≡ lost ⌝ }
+{
+    let blank = Step {
+        node: 0,
+        entry: 0,
+        depth: 0,
+        used: 0,
+    };
+    Descent {
+        ok: false,
+        page: 0,
+        used: 0,
+        steps: [blank; 32],
+    }
+}
+
 // The way of a key from the root down to its page.
 pub fn descend(store: &[u32], f: Format, head: Head, key: u64) -> Descent
     requires { ⌜ (head .theta ≤ 6) × (head .levels ≤ 32) ⌝ }
@@ -117,12 +135,7 @@ pub fn descend(store: &[u32], f: Format, head: Head, key: u64) -> Descent
     while level > 0 {
         let v = visit_node(store, f, head, key, level as u32, node, used);
         if !v.ok {
-            return Descent {
-                ok: false,
-                page: 0,
-                used: 0,
-                steps: [blank; 32],
-            };
+            return lost_way();
         }
         level -= 1;
         steps[level] = Step {

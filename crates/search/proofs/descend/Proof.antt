@@ -12,11 +12,11 @@ use Rattle.search.proofs.descend.Statement.{statement}
 use Rattle.search.proofs.descend.Tie as tie
 
 abbrev Inv-loop : tie.InvT-loop
-Inv-loop store f head key blank steps₀ node₀ used₀ level₀ steps node used level =
+Inv-loop store f head key steps₀ node₀ used₀ level₀ steps node used level =
     (level ≤ 32) × (used ≤ width f) × (descend f store head key level node used steps ≡ descent f store head key)
 
 abbrev μ-loop : tie.MeasureT-loop
-μ-loop store f head key blank steps₀ node₀ used₀ level₀ steps node used level = level
+μ-loop store f head key steps₀ node₀ used₀ level₀ steps node used level = level
 
 wide-requires : tie.Need-wide-requires Inv-loop μ-loop
 wide-requires c κs = search needs
@@ -31,9 +31,14 @@ cast-visit-node c = search needs
 visit-node-requires : tie.Need-visit-node-requires Inv-loop μ-loop
 visit-node-requires c κs = search needs
 
+lost-way-requires : tie.Need-lost-way-requires Inv-loop μ-loop
+lost-way-requires c κs = search needs
+
 returns : tie.Need-returns Inv-loop μ-loop
-unfolding lost noSteps
-returns c = (turn-lost _ _ _ _ _ _ _ _ _ (c .before .before .visit-node .ensures .0) (omega arith) _ (c .before .before .before .before .loop .inv .2) (not-true _ (c .if1 .taken)), omega arith)
+unfolding lost
+returns c =
+    rw (c .lost-way .ensures)
+    (turn-lost _ _ _ _ _ _ _ _ _ (c .before .before .before .visit-node .ensures .0) (omega arith) _ (c .before .before .before .before .before .loop .inv .2) (not-true _ (c .before .if1 .taken)), omega arith)
 
 sub-level : tie.Need-sub-level Inv-loop μ-loop
 sub-level c = search needs
@@ -69,6 +74,7 @@ descend-spec =
     loop-holds
     cast-visit-node
     visit-node-requires
+    lost-way-requires
     returns
     sub-level
     mul-steps
