@@ -1,0 +1,6 @@
+pub mod Labelled
+pub mod Image
+pub mod Rep
+pub mod Listing
+pub mod Clauses
+pub mod Promises

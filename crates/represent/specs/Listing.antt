@@ -1,0 +1,65 @@
+-- What the readings are to give, read off the ascending list S of the records held.
+--   firstWhere test S     == the first record that passes the test, or none
+--   within low high S     == the records with keys from low to high
+--   rangedIn S low high n == a range with room for n records
+--   findIn, nextIn, rangeIn, summaryIn == the replies
+use mathlib.Core.Bool.{Bool, true, false, _&&_}
+use mathlib.Core.List.{List, [], _∷_}
+use Prim.Native.Nat.{ℕ, _/_}
+use lib.Dec.{leb, ltb, eqb}
+use lib.ListN.{length, take, drop}
+use Rattle.lists.specs.Lists.{filter}
+use Rattle.plot.specs.Plot.{lawfulDay}
+use Rattle.store.specs.declared.Format.{Format}
+use Rattle.store.specs.declared.Item.{Item}
+use Rattle.store.specs.Format.{words}
+use Rattle.page.specs.Page.{above}
+use Rattle.totals.specs.Totals.{noTotals, totalsOf}
+use Rattle.search.specs.declared.Sought.{Sought}
+use Rattle.search.specs.declared.Sought.the-variants.{Record, Nothing}
+use Rattle.search.specs.Find.{Reply, soughtReply}
+use Rattle.search.specs.Range.{Ranged, After, refused, listed}
+use Rattle.search.specs.Summary.{SummaryReply, done, summingReply}
+
+unfoldable pub firstWhere : (Item → Bool) → List Item → Sought
+firstWhere test [] = Nothing
+firstWhere test (it ∷ its) = elim (test it) [ true ↦ Record it | false ↦ firstWhere test its ]
+
+-- "Find gives the record or none."
+unfoldable pub findIn : List Item → ℕ → Reply
+findIn S k = soughtReply (firstWhere (λ it. eqb (it .key) k) S)
+
+-- "Next gives the smallest key above the given one .. or none." (S ascends: the smallest is the first.)
+unfoldable pub nextIn : List Item → ℕ → Reply
+nextIn S k = soughtReply (firstWhere (λ it. above true k (it .key)) S)
+
+unfoldable pub within : ℕ → ℕ → List Item → List Item
+within low high = filter (λ it. leb low (it .key) && leb (it .key) high)
+
+-- the key of the first record, 0 if there is none
+unfoldable pub firstKey : List Item → ℕ
+firstKey [] = 0
+firstKey (it ∷ its) = it .key
+
+-- "as many whole records as fit .. and the range's first key not written, or 0"
+unfoldable pub rangedIn : List Item → ℕ → ℕ → ℕ → Ranged
+rangedIn S low high n = record { ok = true; items = take n (within low high S); more = firstKey (drop n (within low high S)) }
+
+unfoldable pub rangeIn : Format → List Item → ℕ → ℕ → List ℕ → After
+rangeIn f S low high out =
+    elim (ltb high low) [
+      | true ↦ record { reply = refused 7; words = out }
+      | false ↦ listed f out (rangedIn S low high (length out / words f))
+    ]
+
+-- "count, total balance (64 bits), and the key of the earliest last day among leased records"
+unfoldable pub summaryIn : List Item → ℕ → ℕ → ℕ → SummaryReply
+summaryIn S low high today =
+    elim (ltb high low) [
+      | true ↦ Rattle.search.specs.Summary.refused 7
+      | false ↦
+          elim (lawfulDay today) [
+            | false ↦ Rattle.search.specs.Summary.refused 6
+            | true ↦ summingReply (done (totalsOf noTotals (within low high S) today))
+          ]
+    ]

@@ -1,0 +1,123 @@
+-- What a store's words stand for. Document 01, "A store holds a tree, block numbers apart, when ..".
+-- The tree is given by tries: b0 for the level-0 stretches, each leaf with its page's number (0 for null) and its records; bs for the levels
+-- 1, 2, .., each leaf with its node's number.
+--   numbers b0, contents b0 == the page numbers, and the records, of b0
+--   Nodes node root levels k u bs == the nodes of the levels above k: each shows what stands below it; u is level k, and root and levels end the tower
+--   Links node bs     == the links of all nodes
+--   Directory θ node root levels taken u bs == the node blocks in use are those of the levels bs over u
+--   PageIs f s h x    == the page block of a level-0 stretch x
+--   Keyed w q t       == every record stands in the stretch of its key; t is the stretch with the prefix q, which leaves w bits
+--   Pages f s h b0    == the page blocks in use are those of b0
+--   Rep f s b0 bs     == the words s stand for the tries b0 and bs
+--   Holds f s S       == the store s holds the tree of the ascending list S
+use mathlib.Core.Path.{_≡_}
+use mathlib.Core.Bool.{true}
+use mathlib.Core.List.{List, [], _∷_, map}
+use Prim.Native.Nat.{ℕ, zero, suc, _+_, _*_, _≤_, _<_}
+use lib.ListN.{length, replicate}
+use Rattle.lists.specs.Lists.{All}
+use Rattle.lists.specs.Keyed.{Sorted, Prefix}
+use Rattle.tree.specs.Trie.{Trie, leaf, fork, Shape, shape, labels}
+use Rattle.tree.specs.Tower.{tower}
+use Rattle.tree.specs.Build.{build}
+use Rattle.store.specs.declared.Format.{Format}
+use Rattle.store.specs.declared.Head.{Head}
+use Rattle.store.specs.declared.Item.{Item}
+use Rattle.store.specs.Format.{width}
+use Rattle.store.specs.Head.{headOf, lawfulSizes, zeros, size, nodeWords, pageWords, pageAt}
+use Rattle.store.specs.Node.{backWord, forwardWord}
+use Rattle.page.specs.Page.{lawfulItem}
+use Rattle.represent.specs.Labelled.{relabel, Each, occ, occs, OneForOne, Over, Linked}
+use Rattle.represent.specs.Image.{pageImage, nodeAt, NodeIs}
+
+-- a level-0 stretch: its page's number and its records
+abbrev pub Stretch : Type 0
+Stretch = ℕ × List Item
+
+abbrev pub numbers : Trie Stretch → Trie ℕ
+numbers = relabel (λ x. x .0)
+
+abbrev pub contents : Trie Stretch → Trie (List Item)
+contents = relabel (λ x. x .1)
+
+abbrev pub keyOf : Item → ℕ
+keyOf it = it .key
+
+-- node n is the block `node n`
+module _ (θ : ℕ) (node : ℕ → List ℕ) where
+  -- "its levels are the tree's", "the root for all keys; each node with its level, its largest h as H, its runs in key order, each with its h
+  -- and pointing to its stretch's block"
+  abbrev pub Nodes : ℕ → ℕ → ℕ → Trie ℕ → List (Trie ℕ) → Type 0
+  Nodes root levels k u [] = (u ≡ leaf root) × (levels ≡ k)
+  Nodes root levels k u (b ∷ bs) = Over (λ n v. NodeIs θ (node n) (suc k) v) b u × Nodes root levels (suc k) b bs
+
+  abbrev pub backOf : ℕ → ℕ
+  backOf n = backWord (node n) 0
+
+  abbrev pub forwardOf : ℕ → ℕ
+  forwardOf n = forwardWord (node n) 0
+
+  pub record Unlinked (n : ℕ) : Type 0 where
+    pub no-back : backOf n ≡ 0
+    pub no-forward : forwardOf n ≡ 0
+
+  -- "level-1 links in key order"; "others have links 0"
+  abbrev pub Links : List (Trie ℕ) → Type 0
+  Links [] = ⊥
+  Links (b ∷ bs) = Linked backOf forwardOf 0 (labels b) × ((n : ℕ) → 1 ≤ occs n bs → Unlinked n)
+
+  pub record Directory (root levels taken : ℕ) (u : Trie ℕ) (bs : List (Trie ℕ)) : Type 0 where
+    pub nodes : Nodes root levels 0 u bs
+    pub links : Links bs
+    -- "its blocks in use, here all taken ones, are the tree's nodes and pages, one for one"
+    pub oneForOne : OneForOne taken (λ n. occs n bs)
+    pub positive : occs 0 bs ≡ 0
+    -- the levels are those of "the tree of a set"
+    pub levels-are : map shape bs ≡ tower θ (shape u)
+
+module _ (f : Format) (s : List ℕ) (h : Head) where
+  -- "pointing to its stretch's block (null for an empty level-0 stretch)", "each page with its records"
+  abbrev pub PageIs : Stretch → Type 0
+  PageIs (p, []) = p ≡ 0
+  PageIs (p, r ∷ rs) = (1 ≤ p) × (pageAt f s h p ≡ pageImage f (h .capacity) (r ∷ rs))
+
+  -- "A visited page has 1 to C lawful records, ascending"
+  pub record Lawful (x : Stretch) : Type 0 where
+    pub page : PageIs x
+    pub fits : length (x .1) ≤ h .capacity
+    pub lawful : All (λ it. lawfulItem f it ≡ true) (x .1)
+    pub sorted : Sorted keyOf (x .1)
+
+  -- "a stretch is all keys with one prefix"
+  abbrev pub Keyed : ℕ → ℕ → Trie Stretch → Type 0
+  Keyed w q (leaf x) = Prefix keyOf w q (x .1)
+  Keyed zero q (fork l r) = ⊥
+  Keyed (suc w) q (fork l r) = Keyed w (2 * q) l × Keyed w (2 * q + 1) r
+
+  pub record Pages (b0 : Trie Stretch) : Type 0 where
+    pub each : Each Lawful b0
+    pub keyed : Keyed (width f) 0 b0
+    pub oneForOne : OneForOne (h .filled) (λ p. occ p (numbers b0))
+
+module _ (f : Format) (s : List ℕ) where
+  pub record Rep (b0 : Trie Stretch) (bs : List (Trie ℕ)) : Type 0 where
+    -- "θ (1 to 6), page capacity C (1 to 64), node blocks N and page blocks P (1 to 4,096 each)", "eight zeros", "the slice has the size"
+    pub sizes : lawfulSizes (headOf s .theta) (headOf s .capacity) (headOf s .nodes) (headOf s .pages) ≡ true
+    pub spare : zeros s 8 8 ≡ true
+    pub long : size f (headOf s .theta) (headOf s .capacity) (headOf s .nodes) (headOf s .pages) ≤ length s
+    pub nodes-fit : headOf s .taken ≤ headOf s .nodes
+    pub pages-fit : headOf s .filled ≤ headOf s .pages
+    pub directory : Directory (headOf s .theta) (nodeAt s (headOf s)) (headOf s .root) (headOf s .levels) (headOf s .taken) (numbers b0) bs
+    pub pages : Pages f s (headOf s) b0
+    -- "Words not in use are zero."
+    pub free-nodes : (n : ℕ) → headOf s .taken < n → n ≤ headOf s .nodes → nodeAt s (headOf s) n ≡ replicate (nodeWords (headOf s .theta)) 0
+    pub free-pages : (p : ℕ) → headOf s .filled < p → p ≤ headOf s .pages → pageAt f s (headOf s) p ≡ replicate (pageWords f (headOf s .capacity)) 0
+
+  pub record Holds (S : List Item) : Type 0 where
+    pub b0 : Trie Stretch
+    pub bs : List (Trie ℕ)
+    pub rep : Rep b0 bs
+    -- "Each non-empty level-0 stretch is a page": the stretches are those of the tree of S
+    pub tree : contents b0 ≡ build keyOf (headOf s .capacity) (width f) S
+    pub sorted : Sorted keyOf S
+    pub lawful : All (λ it. lawfulItem f it ≡ true) S

@@ -1,0 +1,1 @@
+// What a store's words mean: theory only, no functions.
