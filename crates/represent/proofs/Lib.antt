@@ -1,1 +1,3 @@
 pub mod LabelLaws
+pub mod ImageLaws
+pub mod RepLaws

@@ -1,0 +1,140 @@
+-- The words of a block, read in place. A node block that shows a trie v has v's entries at their places and zeros after them; a page block with
+-- records rs gives them back one by one.
+--   Shown s a θ level v == the words of s from a on are a node block of this level with the entries of v
+use mathlib.Core.Path.{_≡_, refl, sym, ap, ap₂, _∙_, subst}
+use mathlib.Core.Bool.{true}
+use mathlib.Core.List.{List, [], _∷_, _++_}
+use Prim.Native.Nat.{ℕ, zero, suc, _+_, _-_, _*_, _^_, _≤_, _<_}
+use native.Mathlib.Omega.{arith}
+use native.Mathlib.Nat.{mul-le-mul-right}
+use lib.Dec.{eqb}
+use lib.Pow.{pow-mono}
+use lib.ListN.{length, getD, take, drop, replicate, length-append, length-replicate, List·getD-append}
+use lib.Seq.{getD-take, getD-drop}
+use borrow.Author.Tests.{eq-eqb}
+use Rattle.lists.specs.Lists.{part, every}
+use Rattle.lists.proofs.Parts.{part-in, getD-past}
+use Rattle.lists.proofs.Tests.{every-of}
+use Rattle.tree.specs.Trie.{Trie, height}
+use Rattle.tree.specs.Node.{Entry, flatten}
+use Rattle.tree.proofs.Flatten.{length-flatten}
+use Rattle.store.specs.declared.Format.{Format}
+use Rattle.store.specs.declared.Head.{Head}
+use Rattle.store.specs.Head.{word, zeros, nodeWords, nodeStart, pageWords, size}
+use Rattle.store.specs.Node.{depthWord, levelWord, backWord, forwardWord, entryDepth, entryPointer, entryOf}
+use Rattle.represent.specs.Image.{entryWords, nodeImage, nodeAt, NodeIs}
+
+pub part-word : (s : List ℕ) (a n i : ℕ) → a + n ≤ length s → i < n → word (part s a n) i ≡ word s (a + i)
+part-word s a n i h l = ap (λ ws. getD ws i 0) (part-in s a n h) ∙ getD-take n (drop a s) i 0 l ∙ getD-drop a s i 0
+
+length-entryWords : (es : List (Entry ℕ)) → length (entryWords es) ≡ 2 * length es
+length-entryWords [] = refl
+length-entryWords (e ∷ es) = omega (arith, length-entryWords es)
+
+entry-depth : (es : List (Entry ℕ)) (ws : List ℕ) (j i : ℕ) → j < length es → i ≡ 2 * j → getD (entryWords es ++ ws) i 0 ≡ getD es j (0, 0) .0
+entry-depth [] ws j i l e = absurd (omega arith)
+entry-depth (x ∷ es) ws zero zero l e = refl
+entry-depth (x ∷ es) ws zero (suc i) l e = absurd (omega arith)
+entry-depth (x ∷ es) ws (suc j) zero l e = absurd (omega arith)
+entry-depth (x ∷ es) ws (suc j) (suc zero) l e = absurd (omega arith)
+entry-depth (x ∷ es) ws (suc j) (suc (suc i)) l e = entry-depth es ws j i (omega arith) (omega arith)
+
+entry-pointer : (es : List (Entry ℕ)) (ws : List ℕ) (j i : ℕ) → j < length es → i ≡ 2 * j + 1 → getD (entryWords es ++ ws) i 0 ≡ getD es j (0, 0) .1
+entry-pointer [] ws j i l e = absurd (omega arith)
+entry-pointer (x ∷ es) ws zero zero l e = absurd (omega arith)
+entry-pointer (x ∷ es) ws zero (suc zero) l e = refl
+entry-pointer (x ∷ es) ws zero (suc (suc i)) l e = absurd (omega arith)
+entry-pointer (x ∷ es) ws (suc j) zero l e = absurd (omega arith)
+entry-pointer (x ∷ es) ws (suc j) (suc zero) l e = absurd (omega arith)
+entry-pointer (x ∷ es) ws (suc j) (suc (suc i)) l e = entry-pointer es ws j i (omega arith) (omega arith)
+
+getD-zeros : (n i : ℕ) → _≡_ {A = ℕ} (getD (replicate n 0) i 0) 0
+getD-zeros zero i = refl
+getD-zeros (suc n) zero = refl
+getD-zeros (suc n) (suc i) = getD-zeros n i
+
+pub record Shown (s : List ℕ) (a θ level : ℕ) (v : Trie ℕ) : Type 0 where
+  pub low : height v ≤ θ
+  pub depth : depthWord s a ≡ height v
+  pub level-is : levelWord s a ≡ level
+  pub entry : (j : ℕ) → j < 2 ^ height v → entryOf s a j ≡ getD (flatten (height v) v 0) j (0, 0)
+  pub blank : zeros s (a + 4 + 2 * 2 ^ height v) (2 * (2 ^ θ - 2 ^ height v)) ≡ true
+
+module _ (s : List ℕ) (a θ level back forward : ℕ) (v : Trie ℕ) (fits : a + nodeWords θ ≤ length s) (low : height v ≤ θ)
+    (is : part s a (nodeWords θ) ≡ nodeImage θ level back forward v) where
+  abbrev tail : List ℕ
+  tail = entryWords (flatten (height v) v 0) ++ replicate (2 * (2 ^ θ - 2 ^ height v)) 0
+
+  -- word i of the block
+  at : (i : ℕ) → i < nodeWords θ → word s (a + i) ≡ word (nodeImage θ level back forward v) i
+  at i l = sym (part-word s a (nodeWords θ) i fits l) ∙ ap (λ ws. word ws i) is
+
+  -- a word after the four
+  past : (i : ℕ) → i < 2 * 2 ^ θ → word s (a + 4 + i) ≡ getD tail i 0
+  unfolding nodeWords nodeImage
+  past i l = let e : a + 4 + i ≡ a + (4 + i) = omega arith in ap (word s) e ∙ at (4 + i) (omega arith) ∙ four i
+    where
+      four : (i : ℕ) → word (height v ∷ level ∷ back ∷ forward ∷ tail) (4 + i) ≡ getD tail i 0
+      four i = getD-past (height v ∷ level ∷ back ∷ forward ∷ []) tail 0 i refl
+
+  pows : 2 ^ height v ≤ 2 ^ θ
+  pows = pow-mono {i = height v} {j = θ} low
+
+  long : length (flatten (height v) v 0) ≡ 2 ^ height v
+  long = length-flatten (height v) v 0
+
+  pub image-back : backWord s a ≡ back
+  unfolding nodeWords nodeImage
+  image-back = at 2 (omega arith)
+
+  pub image-forward : forwardWord s a ≡ forward
+  unfolding nodeWords nodeImage
+  image-forward = at 3 (omega arith)
+
+  pub image-shown : Shown s a θ level v
+  unfolding nodeWords nodeImage zeros
+  image-shown =
+      record {
+        low = low;
+        depth = let e : a ≡ a + 0 = omega arith in ap (word s) e ∙ at 0 (omega arith);
+        level-is = at 1 (omega arith);
+        entry = λ j l. ap₂ (λ d p. (d, p))
+            (past (2 * j) (omega (arith, pows)) ∙ entry-depth (flatten (height v) v 0) _ j (2 * j) (omega (arith, long)) refl)
+            (let e : a + 5 + 2 * j ≡ a + 4 + (2 * j + 1) = omega arith in
+            ap (word s) e ∙ past (2 * j + 1) (omega (arith, pows)) ∙ entry-pointer (flatten (height v) v 0) _ j (2 * j + 1) (omega (arith, long)) refl);
+        blank = every-of (2 * (2 ^ θ - 2 ^ height v)) (λ j. eqb (word s (a + 4 + 2 * 2 ^ height v + j)) 0) (λ j l. eq-eqb _ 0 (zero-at j l));
+      }
+    where
+      zero-at : (j : ℕ) → j < 2 * (2 ^ θ - 2 ^ height v) → word s (a + 4 + 2 * 2 ^ height v + j) ≡ 0
+      zero-at j l =
+          let e : a + 4 + 2 * 2 ^ height v + j ≡ a + 4 + (2 * 2 ^ height v + j) = omega arith in
+          ap (word s) e ∙ past (2 * 2 ^ height v + j) (omega (arith, pows))
+          ∙ getD-past (entryWords (flatten (height v) v 0)) (replicate (2 * (2 ^ θ - 2 ^ height v)) 0) 0 j (omega (arith, length-entryWords (flatten (height v) v 0), long))
+          ∙ getD-zeros (2 * (2 ^ θ - 2 ^ height v)) j
+
+-- a taken node's block lies in the store
+pub node-fits : (f : Format) (h : Head) (n L : ℕ) → 1 ≤ n → n ≤ h .nodes → size f (h .theta) (h .capacity) (h .nodes) (h .pages) ≤ L
+    → nodeStart h n + nodeWords (h .theta) ≤ L
+unfolding nodeStart size
+node-fits f h n L low high room =
+    let e : n - 1 + 1 ≡ n = omega arith in
+    let m : n * nodeWords (h .theta) ≤ h .nodes * nodeWords (h .theta) = mul-le-mul-right (nodeWords (h .theta)) high in
+    omega (arith, m, ap (λ x. x * nodeWords (h .theta)) e)
+
+-- a node that shows a trie, in place: its words, and its links
+module _ (f : Format) (s : List ℕ) (h : Head) (n level : ℕ) (v : Trie ℕ) (low : 1 ≤ n) (high : n ≤ h .nodes)
+    (room : size f (h .theta) (h .capacity) (h .nodes) (h .pages) ≤ length s) (is : NodeIs (h .theta) (nodeAt s h n) level v) where
+  fits : nodeStart h n + nodeWords (h .theta) ≤ length s
+  fits = node-fits f h n (length s) low high room
+
+  pub node-shown : Shown s (nodeStart h n) (h .theta) level v
+  unfolding nodeAt
+  node-shown = image-shown s (nodeStart h n) (h .theta) level _ _ v fits (is .low) (is .image)
+
+  pub node-back : backWord s (nodeStart h n) ≡ backWord (nodeAt s h n) 0
+  unfolding nodeAt
+  node-back = image-back s (nodeStart h n) (h .theta) level _ _ v fits (is .low) (is .image)
+
+  pub node-forward : forwardWord s (nodeStart h n) ≡ forwardWord (nodeAt s h n) 0
+  unfolding nodeAt
+  node-forward = image-forward s (nodeStart h n) (h .theta) level _ _ v fits (is .low) (is .image)
