@@ -1,3 +1,4 @@
 pub mod LabelLaws
 pub mod ImageLaws
 pub mod RepLaws
+pub mod ClauseLaws
