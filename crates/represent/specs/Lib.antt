@@ -3,4 +3,5 @@ pub mod Image
 pub mod Rep
 pub mod Listing
 pub mod Clauses
+pub mod Example
 pub mod Promises
