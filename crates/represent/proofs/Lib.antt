@@ -3,3 +3,7 @@ pub mod ImageLaws
 pub mod RepLaws
 pub mod ClauseLaws
 pub mod Example
+pub mod AppendLaws
+pub mod FirstLaws
+pub mod ListingLaws
+pub mod Records

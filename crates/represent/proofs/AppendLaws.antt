@@ -1,0 +1,45 @@
+-- What holds of every element, or of every two, of one list after another; and filters that keep all or nothing.
+use mathlib.Core.Path.{_≡_, refl, sym, ap, _∙_}
+use mathlib.Core.Bool.{Bool, true, false}
+use mathlib.Core.List.{List, [], _∷_, _++_}
+use mathlib.Core.Logic.{inl, inr}
+use Rattle.lists.specs.Lists.{All, Pairwise, filter}
+use Rattle.lists.proofs.Cases.{bool-cases}
+use Rattle.lists.proofs.ListLaws.{filter-true, filter-false}
+
+module _ {A : Type 0} where
+  pub filter-every : (f : A → Bool) (xs : List A) → All (λ x. f x ≡ true) xs → filter f xs ≡ xs
+  filter-every f [] a = refl
+  filter-every f (x ∷ xs) a = filter-true f x xs (a .0) ∙ ap (λ (l : List A). x ∷ l) (filter-every f xs (a .1))
+
+  pub filter-none : (f : A → Bool) (xs : List A) → All (λ x. f x ≡ false) xs → filter f xs ≡ []
+  filter-none f [] a = refl
+  filter-none f (x ∷ xs) a = filter-false f x xs (a .0) ∙ filter-none f xs (a .1)
+
+  -- two tests that agree on the list
+  pub filter-same : (f g : A → Bool) (xs : List A) → All (λ x. f x ≡ g x) xs → filter f xs ≡ filter g xs
+  filter-same f g [] a = refl
+  filter-same f g (x ∷ xs) a =
+      elim (bool-cases (g x)) [
+        | inl e ↦ filter-true f x xs (a .0 ∙ e) ∙ ap (λ (l : List A). x ∷ l) (filter-same f g xs (a .1)) ∙ sym (filter-true g x xs e)
+        | inr e ↦ filter-false f x xs (a .0 ∙ e) ∙ filter-same f g xs (a .1) ∙ sym (filter-false g x xs e)
+      ]
+
+  module _ (P : A → Type 0) where
+    pub all-append : (xs ys : List A) → All P xs → All P ys → All P (xs ++ ys)
+    all-append [] ys a b = b
+    all-append (x ∷ xs) ys a b = (a .0, all-append xs ys (a .1) b)
+
+    pub all-right : (xs ys : List A) → All P (xs ++ ys) → All P ys
+    all-right [] ys a = a
+    all-right (x ∷ xs) ys a = all-right xs ys (a .1)
+
+  module _ (P : A → A → Type 0) where
+    pub pairwise-right : (xs ys : List A) → Pairwise P (xs ++ ys) → Pairwise P ys
+    pairwise-right [] ys a = a
+    pairwise-right (x ∷ xs) ys a = pairwise-right xs ys (a .1)
+
+    -- each element of the first list against the first of the second
+    pub pairwise-before : (xs : List A) (y : A) (ys : List A) → Pairwise P (xs ++ (y ∷ ys)) → All (λ x. P x y) xs
+    pairwise-before [] y ys a = tt
+    pairwise-before (x ∷ xs) y ys a = (all-right (P x) xs (y ∷ ys) (a .0) .0, pairwise-before xs y ys (a .1))
