@@ -48,7 +48,7 @@ entry-pointer (x ∷ es) ws (suc j) zero l e = absurd (omega arith)
 entry-pointer (x ∷ es) ws (suc j) (suc zero) l e = absurd (omega arith)
 entry-pointer (x ∷ es) ws (suc j) (suc (suc i)) l e = entry-pointer es ws j i (omega arith) (omega arith)
 
-getD-zeros : (n i : ℕ) → _≡_ {A = ℕ} (getD (replicate n 0) i 0) 0
+pub getD-zeros : (n i : ℕ) → _≡_ {A = ℕ} (getD (replicate n 0) i 0) 0
 getD-zeros zero i = refl
 getD-zeros (suc n) zero = refl
 getD-zeros (suc n) (suc i) = getD-zeros n i

@@ -7,3 +7,7 @@ pub mod AppendLaws
 pub mod FirstLaws
 pub mod ListingLaws
 pub mod Records
+pub mod PageImage
+pub mod Passes
+pub mod SetUpHolds
+pub mod HeadPasses

@@ -1,0 +1,121 @@
+-- A store that holds a set keeps the head rule. The root is the one label of the last level, so a taken node; the levels are those of the tree of the
+-- set, which are at most L.
+use mathlib.Core.Path.{_≡_, refl, sym, ap, _∙_}
+use mathlib.Core.Bool.{true}
+use mathlib.Core.List.{List, [], _∷_}
+use Prim.Native.Nat.{ℕ, zero, suc, _+_, _^_, _≤_, _<_}
+use native.Mathlib.Decide.{decLe, decLt}
+use native.Mathlib.Omega.{arith}
+use lib.Dec.{leb}
+use lib.ListN.{length, length-map}
+use lib.Pow.{pow-mono}
+use borrow.Author.Tests.{le-leb, lt-leb}
+use Rattle.lists.specs.Keyed.{Bounded}
+use Rattle.lists.proofs.ListLaws.{all-map}
+use Rattle.tree.specs.Trie.{Trie, leaf, fork, shape}
+use Rattle.tree.specs.Tower.{levels}
+use Rattle.tree.specs.Build.{build}
+use Rattle.tree.specs.Book.{logBelow, log2}
+use Rattle.tree.proofs.Promises.{levels-within}
+use Rattle.store.specs.declared.Format.{Format}
+use Rattle.store.specs.declared.Format.the-variants.{Plots}
+use Rattle.store.specs.declared.Head.{Head}
+use Rattle.store.specs.declared.Item.{Item}
+use Rattle.store.specs.Format.{width}
+use Rattle.store.specs.Head.{headOf}
+use Rattle.store.proofs.HeadLaws.{Limits, sizes-limits, Counts, counts-are, rule-is}
+use Rattle.page.specs.Page.{lawfulItem}
+use Rattle.page.proofs.Laws.{lawful-key}
+use Rattle.represent.specs.Labelled.{relabel, occs}
+use Rattle.represent.specs.Image.{nodeAt}
+use Rattle.represent.specs.Rep.{numbers, keyOf, Nodes, Links, Rep, Holds}
+use Rattle.represent.specs.Promises.{HeadPasses}
+use Rattle.represent.proofs.LabelLaws.{ind-self}
+use Rattle.represent.proofs.RepLaws.{label-low, label-high}
+
+-- the logarithm of the capacity is below the width
+log-lt : (n C m : ℕ) → 1 ≤ m → C < 2 ^ m → logBelow n C < m
+unfolding logBelow
+log-lt zero C m p h = omega arith
+log-lt (suc n) C m p h =
+    elim (decLe (2 ^ suc n) C) [
+      | yes a ↦ rw (le-leb (2 ^ suc n) C a, logBelow)
+          (elim (decLt (suc n) m) [
+            | yes l ↦ l
+            | no l ↦ absurd (omega (arith, pow-mono {i = m} {j = suc n} (omega arith)))
+          ])
+      | no a ↦ rw (lt-leb (2 ^ suc n) C (omega arith), logBelow) (log-lt n C m p h)
+    ]
+
+width-low : (f : Format) → 7 ≤ width f
+unfolding width
+width-low Plots = omega arith
+
+shape-relabel : {A B : Type 0} (g : A → B) (t : Trie A) → shape (relabel g t) ≡ shape t
+shape-relabel g (leaf x) = refl
+shape-relabel g (fork l r) = rw (shape-relabel g l, shape-relabel g r)
+
+-- the end of the tower
+module _ (θ : ℕ) (node : ℕ → List ℕ) (root top : ℕ) where
+  root-label : (k : ℕ) (u : Trie ℕ) (bs : List (Trie ℕ)) → Nodes θ node root top k u bs → 1 ≤ occs root (u ∷ bs)
+  root-label k u [] p = rw (p .0) (omega (arith, ind-self root))
+  root-label k u (b ∷ bs) p = omega (arith, root-label (suc k) b bs (p .1))
+
+  top-level : (k : ℕ) (u : Trie ℕ) (bs : List (Trie ℕ)) → Nodes θ node root top k u bs → top ≡ k + length bs
+  top-level k u [] p = omega (arith, p .1)
+  top-level k u (b ∷ bs) p = omega (arith, top-level (suc k) b bs (p .1))
+
+  -- there is a level
+  root-in : (u : Trie ℕ) (bs : List (Trie ℕ)) → Nodes θ node root top 0 u bs → Links θ node bs → (1 ≤ occs root bs) × (1 ≤ top)
+  root-in u [] p l = absurd l
+  root-in u (b ∷ bs) p l = (root-label 1 b bs (p .1), omega (arith, top-level 1 b bs (p .1)))
+
+module _ (f : Format) (s : List ℕ) (S : List Item) (w : Holds f s S) where
+  abbrev h : Head
+  h = headOf s
+
+  abbrev r : Rep f s (w .b0) (w .bs)
+  r = w .rep
+
+  limits : Limits (h .theta) (h .capacity) (h .nodes) (h .pages)
+  limits = sizes-limits _ _ _ _ (r .sizes)
+
+  levels-are : h .levels ≡ levels (h .theta) (shape (build keyOf (h .capacity) (width f) S))
+  levels-are =
+      top-level (h .theta) (nodeAt s h) (h .root) (h .levels) 0 (numbers (w .b0)) (w .bs) (r .directory .nodes)
+      ∙ omega (arith, length-map (w .bs) shape)
+      ∙ ap length (r .directory .levels-are)
+      ∙ ap (levels (h .theta)) (shape-relabel (λ x. x .0) (w .b0) ∙ sym (shape-relabel (λ x. x .1) (w .b0)) ∙ ap shape (w .tree))
+
+  bounded : Bounded keyOf (2 ^ width f) S
+  bounded = all-map (λ it. lawfulItem f it ≡ true) (λ it. keyOf it < 2 ^ width f) S (λ it e. lawful-key f it e .1) (w .lawful)
+
+  log-low : log2 (h .capacity) < width f
+  log-low = omega (arith, width-low f, log-lt (h .capacity) (h .capacity) 7 (omega arith) (omega (arith, limits .capacity)))
+
+  counts : Counts f h
+  counts =
+      let p = root-in (h .theta) (nodeAt s h) (h .root) (h .levels) (numbers (w .b0)) (w .bs) (r .directory .nodes) (r .directory .links) in
+      let low : 1 ≤ h .root = label-low (w .bs) (h .root) (r .directory .positive) (p .0) in
+      let high : h .root ≤ h .taken = label-high (h .taken) (λ n. occs n (w .bs)) (h .root) (r .directory .oneForOne) (p .0) in
+      record {
+        taken-low = omega arith;
+        taken = r .nodes-fit;
+        filled = r .pages-fit;
+        root-low = low;
+        root = high;
+        levels-low = p .1;
+        levels = rw levels-are
+            (levels-within keyOf (width f) (h .theta) (h .capacity) (limits .theta-low) (limits .capacity-low) log-low S (w .sorted) bounded);
+      }
+
+yes-leb : {a b : ℕ} → a ≤ b → true ≡ leb a b
+yes-leb {a} {b} h = sym (le-leb a b h)
+
+pub head-passes : HeadPasses
+head-passes f s S w =
+    let c = counts f s S w in
+    sym
+    (rule-is f s (headOf s) true true true true refl (sym (w .rep .sizes)) (sym (w .rep .spare)) (yes-leb (w .rep .long))
+    (counts-are f (headOf s) true true true true true true true (yes-leb (c .taken-low)) (yes-leb (c .taken)) (yes-leb (c .filled))
+    (yes-leb (c .root-low)) (yes-leb (c .root)) (yes-leb (c .levels-low)) (yes-leb (c .levels))))

@@ -1,0 +1,211 @@
+-- Every node and every page of a represented store keeps its rule. A node's entries are those of a trie, so its runs are good; its pointers and links
+-- are labels, which are numbers of blocks in use.
+use mathlib.Core.Path.{_≡_, refl, sym, subst}
+use mathlib.Core.Bool.{true}
+use mathlib.Core.List.{List, [], _∷_, _++_}
+use mathlib.Core.Logic.{inl, inr}
+use Prim.Native.Nat.{ℕ, suc, _+_, _-_, _/_, _^_, _≤_, _<_}
+use native.Mathlib.Nat.{div-eq-of-lt}
+use native.Mathlib.Decide.{decLe}
+use native.Mathlib.Omega.{arith}
+use lib.Dec.{eqb}
+use lib.ListN.{getD}
+use borrow.Author.Tests.{eqb-true, eq-eqb, le-leb}
+use Rattle.lists.specs.Bits.{bits}
+use Rattle.lists.specs.Lists.{All}
+use Rattle.lists.specs.Keyed.{Prefix}
+use Rattle.lists.proofs.BitLaws.{index-own}
+use Rattle.lists.proofs.Cases.{bool-cases}
+use Rattle.tree.specs.Trie.{Trie, leaf, fork, height, labels, leafAt, depth}
+use Rattle.tree.specs.Node.{flatten}
+use Rattle.tree.proofs.TrieLaws.{depth-le-height}
+use Rattle.tree.proofs.Flatten.{entry}
+use Rattle.store.specs.declared.Format.{Format}
+use Rattle.store.specs.declared.Head.{Head}
+use Rattle.store.specs.Format.{width}
+use Rattle.store.specs.Head.{headOf, nodeStart, pageAt}
+use Rattle.store.specs.Node.{backWord, forwardWord, entryOf, linkRule, pointerLow, pointerHigh, nodeRule}
+use Rattle.store.proofs.RunWalk.{Points, trie-is-good}
+use Rattle.store.proofs.NodeLaws.{link-1, link-above, low-1, low-above, high-1, high-above, facts-node}
+use Rattle.page.specs.Page.{pageRule, agrees}
+use Rattle.represent.specs.Labelled.{Each, occ, occs, Over, first, Linked}
+use Rattle.represent.specs.Image.{nodeAt, NodeIs}
+use Rattle.represent.specs.Rep.{Stretch, numbers, keyOf, Nodes, backOf, forwardOf, Unlinked, Lawful, Rep}
+use Rattle.represent.specs.Promises.{RulesAbove, NodesPass, PagesPass, AgreesPasses}
+use Rattle.represent.proofs.LabelLaws.{ind-self, occ-at, each-at, leafAt-relabel}
+use Rattle.represent.proofs.ImageLaws.{Shown}
+use Rattle.represent.proofs.RepLaws.{label-low, label-high, rep-shown, rep-back, rep-forward}
+use Rattle.represent.proofs.PageImage.{page-passes, page-agrees}
+use Rattle.represent.proofs.Records.{keyed-own}
+
+-- pages
+each-map : {A : Type 0} (P Q : A → Type 0) (t : Trie A) → ((x : A) → P x → Q x) → Each P t → Each Q t
+each-map P Q (leaf x) g e = g x e
+each-map P Q (fork l r) g e = (each-map P Q l g (e .0), each-map P Q r g (e .1))
+
+module _ (f : Format) (s : List ℕ) (h : Head) where
+  page-rule : (x : Stretch) → Lawful f s h x → (x .0 ≡ 0 → ⊥) → pageRule f (h .capacity) (pageAt f s h (x .0)) ≡ true
+  page-rule (p, []) l n = absurd (n (l .page))
+  page-rule (p, r ∷ rs) l n =
+      page-passes f (h .capacity) (pageAt f s h p) (r ∷ rs) (l .page .1) (l .lawful) (omega arith) (l .fits) (l .sorted)
+
+  page-agreed : (x : Stretch) (k used : ℕ) → Lawful f s h x → (x .0 ≡ 0 → ⊥) → Prefix keyOf (width f - used) (k / 2 ^ (width f - used)) (x .1)
+      → agrees f (pageAt f s h (x .0)) k used ≡ true
+  page-agreed (p, []) k used l n a = absurd (n (l .page))
+  page-agreed (p, r ∷ rs) k used l n a = page-agrees f (h .capacity) (pageAt f s h p) (r ∷ rs) (l .page .1) (l .lawful) k used a
+
+pub pages-pass : PagesPass
+pages-pass f s b0 bs r = each-map (Lawful f s (headOf s)) _ b0 (page-rule f s (headOf s)) (r .pages .each)
+
+pub agrees-passes : AgreesPasses
+agrees-passes f s b0 bs k r low =
+    rw (leafAt-relabel (λ x. x .0) b0 (bits (width f) k))
+    (λ n. page-agreed f s (headOf s) (leafAt b0 (bits (width f) k)) k (depth b0 (bits (width f) k))
+    (each-at (Lawful f s (headOf s)) b0 (bits (width f) k) (r .pages .each)) n
+    (keyed-own f s (headOf s) (width f) 0 k b0 (r .pages .keyed) (div-eq-of-lt low)))
+
+-- labels
+occ-leaf : (n x : ℕ) → 1 ≤ occ n (leaf x) → n ≡ x
+occ-leaf n x o =
+    elim (bool-cases (eqb n x)) [
+      | inl e ↦ eqb-true n x e
+      | inr e ↦ absurd (omega (arith, rw e at o))
+    ]
+
+module _ (P : ℕ → Type 0) where
+  each-label : (t : Trie ℕ) (n : ℕ) → Each P t → 1 ≤ occ n t → P n
+  each-label (leaf x) n e o = subst P (sym (occ-leaf n x o)) e
+  each-label (fork l r) n e o =
+      elim (decLe 1 (occ n l)) [
+        | yes h ↦ each-label l n (e .0) h
+        | no h ↦ each-label r n (e .1) (omega arith)
+      ]
+
+  label-each : (t : Trie ℕ) → ((n : ℕ) → 1 ≤ occ n t → P n) → Each P t
+  label-each (leaf x) g = g x (omega (arith, ind-self x))
+  label-each (fork l r) g = (label-each l (λ n o. g n (omega arith)), label-each r (λ n o. g n (omega arith)))
+
+module _ {A : Type 0} (P : A → Type 0) where
+  all-append : (xs ys : List A) → All P xs → All P ys → All P (xs ++ ys)
+  all-append [] ys a b = b
+  all-append (x ∷ xs) ys a b = (a .0, all-append xs ys (a .1) b)
+
+  append-all : (xs ys : List A) → All P (xs ++ ys) → All P xs × All P ys
+  append-all [] ys a = (tt, a)
+  append-all (x ∷ xs) ys a = let b = append-all xs ys (a .1) in ((a .0, b .0), b .1)
+
+  each-all : (t : Trie A) → Each P t → All P (labels t)
+  each-all (leaf x) e = (e, tt)
+  each-all (fork l r) e = all-append (labels l) (labels r) (each-all l (e .0)) (each-all r (e .1))
+
+  all-each : (t : Trie A) → All P (labels t) → Each P t
+  all-each (leaf x) a = a .0
+  all-each (fork l r) a = let b = append-all (labels l) (labels r) a in (all-each l (b .0), all-each r (b .1))
+
+-- a trie over another: P of each leaf and what stands there, whose labels are labels of the whole
+over-each : (P : ℕ → Trie ℕ → Type 0) (Q : ℕ → Type 0) (b u : Trie ℕ)
+    → ((n : ℕ) (v : Trie ℕ) → 1 ≤ occ n b → ((x : ℕ) → occ x v ≤ occ x u) → P n v → Q n) → Over P b u → Each Q b
+over-each P Q (leaf n) u g p = g n u (omega (arith, ind-self n)) (λ x. omega arith) p
+over-each P Q (fork l r) (leaf x) g p = absurd p
+over-each P Q (fork l r) (fork ul ur) g p = (
+  over-each P Q l ul (λ n v o i. g n v (omega arith) (λ x. omega (arith, i x))) (p .0),
+  over-each P Q r ur (λ n v o i. g n v (omega arith) (λ x. omega (arith, i x))) (p .1),
+)
+
+-- links are labels or null
+linked-within : (back forward : ℕ → ℕ) (m p : ℕ) (ns : List ℕ) → p ≤ m → All (λ n. n ≤ m) ns → Linked back forward p ns
+    → All (λ n. (back n ≤ m) × (forward n ≤ m)) ns
+linked-within back forward m p [] h a l = tt
+linked-within back forward m p (n ∷ ns) h a l = (
+  (omega (arith, l .0), rw (l .1) (next ns (a .1))),
+  linked-within back forward m n ns (a .0) (a .1) (l .2),
+)
+  where
+    next : (ns : List ℕ) → All (λ n. n ≤ m) ns → first ns ≤ m
+    next [] a = omega arith
+    next (n ∷ ns) a = a .0
+
+-- a pointer is a label
+entry-label : (H : ℕ) (t : Trie ℕ) (j : ℕ) → height t ≤ H → j < 2 ^ H → 1 ≤ occ (getD (flatten H t 0) j (0, 0) .1) t
+entry-label H t j low h =
+    let e = entry H t (bits H j) 0 (omega (arith, depth-le-height t (bits H j))) (0, 0) in
+    rw (rw (index-own H j h) at e) (occ-at t (bits H j))
+
+node-passes : (h : Head) (s : List ℕ) (at level : ℕ) (v : Trie ℕ) → Shown s at (h .theta) level v
+    → ((x : ℕ) → 1 ≤ occ x v → (pointerLow level ≤ x) × (x ≤ pointerHigh h level)) → linkRule h level (backWord s at) (forwardWord s at) ≡ true
+    → nodeRule h s at level ≡ true
+node-passes h s at level v w points links =
+    facts-node h s at level
+    (record {
+      depth = omega (arith, w .depth, w .low);
+      level-is = w .level-is;
+      links = links;
+      runs = rw (w .depth)
+          (trie-is-good (height v) (pointerLow level) (pointerHigh h level) (entryOf s at) v refl (w .entry)
+          (λ j l.
+          subst (Points (pointerLow level) (pointerHigh h level)) (sym (w .entry j l)) (points _ (entry-label (height v) v j (omega arith) l))));
+      rest = rw (w .depth) (w .blank);
+    })
+
+module _ (f : Format) (s : List ℕ) (b0 : Trie Stretch) (all : List (Trie ℕ)) (r : Rep f s b0 all) where
+  abbrev h : Head
+  h = headOf s
+
+  abbrev node : ℕ → List ℕ
+  node = nodeAt s h
+
+  -- a label of the levels is the number of a taken node
+  taken : (n : ℕ) → 1 ≤ occs n all → (1 ≤ n) × (n ≤ h .taken)
+  taken n o = (label-low all n (r .directory .positive) o, label-high (h .taken) (λ x. occs x all) n (r .directory .oneForOne) o)
+
+  rule-at : (n level : ℕ) (v : Trie ℕ) → 1 ≤ occs n all → NodeIs (h .theta) (node n) level v
+      → ((x : ℕ) → 1 ≤ occ x v → (pointerLow level ≤ x) × (x ≤ pointerHigh h level))
+      → linkRule h level (backOf (h .theta) node n) (forwardOf (h .theta) node n) ≡ true → nodeRule h s (nodeStart h n) level ≡ true
+  rule-at n level v o is points links =
+      node-passes h s (nodeStart h n) level v (rep-shown f s b0 all r n level v o is) points
+      (rw (rep-back f s b0 all r n level v o is, rep-forward f s b0 all r n level v o is) links)
+
+  -- above level 1: u is the level below
+  upper : (k : ℕ) (u : Trie ℕ) (bs : List (Trie ℕ)) → ((x : ℕ) → occ x u + occs x bs ≤ occs x all)
+      → ((n : ℕ) → 1 ≤ occs n bs → Unlinked (h .theta) node n) → Nodes (h .theta) node (h .root) (h .levels) (suc k) u bs → RulesAbove h s (suc k) bs
+  upper k u [] i w p = tt
+  upper k u (b ∷ bs) i w p = (
+    over-each (λ n v. NodeIs (h .theta) (node n) (suc (suc k)) v) _ b u
+        (λ n v o j is.
+        rule-at n (suc (suc k)) v (omega (arith, i n)) is
+        (λ x q.
+        let t = taken x (omega (arith, i x, j x)) in
+        (omega (arith, low-above (suc (suc k)) (λ e. omega arith), t .0), omega (arith, high-above h (suc (suc k)) (λ e. omega arith), t .1)))
+        (let l = w n (omega arith) in
+        sym (link-above h (suc (suc k)) _ _ true true (λ e. omega arith) (sym (eq-eqb _ 0 (l .no-back))) (sym (eq-eqb _ 0 (l .no-forward))))))
+        (p .0),
+    upper (suc k) b bs (λ x. omega (arith, i x)) (λ n o. w n (omega arith)) (p .1),
+  )
+
+module _ (f : Format) (s : List ℕ) (b0 : Trie Stretch) (b : Trie ℕ) (bs : List (Trie ℕ)) (r : Rep f s b0 (b ∷ bs)) where
+  abbrev LinksTaken : ℕ → Type 0
+  LinksTaken n =
+      (backOf (headOf s .theta) (nodeAt s (headOf s)) n ≤ headOf s .taken) × (forwardOf (headOf s .theta) (nodeAt s (headOf s)) n ≤ headOf s .taken)
+
+  links-taken : Each LinksTaken b
+  links-taken =
+      let below : Each (λ n. n ≤ headOf s .taken) b = label-each _ b (λ n o. taken f s b0 (b ∷ bs) r n (omega arith) .1) in
+      all-each LinksTaken b
+      (linked-within _ _ (headOf s .taken) 0 (labels b) (omega arith) (each-all (λ n. n ≤ headOf s .taken) b below) (r .directory .links .0))
+
+  lowest : Each (λ n. nodeRule (headOf s) s (nodeStart (headOf s) n) 1 ≡ true) b
+  lowest =
+      over-each (λ n v. NodeIs (headOf s .theta) (nodeAt s (headOf s) n) 1 v) _ b (numbers b0)
+      (λ n v o j is.
+      rule-at f s b0 (b ∷ bs) r n 1 v (omega arith) is
+      (λ x q.
+      let t = label-high (headOf s .filled) (λ p. occ p (numbers b0)) x (r .pages .oneForOne) (omega (arith, j x)) in
+      (omega (arith, low-1 1 refl), omega (arith, high-1 (headOf s) 1 refl, t)))
+      (let l = each-label LinksTaken b n links-taken o in
+      sym (link-1 (headOf s) 1 _ _ true true refl (sym (le-leb _ (headOf s .taken) (l .0))) (sym (le-leb _ (headOf s .taken) (l .1))))))
+      (r .directory .nodes .0)
+
+pub nodes-pass : NodesPass
+nodes-pass f s b0 [] r = tt
+nodes-pass f s b0 (b ∷ bs) r =
+    (lowest f s b0 b bs r, upper f s b0 (b ∷ bs) r 0 b bs (λ x. omega arith) (r .directory .links .1) (r .directory .nodes .1))
