@@ -34,7 +34,7 @@ orElse-nothing (Record it) = refl
 orElse-nothing Nothing = refl
 orElse-nothing Damaged = refl
 
-above-true : (strict : Bool) (k x : ℕ) → k < x → above strict k x ≡ true
+pub above-true : (strict : Bool) (k x : ℕ) → k < x → above strict k x ≡ true
 unfolding above
 above-true true k x h = lt-ltb k x h
 above-true false k x h = le-leb k x (omega arith)
@@ -87,7 +87,7 @@ module _ (strict : Bool) (k : ℕ) where
   first-beyond xs a = first-all test xs (all-map (λ x. k < x .key) (λ x. test x ≡ true) xs (λ x p. above-true strict k (x .key) p) a)
 
 -- a record has its key alone
-all-mem : (P : Item → Type 0) {it : Item} {S : List Item} → List·Memᴰ it S → All P S → P it
+pub all-mem : (P : Item → Type 0) {it : Item} {S : List Item} → List·Memᴰ it S → All P S → P it
 all-mem P (List·Memᴰ·head e) a = rw e (a .0)
 all-mem P (List·Memᴰ·tail m) a = all-mem P m (a .1)
 

@@ -2,7 +2,7 @@
 -- Labels are counted: distinct is `occ` at most 1, a label is `occ` at least 1.
 use mathlib.Core.Path.{_≡_, refl, sym, ap, ap₂, _∙_, subst}
 use mathlib.Core.Bool.{Bool, true, false, cond}
-use mathlib.Core.List.{List, [], _∷_, _++_, append-assoc, append-nil}
+use mathlib.Core.List.{List, [], _∷_, _++_, map, map-append, append-assoc, append-nil}
 use Prim.Native.Nat.{ℕ, zero, suc, _+_, _≤_, _<_}
 use native.Mathlib.Omega.{arith}
 use lib.Dec.{eqb}
@@ -71,6 +71,16 @@ module _ {A B : Type 0} (g : A → B) where
   depth-relabel (fork l r) [] = ap suc (depth-relabel l [])
   depth-relabel (fork l r) (false ∷ k) = ap suc (depth-relabel l k)
   depth-relabel (fork l r) (true ∷ k) = ap suc (depth-relabel r k)
+
+  pub labels-relabel : (t : Trie A) → labels (relabel g t) ≡ map g (labels t)
+  labels-relabel (leaf x) = refl
+  labels-relabel (fork l r) = ap₂ _++_ (labels-relabel l) (labels-relabel r) ∙ sym (map-append g (labels l) (labels r))
+
+  pub after-relabel : (t : Trie A) (k : Key) → after (relabel g t) k ≡ map g (after t k)
+  after-relabel (leaf x) k = refl
+  after-relabel (fork l r) [] = ap₂ _++_ (after-relabel l []) (labels-relabel r) ∙ sym (map-append g (after l []) (labels r))
+  after-relabel (fork l r) (false ∷ k) = ap₂ _++_ (after-relabel l k) (labels-relabel r) ∙ sym (map-append g (after l k) (labels r))
+  after-relabel (fork l r) (true ∷ k) = after-relabel r k
 
 module _ {A : Type 0} (P : ℕ → Trie A → Type 0) where
   -- at the key: P of b's label and what stands under it

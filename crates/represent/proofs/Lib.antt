@@ -11,3 +11,10 @@ pub mod PageImage
 pub mod Passes
 pub mod SetUpHolds
 pub mod HeadPasses
+pub mod DescentVisits
+pub mod Links
+pub mod Runs
+pub mod Counting
+pub mod Along
+pub mod Readings
+pub mod Promises

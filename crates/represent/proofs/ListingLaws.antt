@@ -237,18 +237,18 @@ module _ (f : Format) (s : List ℕ) (h : Head) (S : List Item) where
 -- the replies, of a store that keeps the head rule
 module _ (f : Format) (s : List ℕ) (S : List Item) where
   module _ (next-is : NextIs f s (headOf s) S) (sorted : Sorted keyOf S) (bounded : Bounded keyOf (2 ^ width f) S) where
-    pub range-reads : headRule f s ≡ true → (low high : ℕ) (out : List ℕ) → high < 2 ^ width f → rangeOf f s low high out ≡ rangeIn f S low high out
+    pub range-is : headRule f s ≡ true → (low high : ℕ) (out : List ℕ) → high < 2 ^ width f → rangeOf f s low high out ≡ rangeIn f S low high out
     unfolding rangeOf rangeIn
-    range-reads rule low high out q =
+    range-is rule low high out q =
         elim (bool-cases (ltb high low)) [
           | inl e ↦ rw (rule, e, rangeOf, rangeIn)
           | inr e ↦ rw (rule, e, rangeOf, rangeIn)
               (ap (listed f out) (ranged-is f s (headOf s) S next-is sorted bounded low high (length out / words f) (ltb-false high low e) q))
         ]
 
-    pub summary-reads : headRule f s ≡ true → (low high today : ℕ) → high < 2 ^ width f → summaryOf f s low high today ≡ summaryIn S low high today
+    pub summary-is : headRule f s ≡ true → (low high today : ℕ) → high < 2 ^ width f → summaryOf f s low high today ≡ summaryIn S low high today
     unfolding summaryOf summaryIn
-    summary-reads rule low high today q =
+    summary-is rule low high today q =
         elim (bool-cases (ltb high low)) [
           | inl e ↦ rw (rule, e, summaryOf, summaryIn)
           | inr e ↦
@@ -259,43 +259,43 @@ module _ (f : Format) (s : List ℕ) (S : List Item) where
               ]
         ]
 
-  -- no reply read off a list is that of a broken head or of damage
-  sound-at : (n : ℕ) → eqb n 3 ≡ false → eqb n 9 ≡ false → Sound f s S n
-  sound-at n p q = record { head = eqb-false n 3 p; blocks = eqb-false n 9 q }
+-- no reply read off a list is that of a broken head or of damage
+sound-at : (n : ℕ) → eqb n 3 ≡ false → eqb n 9 ≡ false → Sound n
+sound-at n p q = record { head = eqb-false n 3 p; blocks = eqb-false n 9 q }
 
-  first-sound : (test : Item → Bool) (its : List Item) → Sound f s S (soughtReply (firstWhere test its) .number)
-  unfolding firstWhere
-  first-sound test [] = sound-at 1 refl refl
-  first-sound test (it ∷ its) =
-      elim (bool-cases (test it)) [
-        | inl e ↦ rw (first-true test it its e) (sound-at 0 refl refl)
-        | inr e ↦ rw (first-false test it its e) (first-sound test its)
-      ]
+first-sound : (test : Item → Bool) (its : List Item) → Sound (soughtReply (firstWhere test its) .number)
+unfolding firstWhere
+first-sound test [] = sound-at 1 refl refl
+first-sound test (it ∷ its) =
+    elim (bool-cases (test it)) [
+      | inl e ↦ rw (first-true test it its e) (sound-at 0 refl refl)
+      | inr e ↦ rw (first-false test it its e) (first-sound test its)
+    ]
 
-  pub find-sound : (k : ℕ) → Sound f s S (findIn S k .number)
-  unfolding findIn
-  find-sound k = first-sound (λ it. eqb (it .key) k) S
+pub find-sound : (S : List Item) (k : ℕ) → Sound (findIn S k .number)
+unfolding findIn
+find-sound S k = first-sound (λ it. eqb (it .key) k) S
 
-  pub next-sound : (k : ℕ) → Sound f s S (nextIn S k .number)
-  unfolding nextIn
-  next-sound k = first-sound (λ it. above true k (it .key)) S
+pub next-sound : (S : List Item) (k : ℕ) → Sound (nextIn S k .number)
+unfolding nextIn
+next-sound S k = first-sound (λ it. above true k (it .key)) S
 
-  pub range-sound : (low high : ℕ) (out : List ℕ) → Sound f s S (rangeIn f S low high out .reply .number)
-  unfolding rangeIn rangedIn listed
-  range-sound low high out =
-      elim (bool-cases (ltb high low)) [
-        | inl e ↦ rw (e, rangeIn) (sound-at 7 refl refl)
-        | inr e ↦ rw (e, rangeIn) (sound-at 0 refl refl)
-      ]
+pub range-sound : (f : Format) (S : List Item) (low high : ℕ) (out : List ℕ) → Sound (rangeIn f S low high out .reply .number)
+unfolding rangeIn rangedIn listed
+range-sound f S low high out =
+    elim (bool-cases (ltb high low)) [
+      | inl e ↦ rw (e, rangeIn) (sound-at 7 refl refl)
+      | inr e ↦ rw (e, rangeIn) (sound-at 0 refl refl)
+    ]
 
-  pub summary-sound : (low high today : ℕ) → Sound f s S (summaryIn S low high today .number)
-  unfolding summaryIn
-  summary-sound low high today =
-      elim (bool-cases (ltb high low)) [
-        | inl e ↦ rw (e, summaryIn) (sound-at 7 refl refl)
-        | inr e ↦
-            elim (bool-cases (lawfulDay today)) [
-              | inl d ↦ rw (e, d, summaryIn) (sound-at 0 refl refl)
-              | inr d ↦ rw (e, d, summaryIn) (sound-at 6 refl refl)
-            ]
-      ]
+pub summary-sound : (S : List Item) (low high today : ℕ) → Sound (summaryIn S low high today .number)
+unfolding summaryIn
+summary-sound S low high today =
+    elim (bool-cases (ltb high low)) [
+      | inl e ↦ rw (e, summaryIn) (sound-at 7 refl refl)
+      | inr e ↦
+          elim (bool-cases (lawfulDay today)) [
+            | inl d ↦ rw (e, d, summaryIn) (sound-at 0 refl refl)
+            | inr d ↦ rw (e, d, summaryIn) (sound-at 6 refl refl)
+          ]
+    ]

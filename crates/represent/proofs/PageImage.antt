@@ -88,7 +88,7 @@ module _ (test : Item → Bool) where
         | inr e ↦ let p = first-at its in (suc (p .0), later it its (p .0) e (p .1))
       ]
 
-  first-cases : (rs : List Item) → (firstWhere test rs ≡ Nothing) ⊎ ((it : Item) × (firstWhere test rs ≡ Record it))
+  pub first-cases : (rs : List Item) → (firstWhere test rs ≡ Nothing) ⊎ ((it : Item) × (firstWhere test rs ≡ Record it))
   first-cases rs =
       let p = first-at rs in
       elim (decLt (p .0) (length rs)) [

@@ -90,7 +90,7 @@ module _ {A : Type 0} (P : A → Type 0) where
   all-append [] ys a b = b
   all-append (x ∷ xs) ys a b = (a .0, all-append xs ys (a .1) b)
 
-  append-all : (xs ys : List A) → All P (xs ++ ys) → All P xs × All P ys
+  pub append-all : (xs ys : List A) → All P (xs ++ ys) → All P xs × All P ys
   append-all [] ys a = (tt, a)
   append-all (x ∷ xs) ys a = let b = append-all xs ys (a .1) in ((a .0, b .0), b .1)
 

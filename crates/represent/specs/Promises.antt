@@ -8,6 +8,7 @@
 --   DescentVisits    == the descent with a key visits the nodes at the key, with the bits used and the local depths of the tries
 --   FindReads, NextReads, RangeReads, SummaryReads == the readings are those of the ascending list
 --   OwnBitsLead      == the bits of each held record's key lead to it
+--   Sound n          == the answer n is neither 3 nor 9
 --   NoDamage         == no reading of a store that holds a set is refused with 3 or 9
 --   ClausesHold      == a store that holds a set keeps the report's five clauses
 use mathlib.Core.Path.{_≡_}
@@ -97,6 +98,11 @@ DescentVisits =
       steps = pathSteps (width f) k (numbers b0) bs ++ replicate (32 - length bs) noStep;
     }
 
+-- an answer that is neither 3 nor 9
+pub record Sound (n : ℕ) : Type 0 where
+  pub head : n ≡ 3 → ⊥
+  pub blocks : n ≡ 9 → ⊥
+
 module _ (f : Format) (s : List ℕ) (S : List Item) where
   abbrev pub FindReads : Type 0
   FindReads = Holds f s S → (k : ℕ) → k < 2 ^ width f → findReply f s k ≡ findIn S k
@@ -115,15 +121,14 @@ module _ (f : Format) (s : List ℕ) (S : List Item) where
   abbrev pub OwnBitsLead : Type 0
   OwnBitsLead = Holds f s S → (it : Item) → List·Memᴰ it S → findReply f s (it .key) ≡ record { number = 0; item = it }
 
-  pub record Sound (n : ℕ) : Type 0 where
-    pub head : n ≡ 3 → ⊥
-    pub blocks : n ≡ 9 → ⊥
-
-  pub record NoDamage : Type 0 where
+  pub record Undamaged : Type 0 where
     pub find : (k : ℕ) → k < 2 ^ width f → Sound (findReply f s k .number)
     pub next : (k : ℕ) → k < 2 ^ width f → Sound (nextReply f s k .number)
     pub range : (low high : ℕ) (out : List ℕ) → low < 2 ^ width f → high < 2 ^ width f → Sound (rangeOf f s low high out .reply .number)
     pub summary : (low high today : ℕ) → low < 2 ^ width f → high < 2 ^ width f → Sound (summaryOf f s low high today .number)
+
+  abbrev pub NoDamage : Type 0
+  NoDamage = Holds f s S → Undamaged
 
   abbrev pub ClausesHold : Type 0
   ClausesHold = Holds f s S → Clauses f s

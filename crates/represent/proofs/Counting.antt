@@ -1,0 +1,63 @@
+-- A trie whose labels are numbers from 1 to m, none twice, has at most m leaves: each leaf is counted once in the sum of how often each of 1, .., m
+-- occurs.
+--   upTo m g == g 1 + g 2 + .. + g m
+use mathlib.Core.Path.{_≡_, refl, sym, ap₂, _∙_}
+use mathlib.Core.List.{List, _∷_}
+use Prim.Native.Nat.{ℕ, zero, suc, _+_, _≤_, _<_}
+use native.Mathlib.Omega.{arith}
+use native.Mathlib.Decide.{ℕ-discrete}
+use lib.ListN.{length, length-append}
+use Rattle.tree.specs.Trie.{Trie, leaf, fork, leaves, labels}
+use Rattle.store.specs.declared.Format.{Format}
+use Rattle.store.specs.Head.{headOf}
+use Rattle.represent.specs.Labelled.{Each, ind, occ, occs}
+use Rattle.represent.specs.Rep.{Stretch, Rep}
+use Rattle.represent.proofs.LabelLaws.{ind-eq, ind-other}
+use Rattle.represent.proofs.RepLaws.{label-low, label-high}
+use Rattle.represent.proofs.Links.{each-of, rep-once}
+
+abbrev upTo : ℕ → (ℕ → ℕ) → ℕ
+upTo zero g = 0
+upTo (suc m) g = upTo m g + g (suc m)
+
+upTo-add : (m : ℕ) (g h : ℕ → ℕ) → upTo m (λ x. g x + h x) ≡ upTo m g + upTo m h
+upTo-add zero g h = omega arith
+upTo-add (suc m) g h = omega (arith, upTo-add m g h)
+
+upTo-within : (m : ℕ) (g : ℕ → ℕ) → ((x : ℕ) → g x ≤ 1) → upTo m g ≤ m
+upTo-within zero g h = omega arith
+upTo-within (suc m) g h = omega (arith, upTo-within m g h, h (suc m))
+
+upTo-none : (m n : ℕ) → m < n → upTo m (λ x. ind x n) ≡ 0
+upTo-none zero n h = refl
+upTo-none (suc m) n h = omega (arith, upTo-none m n (omega arith), ind-other (suc m) n (λ e. omega arith))
+
+upTo-one : (m n : ℕ) → 1 ≤ n → n ≤ m → upTo m (λ x. ind x n) ≡ 1
+upTo-one zero n low high = absurd (omega arith)
+upTo-one (suc m) n low high =
+    elim (ℕ-discrete (suc m) n) [
+      | yes e ↦ omega (arith, upTo-none m n (omega arith), ind-eq (suc m) n e)
+      | no e ↦ omega (arith, upTo-one m n low (omega arith), ind-other (suc m) n e)
+    ]
+
+module _ (m : ℕ) where
+  counted : (t : Trie ℕ) → Each (λ n. (1 ≤ n) × (n ≤ m)) t → upTo m (λ x. occ x t) ≡ leaves t
+  counted (leaf n) h = upTo-one m n (h .0) (h .1)
+  counted (fork l r) h = upTo-add m (λ x. occ x l) (λ x. occ x r) ∙ ap₂ _+_ (counted l (h .0)) (counted r (h .1))
+
+  leaves-within : (t : Trie ℕ) → Each (λ n. (1 ≤ n) × (n ≤ m)) t → ((x : ℕ) → occ x t ≤ 1) → leaves t ≤ m
+  leaves-within t h once = omega (arith, sym (counted t h), upTo-within m (λ x. occ x t) once)
+
+pub length-labels : {A : Type 0} (t : Trie A) → length (labels t) ≡ leaves t
+length-labels (leaf x) = refl
+length-labels (fork l r) = omega (arith, length-append (labels l) (labels r), length-labels l, length-labels r)
+
+-- a level has no more nodes than are taken
+pub rep-leaves : (f : Format) (s : List ℕ) (b0 : Trie Stretch) (b : Trie ℕ) (bs : List (Trie ℕ)) → Rep f s b0 (b ∷ bs) → leaves b ≤ headOf s .taken
+rep-leaves f s b0 b bs r =
+    leaves-within (headOf s .taken) b
+    (each-of _ b (λ n o. (
+      label-low (b ∷ bs) n (r .directory .positive) (omega arith),
+      label-high (headOf s .taken) (λ x. occs x (b ∷ bs)) n (r .directory .oneForOne) (omega arith),
+    )))
+    (λ x. omega (arith, rep-once f s b0 (b ∷ bs) r x))
