@@ -18,3 +18,14 @@ pub mod Counting
 pub mod Along
 pub mod Readings
 pub mod Promises
+pub mod Grafts
+pub mod Chain
+pub mod CarriedLaws
+pub mod Blocks
+pub mod Writes
+pub mod Level
+pub mod Splits
+pub mod Rise
+pub mod Climb
+pub mod FirstSplit
+pub mod RoundLaws

@@ -1,0 +1,110 @@
+-- A round keeps the directory: at level 1 the node at the key has room, or splits with its links and the climb above keeps the rest. The labels stay
+-- one for one with the taken numbers, and the levels are those of the halved stretches.
+use mathlib.Core.Path.{_≡_, sym, ap, _∙_, subst}
+use mathlib.Core.Bool.{true, false}
+use mathlib.Core.List.{List, [], _∷_}
+use Prim.Native.Nat.{ℕ, suc, _+_, _-_, _≤_, _<_}
+use native.Mathlib.Omega.{arith}
+use native.Mathlib.Decide.{decLt}
+use borrow.Author.Tests.{lt-ltb, le-ltb}
+use Rattle.tree.specs.Trie.{Trie, leaf, Key, shape, labels, leafAt, depth, rest, graft, pair}
+use Rattle.tree.specs.Tower.{tower}
+use Rattle.tree.specs.Carry.{locals, bumpCost}
+use Rattle.tree.proofs.TrieLaws.{graft-leafAt, shape-graft}
+use Rattle.tree.proofs.CarryLaws.{bump-slack, bump-full}
+use Rattle.represent.specs.Labelled.{occs, OneForOne, under}
+use Rattle.represent.specs.Rep.{backOf, forwardOf, Links, Directory}
+use Rattle.represent.specs.Round.{NodeOps, NodeLaws, StoreOps, StoreLaws, Step, stepAt, pathOf, grown, halveFirst, climb, round, aimAt, carried, RoundKeeps, AimKeeps}
+use Rattle.represent.proofs.Grafts.{forked}
+use Rattle.represent.proofs.Chain.{count-labels, linked-frame}
+use Rattle.represent.proofs.CarriedLaws.{carried-slack, carried-full, carried-levels, carried-one, carried-old, one-numbered}
+use Rattle.represent.proofs.Blocks.{aim-written}
+use Rattle.represent.proofs.Level.{moved-links, links-frame, Ready, Climbed, here, rewritten, rewritten-links}
+use Rattle.represent.proofs.Rise.{room-here, grown-climbed, grown-links, rise}
+use Rattle.represent.proofs.Climb.{climb-keeps}
+use Rattle.represent.proofs.FirstSplit.{first-split, first-linked}
+
+module _ (I : NodeOps) (O : StoreOps) (s : O .S) (p : Step) (path : List Step) (a c : ℕ) where
+  round-room : I .room (O .node s (p .at)) (p .bits) ≡ true → round I O s (p ∷ path) a c ≡ grown I O s p a c
+  unfolding round
+  round-room e = rw (e, round)
+
+  round-full : I .room (O .node s (p .at)) (p .bits) ≡ false
+      → round I O s (p ∷ path) a c ≡ climb I O (halveFirst I O s p a c) path (p .at) (suc (O .taken s))
+  unfolding round
+  round-full e = rw (e, round)
+
+module _ {θ : ℕ} {O : StoreOps} {s : O .S} {u : Trie ℕ} {bs : List (Trie ℕ)} where
+  open StoreOps O using (Ok, node, root, levels, taken, cap)
+
+  ready : Ok s → taken s ≤ cap s → Directory θ (node s) (root s) (levels s) (taken s) u bs → Ready θ O s 0 u bs
+  ready ok fits d = record { ok = ok; fits = fits; nodes = d .nodes; numbered = one-numbered (taken s) bs (d .oneForOne) (d .positive) }
+
+module _ {θ : ℕ} {I : NodeOps} {O : StoreOps} (A : NodeLaws θ I) (B : StoreLaws θ O) (pos : 1 ≤ θ) where
+  open StoreOps O using (S, node, taken, cap)
+
+  round-climbed : (s : S) (u b : Trie ℕ) (bs : List (Trie ℕ)) (key : Key) (a c : ℕ)
+      → Ready θ O s 0 u (b ∷ bs) → Links θ (node s) (b ∷ bs) → taken s + bumpCost θ (locals u (b ∷ bs) key) ≤ cap s
+      → Climbed θ O s (round I O s (pathOf (b ∷ bs) key) a c) 0 (graft u key (pair a c))
+          (b ∷ bs) (carried θ (taken s) u (b ∷ bs) key) (bumpCost θ (locals u (b ∷ bs) key))
+      × Links θ (node (round I O s (pathOf (b ∷ bs) key) a c)) (carried θ (taken s) u (b ∷ bs) key)
+  round-climbed s u b bs key a c y links fits =
+      elim (decLt (depth u key - depth b key) θ) [
+        | yes small ↦
+            rw (round-room I O s (stepAt b key) (pathOf bs key) a c (room-here A B y key ∙ lt-ltb (depth u key - depth b key) θ small),
+                carried-slack θ (taken s) u b bs key small, bump-slack θ (depth u key - depth b key) (locals b bs key) small .1)
+              (grown-climbed A B y key a c small, links-frame θ (node s) _ b bs (grown-links A B y key a c small) links)
+        | no large ↦
+            let full : θ ≤ depth u key - depth b key = omega arith in
+            let cost = bump-full θ (depth u key - depth b key) (locals b bs key) full .1 in
+            let more : taken s < cap s = omega (arith, cost) in
+            let t = forked (under b u key) (rest b key) a c in
+            let s₁ : S = halveFirst I O s (stepAt b key) a c in
+            let s′ : S = climb I O s₁ (pathOf bs key) (leafAt b key) (suc (taken s)) in
+            let b′ : Trie ℕ = graft b key (pair (leafAt b key) (suc (taken s))) in
+            let w = first-split A B y key a c (links .0) (t .2) full more in
+            let z = rise A B y key a c (t .2) w (climb-keeps A B pos bs) (omega (arith, cost)) (links .1) in
+            rw (round-full I O s (stepAt b key) (pathOf bs key) a c (room-here A B y key ∙ le-ltb (depth u key - depth b key) θ full),
+                carried-full θ (taken s) u b bs key full, cost)
+              (z .climbed,
+              (linked-frame (backOf θ (node s₁)) (forwardOf θ (node s₁)) (backOf θ (node s′)) (forwardOf θ (node s′)) 0 (labels b′)
+                (λ x o. moved-links θ (node s₁) (node s′) x (z .kept x (omega (arith, count-labels x b′))))
+                (first-linked A B y key a c (links .0) (t .2) full more),
+              z .plain))
+      ]
+
+pub round-keeps : (θ : ℕ) (I : NodeOps) (O : StoreOps) → RoundKeeps θ I O
+round-keeps θ I O A B pos s u [] key a c ok d fits = absurd (d .links)
+round-keeps θ I O A B pos s u (b ∷ bs) key a c ok d fits =
+    let z = round-climbed A B pos s u b bs key a c (ready ok (omega arith) d) (d .links) fits in
+    record {
+      directory = record {
+        nodes = z .0 .nodes;
+        links = z .1;
+        oneForOne = carried-one θ (O .taken s) _ u (b ∷ bs) key (z .0 .changed .now) (d .oneForOne);
+        positive = carried-old θ (O .taken s) u (b ∷ bs) key 0 (omega arith) ∙ d .positive;
+        levels-are = carried-levels θ (O .taken s) u (b ∷ bs) key a c pos (d .levels-are);
+      };
+      changed = z .0 .changed;
+    }
+
+pub aim-keeps : (θ : ℕ) (I : NodeOps) (O : StoreOps) → AimKeeps θ I O
+unfolding aimAt
+aim-keeps θ I O A B s u b bs key q ok fits d =
+    let y = ready ok fits d in
+    let w = aim-written A (here y key) (rest b key) q in
+    let z = rewritten y key B (leaf q) w in
+    record {
+      directory = record {
+        nodes = z .nodes;
+        links = links-frame θ (O .node s) _ b bs (rewritten-links y key B (leaf q) w) (d .links);
+        oneForOne = subst (λ (t : ℕ). OneForOne t (λ x. occs x (b ∷ bs))) (omega (arith, z .changed .now)) (d .oneForOne);
+        positive = d .positive;
+        levels-are = d .levels-are ∙ ap (tower θ) (sym (shape-aim u key q));
+      };
+      changed = z .changed;
+    }
+  where
+    -- another label changes no shape
+    shape-aim : (t : Trie ℕ) (k : Key) (q : ℕ) → shape (graft t k (leaf q)) ≡ shape t
+    shape-aim t k q = shape-graft t k (leaf q) ∙ sym (shape-graft t k (leaf (leafAt t k))) ∙ ap shape (graft-leafAt t k)
