@@ -30,9 +30,9 @@ module _ {A : Type 0} where
     all-append [] ys a b = b
     all-append (x ∷ xs) ys a b = (a .0, all-append xs ys (a .1) b)
 
-    pub all-right : (xs ys : List A) → All P (xs ++ ys) → All P ys
-    all-right [] ys a = a
-    all-right (x ∷ xs) ys a = all-right xs ys (a .1)
+    pub append-all : (xs ys : List A) → All P (xs ++ ys) → All P xs × All P ys
+    append-all [] ys a = (tt, a)
+    append-all (x ∷ xs) ys a = let b = append-all xs ys (a .1) in ((a .0, b .0), b .1)
 
   module _ (P : A → A → Type 0) where
     pub pairwise-right : (xs ys : List A) → Pairwise P (xs ++ ys) → Pairwise P ys
@@ -42,4 +42,4 @@ module _ {A : Type 0} where
     -- each element of the first list against the first of the second
     pub pairwise-before : (xs : List A) (y : A) (ys : List A) → Pairwise P (xs ++ (y ∷ ys)) → All (λ x. P x y) xs
     pairwise-before [] y ys a = tt
-    pairwise-before (x ∷ xs) y ys a = (all-right (P x) xs (y ∷ ys) (a .0) .0, pairwise-before xs y ys (a .1))
+    pairwise-before (x ∷ xs) y ys a = (append-all (P x) xs (y ∷ ys) (a .0) .1 .0, pairwise-before xs y ys (a .1))

@@ -3,10 +3,11 @@
 --   count x ns   == how often x stands in ns
 --   Same x       == x has the same links as before
 --   Mended n m q == m stands between n and q, if q is a number
-use mathlib.Core.Path.{_≡_, refl, sym, ap, _∙_}
+use mathlib.Core.Path.{_≡_, refl, sym, ap, _∙_, subst}
 use mathlib.Core.List.{List, [], _∷_, _++_}
 use Prim.Native.Nat.{ℕ, _+_, _≤_}
 use native.Mathlib.Omega.{arith}
+use Rattle.lists.specs.Lists.{All}
 use Rattle.tree.specs.Trie.{Trie, leaf, fork, Key, labels, leafAt}
 use Rattle.represent.specs.Labelled.{ind, occ, before, after, first, Linked}
 use Rattle.represent.proofs.LabelLaws.{ind-eq, ind-self, labels-at}
@@ -42,6 +43,22 @@ first-append (a ∷ ns) n ms ms′ = refl
 pub linked-next : (back forward : ℕ → ℕ) (p : ℕ) (ns : List ℕ) (n : ℕ) (ms : List ℕ) → Linked back forward p (ns ++ (n ∷ ms)) → forward n ≡ first ms
 linked-next back forward p [] n ms h = h .1
 linked-next back forward p (a ∷ ns) n ms h = linked-next back forward a ns n ms (h .2)
+
+pub linked-after : (back forward : ℕ → ℕ) (p : ℕ) (ns : List ℕ) (n : ℕ) (ms : List ℕ)
+    → Linked back forward p (ns ++ (n ∷ ms)) → Linked back forward n ms
+linked-after back forward p [] n ms h = h .2
+linked-after back forward p (a ∷ ns) n ms h = linked-after back forward a ns n ms (h .2)
+
+-- every link is null or one of the numbers: what holds of these holds of the links
+pub linked-all : (back forward : ℕ → ℕ) (P : ℕ → Type 0) (p : ℕ) (ns : List ℕ) → P 0 → P p → All P ns → Linked back forward p ns
+    → All (λ n. P (back n) × P (forward n)) ns
+linked-all back forward P p [] z q a h = tt
+linked-all back forward P p (n ∷ ns) z q a h =
+    ((subst P (sym (h .0)) q, subst P (sym (h .1)) (at-first ns (a .1))), linked-all back forward P n ns z (a .0) (a .1) (h .2))
+  where
+    at-first : (ns : List ℕ) → All P ns → P (first ns)
+    at-first [] a = z
+    at-first (m ∷ ms) a = a .0
 
 module _ (back forward back′ forward′ : ℕ → ℕ) where
   pub record Same (x : ℕ) : Type 0 where

@@ -29,25 +29,15 @@ use Rattle.represent.specs.Labelled.{relabel, Each, ind, occ, occs, OneF
 use Rattle.represent.specs.Image.{nodeAt, NodeIs}
 use Rattle.represent.specs.Rep.{Stretch, numbers, Nodes, Rep}
 use Rattle.represent.specs.Clauses.{Taken, start, PointsDown, NotBefore, terminal, InKeyOrder, Clauses}
-use Rattle.represent.proofs.LabelLaws.{ind-eq, ind-other, occ-at, labels-at}
-use Rattle.represent.proofs.ImageLaws.{Shown}
-use Rattle.represent.proofs.RepLaws.{label-low, label-high, rep-shown, rep-back, rep-forward}
-
--- a label of b, and the subtrie over which it stands
-over-in : (P : ℕ → Trie ℕ → Type 0) (b u : Trie ℕ) (n : ℕ) → 1 ≤ occ n b → Over P b u → (v : Trie ℕ) × P n v × ((x : ℕ) → occ x v ≤ occ x u)
-over-in P (leaf m) u n o h =
-    elim (ℕ-discrete n m) [
-      | yes e ↦ (u, subst (λ y. P y u) (sym e) h, λ x. omega arith)
-      | no e ↦ absurd (omega (arith, ind-other n m e))
-    ]
-over-in P (fork l r) (leaf a) n o h = absurd h
-over-in P (fork l r) (fork ul ur) n o h =
-    elim (decLe 1 (occ n l)) [
-      | yes p ↦ let w = over-in P l ul n p (h .0) in (w .0, w .1, λ x. omega (arith, w .2 x))
-      | no p ↦ let w = over-in P r ur n (omega arith) (h .1) in (w .0, w .1, λ x. omega (arith, w .2 x))
-    ]
+use Rattle.represent.proofs.LabelLaws.{ind-other, occ-at, labels-at, each-labels, each-of, each-label, each-relabel, over-in, over-parts}
+use Rattle.represent.proofs.ImageLaws.{entry-label, Shown}
+use Rattle.represent.proofs.RepLaws.{label-low, label-high, rep-shown}
+use Rattle.represent.proofs.Links.{rep-linked}
 
 module _ (θ : ℕ) (node : ℕ → List ℕ) (Q : ℕ → ℕ → Type 0) where
+  abbrev Shows : ℕ → ℕ → Trie ℕ → Type 0
+  Shows k n v = NodeIs θ (node n) (suc k) v
+
   abbrev pub Stands : ℕ → Type 0
   Stands n = (j : ℕ) × (v : Trie ℕ) × NodeIs θ (node n) (suc j) v × ((x : ℕ) → 1 ≤ occ x v → Q j x)
 
@@ -59,40 +49,24 @@ module _ (θ : ℕ) (node : ℕ → List ℕ) (Q : ℕ → ℕ → Type 0) where
   stands root levels k u (b ∷ bs) h below up n o =
       elim (decLe 1 (occ n b)) [
         | yes p ↦
-            let w = over-in (λ n v. NodeIs θ (node n) (suc k) v) b u n p (h .0) in
-            (k, w .0, w .1, λ x q. below x (omega (arith, w .2 x)))
+            let w = over-in (λ n v. Shows k n v × ((x : ℕ) → occ x v ≤ occ x u)) b u n p (over-parts (Shows k) b u (h .0)) in
+            (k, w .0, w .1 .0, λ x q. below x (omega (arith, w .1 .1 x)))
         | no p ↦
             stands root levels (suc k) b bs (h .1)
-              (λ x q. let w = over-in (λ n v. NodeIs θ (node n) (suc k) v) b u x q (h .0) in up x k (w .0) (omega arith) (w .1))
+              (λ x q. let w = over-in (Shows k) b u x q (h .0) in up x k (w .0) (omega arith) (w .1))
               (λ x j v q. up x j v (omega arith)) n (omega arith)
       ]
 
 -- entry i of an array that a trie gives
 module _ (e : ℕ → Entry ℕ) (v : Trie ℕ) (is : (j : ℕ) → j < 2 ^ height v → e j ≡ getD (flatten (height v) v 0) j (0, 0)) (i : ℕ) (l : i < 2 ^ height v) where
-  entry-label : e i .1 ≡ leafAt v (bits (height v) i)
-  entry-label =
-      ap (λ x. x .1)
-      (is i l ∙ ap (λ j. getD (flatten (height v) v 0) j (0, 0)) (sym (index-own (height v) i l))
-      ∙ at-key (height v) v (bits (height v) i) (0, 0) (depth-le-height v (bits (height v) i)))
+  entry-in : 1 ≤ occ (e i .1) v
+  entry-in = subst (λ x. 1 ≤ occ (x .1) v) (sym (is i l)) (entry-label (height v) v i (omega arith) l)
 
   entry-run : (e i .0 ≤ height v) × ((j : ℕ) → j < 2 ^ (height v - e i .0) → e (i - i % 2 ^ (height v - e i .0) + j) ≡ e i)
   unfolding RunRule
   entry-run =
       let r = rw (← is i l) at (obeys (height v) v (0, 0) (omega arith) i l) in
       (r .0, λ j q. is _ (run-lt (height v) (height v - e i .0) i j (sub-le (height v) (e i .0)) l q) ∙ r .1 j q)
-
--- a label of b0's numbers, and the stretch that has it
-each-label : (P : Stretch → Type 0) (t : Trie Stretch) (p : ℕ) → 1 ≤ occ p (numbers t) → Each P t → (x : Stretch) × (x .0 ≡ p) × P x
-each-label P (leaf x) p o h =
-    elim (ℕ-discrete p (x .0)) [
-      | yes e ↦ (x, sym e, h)
-      | no e ↦ absurd (omega (arith, ind-other p (x .0) e))
-    ]
-each-label P (fork l r) p o h =
-    elim (decLe 1 (occ p (numbers l))) [
-      | yes q ↦ each-label P l p q (h .0)
-      | no q ↦ each-label P r p (omega arith) (h .1)
-    ]
 
 -- lists of labels
 mem-left : {A : Type 0} (x : A) (xs ys : List A) → List·Memᴰ x xs → List·Memᴰ x (xs ++ ys)
@@ -114,14 +88,6 @@ occ-mem (fork l r) n o =
       | yes p ↦ mem-left n (labels l) (labels r) (occ-mem l n p)
       | no p ↦ mem-right n (labels l) (labels r) (occ-mem r n (omega arith))
     ]
-
-all-append : {A : Type 0} (P : A → Type 0) (xs ys : List A) → All P xs → All P ys → All P (xs ++ ys)
-all-append P [] ys h g = g
-all-append P (x ∷ xs) ys h g = (h .0, all-append P xs ys (h .1) g)
-
-occ-all : (P : ℕ → Type 0) (t : Trie ℕ) → ((n : ℕ) → 1 ≤ occ n t → P n) → All P (labels t)
-occ-all P (leaf m) f = (f m (omega (arith, ind-eq m m refl)), tt)
-occ-all P (fork l r) f = all-append P (labels l) (labels r) (occ-all P l (λ n o. f n (omega arith))) (occ-all P r (λ n o. f n (omega arith)))
 
 leaf-mem : (t : Trie ℕ) (k : Key) → List·Memᴰ (leafAt t k) (labels t)
 leaf-mem t k = occ-mem t (leafAt t k) (occ-at t k)
@@ -146,13 +112,6 @@ later (fork l r) (suc w) k k′ h =
                 (mem-left (leafAt l (bits w k′)) (leafAt l (bits w k) ∷ after l (bits w k)) (labels r) (later l w k k′ (omega (arith, rw (e, e′) at h))))
           ]
     ]
-
--- the links, where they say the same
-linked-same : (back forward back′ forward′ : ℕ → ℕ) (p : ℕ) (ns : List ℕ) → All (λ n. (back′ n ≡ back n) × (forward′ n ≡ forward n)) ns
-    → Linked back forward p ns → Linked back′ forward′ p ns
-linked-same back forward back′ forward′ p [] f h = tt
-linked-same back forward back′ forward′ p (n ∷ ns) f h =
-    (f .0 .0 ∙ h .0, f .0 .1 ∙ h .1, linked-same back forward back′ forward′ n ns (f .1) (h .2))
 
 module _ (f : Format) (s : List ℕ) (b0 : Trie Stretch) (b : Trie ℕ) (bs : List (Trie ℕ)) (r : Rep f s b0 (b ∷ bs))
     (pass : Each (λ x. (x .0 ≡ 0 → ⊥) → pageRule f (headOf s .capacity) (pageAt f s (headOf s) (x .0)) ≡ true) b0)
@@ -190,9 +149,7 @@ module _ (f : Format) (s : List ℕ) (b0 : Trie Stretch) (b : Trie ℕ) (bs : Li
 
     below : Below (at n t .0) (entryPointer s (start s n) i)
     below =
-        let v = at n t .1 in
-        let e : entryPointer s (start s n) i ≡ leafAt v (bits (height v) i) = entry-label (entryOf s (start s n)) v (at n t .2 .entry) i small in
-        subst (Below (at n t .0)) (sym e) (at n t .3 (leafAt v (bits (height v) i)) (occ-at v (bits (height v) i)))
+        at n t .3 (entryPointer s (start s n) i) (entry-in (entryOf s (start s n)) (at n t .1) (at n t .2 .entry) i small)
 
     runs : (entryDepth s (start s n) i ≤ depthWord s (start s n))
         × ((j : ℕ) → j < 2 ^ (depthWord s (start s n) - entryDepth s (start s n) i)
@@ -229,7 +186,7 @@ module _ (f : Format) (s : List ℕ) (b0 : Trie Stretch) (b : Trie ℕ) (bs : Li
                   | inl z ↦ z .1
                   | inr z ↦ absurd (omega (arith, z .3, at n t .2 .level-is))
                 ] in
-              let w = each-label _ b0 (entryPointer s (start s n) i) o pass in
+              let w = each-label _ (numbers b0) (entryPointer s (start s n) i) (each-relabel (λ x. x .0) _ b0 pass) o in
               inr (omega arith, label-high (headOf s .filled) (λ p. occ p (numbers b0)) (entryPointer s (start s n) i) (r .pages .oneForOne) o,
               subst (λ p. pageRule f (headOf s .capacity) (pageAt f s (headOf s) p) ≡ true) (w .1) (w .2 (λ q. e (sym (w .1) ∙ q))))
         ]
@@ -237,13 +194,9 @@ module _ (f : Format) (s : List ℕ) (b0 : Trie Stretch) (b : Trie ℕ) (bs : Li
   key-order : InKeyOrder f s (labels b)
   key-order =
       record {
-        terminals = occ-all (λ n. levelWord s (start s n) ≡ 1) b (λ n o. shown n o .level-is);
+        terminals = each-labels (λ n. levelWord s (start s n) ≡ 1) b (each-of _ b level-1);
         complete = λ n t one. occ-mem b n (first-level n t one);
-        linked =
-            linked-same (λ n. backWord (node n) 0) (λ n. forwardWord (node n) 0) (λ n. backWord s (start s n)) (λ n. forwardWord s (start s n)) 0 (labels b)
-            (occ-all _ b (λ n o. (rep-back f s b0 (b ∷ bs) r n 1 (over n o .0) (omega arith) (over n o .1),
-            rep-forward f s b0 (b ∷ bs) r n 1 (over n o .0) (omega arith) (over n o .1))))
-            (r .directory .links .0);
+        linked = rep-linked f s b0 b bs r;
         ordered = λ k k′ le lt.
             subst (λ n. NotBefore n (terminal f s k′) (labels b)) (sym (visits k (omega arith)))
             (subst (λ m. NotBefore (leafAt b (bits (width f) k)) m (labels b)) (sym (visits k′ lt))
@@ -251,10 +204,10 @@ module _ (f : Format) (s : List ℕ) (b0 : Trie Stretch) (b : Trie ℕ) (bs : Li
             later b (width f) k k′ (omega (arith, index-own (width f) k (omega arith), index-own (width f) k′ lt))));
       }
     where
-      over : (n : ℕ) → 1 ≤ occ n b → (v : Trie ℕ) × NodeIs (headOf s .theta) (node n) 1 v × ((x : ℕ) → occ x v ≤ occ x (numbers b0))
-      over n o = over-in (λ n v. NodeIs (headOf s .theta) (node n) 1 v) b (numbers b0) n o (r .directory .nodes .0)
-      shown : (n : ℕ) (o : 1 ≤ occ n b) → Shown s (start s n) (headOf s .theta) 1 (over n o .0)
-      shown n o = rep-shown f s b0 (b ∷ bs) r n 1 (over n o .0) (omega arith) (over n o .1)
+      level-1 : (n : ℕ) → 1 ≤ occ n b → levelWord s (start s n) ≡ 1
+      level-1 n o =
+          let w = over-in (λ n v. NodeIs (headOf s .theta) (node n) 1 v) b (numbers b0) n o (r .directory .nodes .0) in
+          rep-shown f s b0 (b ∷ bs) r n 1 (w .0) (omega arith) (w .1) .level-is
       first-level : (n : ℕ) → Taken s n → levelWord s (start s n) ≡ 1 → 1 ≤ occ n b
       first-level n t one =
           elim (decLe 1 (occ n b)) [

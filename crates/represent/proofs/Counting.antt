@@ -12,9 +12,9 @@ use Rattle.store.specs.declared.Format.{Format}
 use Rattle.store.specs.Head.{headOf}
 use Rattle.represent.specs.Labelled.{Each, ind, occ, occs}
 use Rattle.represent.specs.Rep.{Stretch, Rep}
-use Rattle.represent.proofs.LabelLaws.{ind-eq, ind-other}
+use Rattle.represent.proofs.LabelLaws.{ind-eq, ind-other, each-of}
 use Rattle.represent.proofs.RepLaws.{label-low, label-high}
-use Rattle.represent.proofs.Links.{each-of, rep-once}
+use Rattle.represent.proofs.Links.{rep-once}
 
 abbrev upTo : ℕ → (ℕ → ℕ) → ℕ
 upTo zero g = 0

@@ -8,8 +8,7 @@ use Rattle.store.specs.Node.{backWord, forwardWord}
 use Rattle.represent.specs.Labelled.{occ, occs, under, before, after, first, Linked}
 use Rattle.represent.specs.Rep.{backOf, forwardOf}
 use Rattle.represent.specs.Round.{NodeOps, NodeLaws, StoreOps, StoreLaws, stepAt, halveFirst}
-use Rattle.represent.proofs.LabelLaws.{ind-self, labels-graft, labels-at}
-use Rattle.represent.proofs.Grafts.{over-in}
+use Rattle.represent.proofs.LabelLaws.{ind-self, labels-graft, labels-at, over-in}
 use Rattle.represent.proofs.Chain.{count, count-labels, count-at, first-in, first-not, linked-next, Mended, linked-split}
 use Rattle.represent.proofs.Blocks.{Written, linked-written}
 use Rattle.represent.proofs.Level.{At, moved-links, Ready, label-low, label-high, key-low}

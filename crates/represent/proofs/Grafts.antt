@@ -4,10 +4,9 @@ use mathlib.Core.Bool.{true, false}
 use mathlib.Core.List.{[], _∷_}
 use Prim.Native.Nat.{ℕ, _+_, _≤_, _<_}
 use native.Mathlib.Omega.{arith}
-use native.Mathlib.Decide.{ℕ-discrete, decLe}
 use Rattle.tree.specs.Trie.{Trie, leaf, fork, Key, leafAt, rest, graft, pair}
 use Rattle.represent.specs.Labelled.{ind, occ, Over, under}
-use Rattle.represent.proofs.LabelLaws.{ind-eq, ind-other, ind-at, occ-at, occ-graft, over-map}
+use Rattle.represent.proofs.LabelLaws.{ind-eq, ind-at, occ-at, occ-graft, over-map}
 
 -- what is halved is a fork
 pub forked : {A : Type 0} (t : Trie A) (k : Key) (x y : A) → (l : Trie A) × (r : Trie A) × (graft t k (pair x y) ≡ fork l r)
@@ -23,18 +22,6 @@ occ-split x b k m = omega (arith, occ-graft x b k (pair (leafAt b k) m))
 -- a number that b does not have is not the one at the key
 pub off-key : (x : ℕ) (b : Trie ℕ) (k : Key) → occ x b ≡ 0 → x ≡ leafAt b k → ⊥
 off-key x b k o e = omega (arith, subst (λ (y : ℕ). 1 ≤ occ y b) (sym e) (occ-at b k))
-
-module _ {A : Type 0} (P : ℕ → Trie A → Type 0) where
-  -- a label of b stands over a subtrie
-  pub over-in : (b : Trie ℕ) (u : Trie A) (x : ℕ) → 1 ≤ occ x b → Over P b u → (v : Trie A) × P x v
-  over-in (leaf n) u x o h =
-      elim (ℕ-discrete x n) [
-        | yes e ↦ (u, subst (λ (y : ℕ). P y u) (sym e) h)
-        | no ne ↦ absurd (omega (arith, ind-other x n ne))
-      ]
-  over-in (fork l r) (leaf a) x o h = absurd h
-  over-in (fork l r) (fork ul ur) x o h =
-      elim (decLe 1 (occ x l)) [ yes p ↦ over-in l ul x p (h .0) | no p ↦ over-in r ur x (omega arith) (h .1) ]
 
 module _ {A : Type 0} (P Q : ℕ → Trie A → Type 0) where
   over-off : (b : Trie ℕ) (u : Trie A) (k : Key) (c : Trie ℕ) (d : Trie A)

@@ -1,5 +1,4 @@
--- The words of a block, read in place. A node block that shows a trie v has v's entries at their places and zeros after them; a page block with
--- records rs gives them back one by one.
+-- The words of a node block, read in place: a block that shows a trie v has v's entries at their places and zeros after them.
 --   Shown s a θ level v == the words of s from a on are a node block of this level with the entries of v
 use mathlib.Core.Path.{_≡_, refl, sym, ap, ap₂, _∙_, subst}
 use mathlib.Core.Bool.{true}
@@ -13,16 +12,21 @@ use lib.ListN.{length, getD, take, drop, replicate, length-append, length-replic
 use lib.Seq.{getD-take, getD-drop}
 use borrow.Author.Tests.{eq-eqb}
 use Rattle.lists.specs.Lists.{part, every}
+use Rattle.lists.specs.Bits.{bits}
+use Rattle.lists.proofs.BitLaws.{index-own}
 use Rattle.lists.proofs.Parts.{part-in, getD-past}
 use Rattle.lists.proofs.Tests.{every-of}
 use Rattle.tree.specs.Trie.{Trie, height}
 use Rattle.tree.specs.Node.{Entry, flatten}
-use Rattle.tree.proofs.Flatten.{length-flatten}
+use Rattle.tree.proofs.TrieLaws.{depth-le-height}
+use Rattle.tree.proofs.Flatten.{length-flatten, entry}
 use Rattle.store.specs.declared.Format.{Format}
 use Rattle.store.specs.declared.Head.{Head}
 use Rattle.store.specs.Head.{word, zeros, nodeWords, nodeStart, pageWords, size}
 use Rattle.store.specs.Node.{depthWord, levelWord, backWord, forwardWord, entryDepth, entryPointer, entryOf}
+use Rattle.represent.specs.Labelled.{occ}
 use Rattle.represent.specs.Image.{entryWords, nodeImage, nodeAt, NodeIs}
+use Rattle.represent.proofs.LabelLaws.{occ-at}
 
 pub part-word : (s : List ℕ) (a n i : ℕ) → a + n ≤ length s → i < n → word (part s a n) i ≡ word s (a + i)
 part-word s a n i h l = ap (λ ws. getD ws i 0) (part-in s a n h) ∙ getD-take n (drop a s) i 0 l ∙ getD-drop a s i 0
@@ -52,6 +56,12 @@ pub getD-zeros : (n i : ℕ) → _≡_ {A = ℕ} (getD (replicate n 0) i 0) 0
 getD-zeros zero i = refl
 getD-zeros (suc n) zero = refl
 getD-zeros (suc n) (suc i) = getD-zeros n i
+
+-- a pointer is a label
+pub entry-label : (H : ℕ) (t : Trie ℕ) (j : ℕ) → height t ≤ H → j < 2 ^ H → 1 ≤ occ (getD (flatten H t 0) j (0, 0) .1) t
+entry-label H t j low h =
+    let e = entry H t (bits H j) 0 (omega (arith, depth-le-height t (bits H j))) (0, 0) in
+    rw (rw (index-own H j h) at e) (occ-at t (bits H j))
 
 pub record Shown (s : List ℕ) (a θ level : ℕ) (v : Trie ℕ) : Type 0 where
   pub low : height v ≤ θ

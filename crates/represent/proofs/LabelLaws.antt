@@ -5,11 +5,14 @@ use mathlib.Core.Bool.{Bool, true, false, cond}
 use mathlib.Core.List.{List, [], _∷_, _++_, map, map-append, append-assoc, append-nil}
 use Prim.Native.Nat.{ℕ, zero, suc, _+_, _≤_, _<_}
 use native.Mathlib.Omega.{arith}
+use native.Mathlib.Decide.{ℕ-discrete, decLe}
 use lib.Dec.{eqb}
 use borrow.Author.Tests.{eq-eqb, ne-eqb}
+use Rattle.lists.specs.Lists.{All}
 use Rattle.tree.specs.Trie.{Trie, leaf, fork, Key, labels, leafAt, depth, rest, graft}
 use Rattle.tree.proofs.TrieLaws.{graft-leafAt}
 use Rattle.represent.specs.Labelled.{relabel, Each, ind, occ, Over, under, before, after}
+use Rattle.represent.proofs.AppendLaws.{all-append, append-all}
 
 pub ind-eq : (x n : ℕ) → x ≡ n → ind x n ≡ 1
 ind-eq x n e = rw (eq-eqb x n e)
@@ -53,13 +56,54 @@ module _ {A : Type 0} where
   pub labels-at : (t : Trie A) (k : Key) → labels t ≡ before t k ++ (leafAt t k ∷ after t k)
   labels-at t k = ap labels (sym (graft-leafAt t k)) ∙ labels-graft t k (leaf (leafAt t k))
 
+  pub each-map : (P Q : A → Type 0) (t : Trie A) → ((x : A) → P x → Q x) → Each P t → Each Q t
+  each-map P Q (leaf x) g h = g x h
+  each-map P Q (fork l r) g h = (each-map P Q l g (h .0), each-map P Q r g (h .1))
+
   pub each-at : (P : A → Type 0) (t : Trie A) (k : Key) → Each P t → P (leafAt t k)
   each-at P (leaf x) k h = h
   each-at P (fork l r) [] h = each-at P l [] (h .0)
   each-at P (fork l r) (false ∷ k) h = each-at P l k (h .0)
   each-at P (fork l r) (true ∷ k) h = each-at P r k (h .1)
 
+module _ {A : Type 0} (P : A → Type 0) where
+  pub each-labels : (t : Trie A) → Each P t → All P (labels t)
+  each-labels (leaf x) h = (h, tt)
+  each-labels (fork l r) h = all-append P (labels l) (labels r) (each-labels l (h .0)) (each-labels r (h .1))
+
+  pub labels-each : (t : Trie A) → All P (labels t) → Each P t
+  labels-each (leaf x) a = a .0
+  labels-each (fork l r) a = let b = append-all P (labels l) (labels r) a in (labels-each l (b .0), labels-each r (b .1))
+
+  pub each-after : (t : Trie A) (k : Key) → Each P t → All P (after t k)
+  each-after (leaf x) k h = tt
+  each-after (fork l r) [] h = all-append P (after l []) (labels r) (each-after l [] (h .0)) (each-labels r (h .1))
+  each-after (fork l r) (false ∷ k) h = all-append P (after l k) (labels r) (each-after l k (h .0)) (each-labels r (h .1))
+  each-after (fork l r) (true ∷ k) h = each-after r k (h .1)
+
+-- what holds of each label, by counting
+module _ (P : ℕ → Type 0) where
+  pub each-of : (t : Trie ℕ) → ((n : ℕ) → 1 ≤ occ n t → P n) → Each P t
+  each-of (leaf n) f = f n (omega (arith, ind-self n))
+  each-of (fork l r) f = (each-of l (λ n o. f n (omega arith)), each-of r (λ n o. f n (omega arith)))
+
+  pub each-label : (t : Trie ℕ) (n : ℕ) → Each P t → 1 ≤ occ n t → P n
+  each-label (leaf x) n h o =
+      elim (ℕ-discrete n x) [
+        | yes e ↦ subst P (sym e) h
+        | no e ↦ absurd (omega (arith, ind-other n x e))
+      ]
+  each-label (fork l r) n h o =
+      elim (decLe 1 (occ n l)) [
+        | yes p ↦ each-label l n (h .0) p
+        | no p ↦ each-label r n (h .1) (omega arith)
+      ]
+
 module _ {A B : Type 0} (g : A → B) where
+  pub each-relabel : (P : A → Type 0) (t : Trie A) → Each P t → Each (λ y. (x : A) × (g x ≡ y) × P x) (relabel g t)
+  each-relabel P (leaf x) h = (x, refl, h)
+  each-relabel P (fork l r) h = (each-relabel P l (h .0), each-relabel P r (h .1))
+
   pub leafAt-relabel : (t : Trie A) (k : Key) → leafAt (relabel g t) k ≡ g (leafAt t k)
   leafAt-relabel (leaf x) k = refl
   leafAt-relabel (fork l r) [] = leafAt-relabel l []
@@ -105,9 +149,33 @@ module _ {A : Type 0} (P : ℕ → Trie A → Type 0) where
   depth-under (fork l r) (fork ul ur) (false ∷ k) h = omega (arith, depth-under l ul k (h .0))
   depth-under (fork l r) (fork ul ur) (true ∷ k) h = omega (arith, depth-under r ur k (h .1))
 
+  -- a label of b stands over a subtrie
+  pub over-in : (b : Trie ℕ) (u : Trie A) (n : ℕ) → 1 ≤ occ n b → Over P b u → (v : Trie A) × P n v
+  over-in (leaf m) u n o h =
+      elim (ℕ-discrete n m) [
+        | yes e ↦ (u, subst (λ x. P x u) (sym e) h)
+        | no e ↦ absurd (omega (arith, ind-other n m e))
+      ]
+  over-in (fork l r) (leaf x) n o h = absurd h
+  over-in (fork l r) (fork ul ur) n o h =
+      elim (decLe 1 (occ n l)) [
+        | yes p ↦ over-in l ul n p (h .0)
+        | no p ↦ over-in r ur n (omega arith) (h .1)
+      ]
+
 module _ {A : Type 0} (P Q : ℕ → Trie A → Type 0) where
   pub over-map : (b : Trie ℕ) (u : Trie A) → ((n : ℕ) (v : Trie A) → 1 ≤ occ n b → P n v → Q n v) → Over P b u → Over Q b u
   over-map (leaf n) u f h = f n u (omega (arith, ind-self n)) h
   over-map (fork l r) (leaf x) f h = h
   over-map (fork l r) (fork ul ur) f h =
       (over-map l ul (λ n v o. f n v (omega arith)) (h .0), over-map r ur (λ n v o. f n v (omega arith)) (h .1))
+
+-- the labels of what stands under a leaf are labels of the whole
+pub over-parts : (P : ℕ → Trie ℕ → Type 0) (b u : Trie ℕ) → Over P b u → Over (λ n v. P n v × ((x : ℕ) → occ x v ≤ occ x u)) b u
+over-parts P (leaf n) u h = (h, λ x. omega arith)
+over-parts P (fork l r) (leaf x) h = absurd h
+over-parts P (fork l r) (fork ul ur) h = (widened l ul (λ x. omega arith) (over-parts P l ul (h .0)), widened r ur (λ x. omega arith) (over-parts P r ur (h .1)))
+  where
+    widened : (b v : Trie ℕ) → ((x : ℕ) → occ x v ≤ occ x ul + occ x ur) → Over (λ n w. P n w × ((x : ℕ) → occ x w ≤ occ x v)) b v
+        → Over (λ n w. P n w × ((x : ℕ) → occ x w ≤ occ x ul + occ x ur)) b v
+    widened b v i h = over-map _ _ b v (λ n w o p. (p .0, λ x. omega (arith, i x, p .1 x))) h

@@ -39,7 +39,7 @@ use Rattle.search.proofs.RangeLaws.{from-nothing, from-passed, from-full, from-
 use Rattle.represent.specs.Rep.{keyOf}
 use Rattle.represent.specs.Listing.{firstWhere, within, firstKey, findIn, nextIn, rangedIn, rangeIn, summaryIn}
 use Rattle.represent.specs.Promises.{Sound}
-use Rattle.represent.proofs.AppendLaws.{filter-none, filter-same, all-right, pairwise-right, pairwise-before}
+use Rattle.represent.proofs.AppendLaws.{filter-none, filter-same, append-all, pairwise-right, pairwise-before}
 use Rattle.represent.proofs.FirstLaws.{firstOf, first-true, first-false, first-all, skip-below, first-beyond}
 
 pub lawful-bounded : (f : Format) (S : List Item) → All (λ it. lawfulItem f it ≡ true) S → Bounded keyOf (2 ^ width f) S
@@ -187,7 +187,7 @@ module _ (f : Format) (s : List ℕ) (h : Head) (S : List Item) where
         let ascends : Sorted keyOf (front ++ (it ∷ its)) = subst (Sorted keyOf) e sorted in
         let bounds : Bounded keyOf (2 ^ width f) (front ++ (it ∷ its)) = subst (Bounded keyOf (2 ^ width f)) e bounded in
         let test : Item → Bool = λ x. above true (it .key) (x .key) in
-        next-is true (it .key) (all-right (λ x. x .key < 2 ^ width f) front (it ∷ its) bounds .0)
+        next-is true (it .key) (append-all (λ x. x .key < 2 ^ width f) front (it ∷ its) bounds .1 .0)
         ∙ ap (firstWhere test) e
         ∙ skip-below true (it .key) front (it ∷ its) (pairwise-before (λ x y. x .key < y .key) front it its ascends)
         ∙ first-false test it its (le-ltb (it .key) (it .key) (omega arith))

@@ -32,17 +32,14 @@ use Rattle.represent.specs.Labelled.{Each, occ, occs, Over, first, Linke
 use Rattle.represent.specs.Image.{nodeAt, NodeIs}
 use Rattle.represent.specs.Rep.{Stretch, numbers, keyOf, Nodes, backOf, forwardOf, Unlinked, Lawful, Rep}
 use Rattle.represent.specs.Promises.{RulesAbove, NodesPass, PagesPass, AgreesPasses}
-use Rattle.represent.proofs.LabelLaws.{ind-self, occ-at, each-at, leafAt-relabel}
-use Rattle.represent.proofs.ImageLaws.{Shown}
+use Rattle.represent.proofs.LabelLaws.{each-map, each-at, each-labels, labels-each, each-of, each-label, leafAt-relabel, over-in, over-parts}
+use Rattle.represent.proofs.Chain.{linked-all}
+use Rattle.represent.proofs.ImageLaws.{entry-label, Shown}
 use Rattle.represent.proofs.RepLaws.{label-low, label-high, rep-shown, rep-back, rep-forward}
 use Rattle.represent.proofs.PageImage.{page-passes, page-agrees}
 use Rattle.represent.proofs.Records.{keyed-own}
 
 -- pages
-each-map : {A : Type 0} (P Q : A → Type 0) (t : Trie A) → ((x : A) → P x → Q x) → Each P t → Each Q t
-each-map P Q (leaf x) g e = g x e
-each-map P Q (fork l r) g e = (each-map P Q l g (e .0), each-map P Q r g (e .1))
-
 module _ (f : Format) (s : List ℕ) (h : Head) where
   page-rule : (x : Stretch) → Lawful f s h x → (x .0 ≡ 0 → ⊥) → pageRule f (h .capacity) (pageAt f s h (x .0)) ≡ true
   page-rule (p, []) l n = absurd (n (l .page))
@@ -64,72 +61,13 @@ agrees-passes f s b0 bs k r low =
     (each-at (Lawful f s (headOf s)) b0 (bits (width f) k) (r .pages .each)) n
     (keyed-own f s (headOf s) (width f) 0 k b0 (r .pages .keyed) (div-eq-of-lt low)))
 
--- labels
-occ-leaf : (n x : ℕ) → 1 ≤ occ n (leaf x) → n ≡ x
-occ-leaf n x o =
-    elim (bool-cases (eqb n x)) [
-      | inl e ↦ eqb-true n x e
-      | inr e ↦ absurd (omega (arith, rw e at o))
-    ]
-
-module _ (P : ℕ → Type 0) where
-  each-label : (t : Trie ℕ) (n : ℕ) → Each P t → 1 ≤ occ n t → P n
-  each-label (leaf x) n e o = subst P (sym (occ-leaf n x o)) e
-  each-label (fork l r) n e o =
-      elim (decLe 1 (occ n l)) [
-        | yes h ↦ each-label l n (e .0) h
-        | no h ↦ each-label r n (e .1) (omega arith)
-      ]
-
-  label-each : (t : Trie ℕ) → ((n : ℕ) → 1 ≤ occ n t → P n) → Each P t
-  label-each (leaf x) g = g x (omega (arith, ind-self x))
-  label-each (fork l r) g = (label-each l (λ n o. g n (omega arith)), label-each r (λ n o. g n (omega arith)))
-
-module _ {A : Type 0} (P : A → Type 0) where
-  all-append : (xs ys : List A) → All P xs → All P ys → All P (xs ++ ys)
-  all-append [] ys a b = b
-  all-append (x ∷ xs) ys a b = (a .0, all-append xs ys (a .1) b)
-
-  pub append-all : (xs ys : List A) → All P (xs ++ ys) → All P xs × All P ys
-  append-all [] ys a = (tt, a)
-  append-all (x ∷ xs) ys a = let b = append-all xs ys (a .1) in ((a .0, b .0), b .1)
-
-  each-all : (t : Trie A) → Each P t → All P (labels t)
-  each-all (leaf x) e = (e, tt)
-  each-all (fork l r) e = all-append (labels l) (labels r) (each-all l (e .0)) (each-all r (e .1))
-
-  all-each : (t : Trie A) → All P (labels t) → Each P t
-  all-each (leaf x) a = a .0
-  all-each (fork l r) a = let b = append-all (labels l) (labels r) a in (all-each l (b .0), all-each r (b .1))
-
 -- a trie over another: P of each leaf and what stands there, whose labels are labels of the whole
 over-each : (P : ℕ → Trie ℕ → Type 0) (Q : ℕ → Type 0) (b u : Trie ℕ)
     → ((n : ℕ) (v : Trie ℕ) → 1 ≤ occ n b → ((x : ℕ) → occ x v ≤ occ x u) → P n v → Q n) → Over P b u → Each Q b
-over-each P Q (leaf n) u g p = g n u (omega (arith, ind-self n)) (λ x. omega arith) p
-over-each P Q (fork l r) (leaf x) g p = absurd p
-over-each P Q (fork l r) (fork ul ur) g p = (
-  over-each P Q l ul (λ n v o i. g n v (omega arith) (λ x. omega (arith, i x))) (p .0),
-  over-each P Q r ur (λ n v o i. g n v (omega arith) (λ x. omega (arith, i x))) (p .1),
-)
-
--- links are labels or null
-linked-within : (back forward : ℕ → ℕ) (m p : ℕ) (ns : List ℕ) → p ≤ m → All (λ n. n ≤ m) ns → Linked back forward p ns
-    → All (λ n. (back n ≤ m) × (forward n ≤ m)) ns
-linked-within back forward m p [] h a l = tt
-linked-within back forward m p (n ∷ ns) h a l = (
-  (omega (arith, l .0), rw (l .1) (next ns (a .1))),
-  linked-within back forward m n ns (a .0) (a .1) (l .2),
-)
-  where
-    next : (ns : List ℕ) → All (λ n. n ≤ m) ns → first ns ≤ m
-    next [] a = omega arith
-    next (n ∷ ns) a = a .0
-
--- a pointer is a label
-entry-label : (H : ℕ) (t : Trie ℕ) (j : ℕ) → height t ≤ H → j < 2 ^ H → 1 ≤ occ (getD (flatten H t 0) j (0, 0) .1) t
-entry-label H t j low h =
-    let e = entry H t (bits H j) 0 (omega (arith, depth-le-height t (bits H j))) (0, 0) in
-    rw (rw (index-own H j h) at e) (occ-at t (bits H j))
+over-each P Q b u g h =
+    each-of Q b (λ n o.
+    let w = over-in (λ n v. P n v × ((x : ℕ) → occ x v ≤ occ x u)) b u n o (over-parts P b u h) in
+    g n (w .0) o (w .1 .1) (w .1 .0))
 
 node-passes : (h : Head) (s : List ℕ) (at level : ℕ) (v : Trie ℕ) → Shown s at (h .theta) level v
     → ((x : ℕ) → 1 ≤ occ x v → (pointerLow level ≤ x) × (x ≤ pointerHigh h level)) → linkRule h level (backWord s at) (forwardWord s at) ≡ true
@@ -189,9 +127,9 @@ module _ (f : Format) (s : List ℕ) (b0 : Trie Stretch) (b : Trie ℕ) (bs : Li
 
   links-taken : Each LinksTaken b
   links-taken =
-      let below : Each (λ n. n ≤ headOf s .taken) b = label-each _ b (λ n o. taken f s b0 (b ∷ bs) r n (omega arith) .1) in
-      all-each LinksTaken b
-      (linked-within _ _ (headOf s .taken) 0 (labels b) (omega arith) (each-all (λ n. n ≤ headOf s .taken) b below) (r .directory .links .0))
+      let below : Each (λ n. n ≤ headOf s .taken) b = each-of _ b (λ n o. taken f s b0 (b ∷ bs) r n (omega arith) .1) in
+      labels-each LinksTaken b
+      (linked-all _ _ (λ n. n ≤ headOf s .taken) 0 (labels b) (omega arith) (omega arith) (each-labels (λ n. n ≤ headOf s .taken) b below) (r .directory .links .0))
 
   lowest : Each (λ n. nodeRule (headOf s) s (nodeStart (headOf s) n) 1 ≡ true) b
   lowest =

@@ -29,13 +29,13 @@ use Rattle.represent.specs.Labelled.{relabel, Each, after}
 use Rattle.represent.specs.Rep.{Stretch, numbers, keyOf, Lawful, Rep, Holds}
 use Rattle.represent.specs.Listing.{firstWhere, findIn, nextIn}
 use Rattle.represent.specs.Promises.{pathSteps, FindReads, NextReads}
-use Rattle.represent.proofs.LabelLaws.{each-at, leafAt-relabel, after-relabel}
+use Rattle.represent.proofs.AppendLaws.{append-all}
+use Rattle.represent.proofs.LabelLaws.{each-at, leafAt-relabel, after-relabel, each-after}
 use Rattle.represent.proofs.FirstLaws.{firstOf, orElse, above-true}
 use Rattle.represent.proofs.Records.{recordsOf, records, records-are, height-keyed, keyed-after, keyed-own, find-own, next-own, next-right}
 use Rattle.represent.proofs.PageImage.{first-cases, page-head, page-passes, page-agrees, page-all-above, page-first, page-none, page-find}
-use Rattle.represent.proofs.Passes.{append-all, nodes-pass}
+use Rattle.represent.proofs.Passes.{nodes-pass}
 use Rattle.represent.proofs.DescentVisits.{descent-is}
-use Rattle.represent.proofs.Links.{each-after}
 use Rattle.represent.proofs.Runs.{firstPage}
 use Rattle.represent.proofs.Along.{visited, after-descent}
 

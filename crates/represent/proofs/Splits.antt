@@ -12,7 +12,8 @@ use Rattle.store.specs.Node.{forwardWord}
 use Rattle.represent.specs.Labelled.{occ}
 use Rattle.represent.specs.Image.{NodeIs}
 use Rattle.represent.specs.Round.{NodeOps, NodeLaws, StoreOps, StoreLaws, Changed, two, advance, relink}
-use Rattle.represent.proofs.Grafts.{off-key, over-in}
+use Rattle.represent.proofs.LabelLaws.{over-in}
+use Rattle.represent.proofs.Grafts.{off-key}
 use Rattle.represent.proofs.Blocks.{linked-written}
 use Rattle.represent.proofs.Writes.{two-nodes, advanced, relink-nodes}
 use Rattle.represent.proofs.Level.{At, is-moved, Ready, label-low, label-high, key-low, key-high}
