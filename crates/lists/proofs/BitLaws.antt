@@ -30,10 +30,6 @@ index-lt (suc n) [] = omega (arith, index-lt n [])
 index-lt (suc n) (false ∷ bs) = omega (arith, index-lt n bs)
 index-lt (suc n) (true ∷ bs) = omega (arith, index-lt n bs)
 
-pub index-nil : (n : ℕ) → index n [] ≡ 0
-index-nil zero = refl
-index-nil (suc n) = index-nil n
-
 pub index-add : (h k : ℕ) (bs : List Bool) → index (h + k) bs ≡ index h bs * 2 ^ k + index k (drop h bs)
 index-add zero k bs = rw zero-add (omega arith)
 index-add (suc h) k [] = rw suc-add (rw drop-nil at (index-add h k []))

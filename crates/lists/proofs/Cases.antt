@@ -1,7 +1,6 @@
 -- Case splits on a test.
 --   bool-cases b  == b is true or false, with the equation
 --   by-cases b    == the same as a rule
---   refuted b     == a test that cannot hold is false
 use mathlib.Core.Path.{_≡_, refl}
 use mathlib.Core.Bool.{Bool, true, false}
 use mathlib.Core.Logic.{_⊎_, inl, inr}
@@ -13,6 +12,3 @@ bool-cases false = inr refl
 pub by-cases : {A : Type 0} (b : Bool) → (b ≡ true → A) → (b ≡ false → A) → A
 by-cases true f g = f refl
 by-cases false f g = g refl
-
-pub refuted : (b : Bool) → (b ≡ true → ⊥) → b ≡ false
-refuted b f = by-cases b (λ e. absurd (f e)) (λ e. e)

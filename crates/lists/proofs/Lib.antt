@@ -6,3 +6,5 @@ pub mod KeyedLaws
 pub mod Parts
 pub mod Tests
 pub mod Shifts
+pub mod AppendLaws
+pub mod Elsewhere

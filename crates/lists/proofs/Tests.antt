@@ -1,7 +1,7 @@
 -- Tests over a range of numbers, and conjunctions of tests, as facts.
 use mathlib.Core.Path.{_≡_, refl, sym, ap, _∙_, subst}
 use mathlib.Core.Bool.{Bool, true, false, not, _&&_, false≢true}
-use mathlib.Core.List.{List, [], _∷_}
+use mathlib.Core.List.{List, [], _∷_, _++_}
 use Prim.Native.Nat.{ℕ, zero, suc, _+_, _-_, _≤_, _<_, max}
 use native.Mathlib.Decide.{decLt, ℕ-discrete}
 use native.Mathlib.Numerals.{add-one}
@@ -15,11 +15,11 @@ pub and-true : (a b : Bool) → (a && b) ≡ true → (a ≡ true) × (b ≡ tru
 and-true true b e = (refl, e)
 and-true false b e = absurd (false≢true e)
 
-pub and-right-false : (a b : Bool) → b ≡ false → (a && b) ≡ false
-and-right-false true b e = e
-and-right-false false b e = refl
+pub and-three : (a b c : Bool) → (a && b && c) ≡ true → (a ≡ true) × (b ≡ true) × (c ≡ true)
+and-three true true c e = (refl, refl, e)
+and-three true false c e = absurd (false≢true e)
+and-three false b c e = absurd (false≢true e)
 
--- two tests that hold together are the same
 pub same-test : (a b : Bool) → (a ≡ true → b ≡ true) → (b ≡ true → a ≡ true) → a ≡ b
 same-test true b f g = sym (f refl)
 same-test false true f g = g refl
@@ -62,12 +62,6 @@ every-of (suc n) t h = rw (every-of n t (λ k q. h k (omega arith)), h n (omega 
 
 pub every-not : (n : ℕ) (t : ℕ → Bool) (k : ℕ) → k < n → t k ≡ false → every n t ≡ false
 every-not n t k h q = same-test (every n t) false (λ e. sym q ∙ every-at n t e k h) (λ e. absurd (false≢true e))
-
-pub every-ext : (n : ℕ) (t u : ℕ → Bool) → ((k : ℕ) → k < n → t k ≡ u k) → every n t ≡ every n u
-every-ext n t u h =
-    same-test (every n t) (every n u)
-    (λ e. every-of n u (λ k q. sym (h k q) ∙ every-at n t e k q))
-    (λ e. every-of n t (λ k q. h k q ∙ every-at n u e k q))
 
 -- a function that rises at each step rises over any steps
 pub rising :
@@ -133,3 +127,14 @@ unfolding tab
 getD-tab zero f i z h = absurd (omega arith)
 getD-tab (suc n) f zero z h = refl
 getD-tab (suc n) f (suc i) z h = getD-tab n (λ i. f (suc i)) i z (omega arith)
+
+pub tab-ext : {A : Type 0} (n : ℕ) (f g : ℕ → A) → ((i : ℕ) → i < n → f i ≡ g i) → tab n f ≡ tab n g
+unfolding tab
+tab-ext zero f g h = refl
+tab-ext (suc n) f g h = rw (h 0 (omega arith), tab-ext n (λ i. f (suc i)) (λ i. g (suc i)) (λ i q. h (suc i) (omega arith)))
+
+-- the last element apart
+pub tab-last : {A : Type 0} (n : ℕ) (f : ℕ → A) → tab (suc n) f ≡ tab n f ++ f n ∷ []
+unfolding tab
+tab-last zero f = refl
+tab-last (suc n) f = ap (λ l. f 0 ∷ l) (tab-last n (λ i. f (suc i)))

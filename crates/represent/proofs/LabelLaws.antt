@@ -12,7 +12,7 @@ use Rattle.lists.specs.Lists.{All}
 use Rattle.tree.specs.Trie.{Trie, leaf, fork, Key, labels, leafAt, depth, rest, graft}
 use Rattle.tree.proofs.TrieLaws.{graft-leafAt}
 use Rattle.represent.specs.Labelled.{relabel, Each, ind, occ, Over, under, before, after}
-use Rattle.represent.proofs.AppendLaws.{all-append, append-all}
+use Rattle.lists.proofs.AppendLaws.{all-append, append-all}
 
 pub ind-eq : (x n : ℕ) → x ≡ n → ind x n ≡ 1
 ind-eq x n e = rw (eq-eqb x n e)

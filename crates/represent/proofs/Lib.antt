@@ -3,7 +3,6 @@ pub mod ImageLaws
 pub mod RepLaws
 pub mod ClauseLaws
 pub mod Example
-pub mod AppendLaws
 pub mod FirstLaws
 pub mod ListingLaws
 pub mod Records
@@ -29,3 +28,8 @@ pub mod Rise
 pub mod Climb
 pub mod FirstSplit
 pub mod RoundLaws
+pub mod Frame
+pub mod Lengths
+pub mod WordStore
+pub mod PageLaws
+pub mod DirectoryFrame

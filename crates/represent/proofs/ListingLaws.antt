@@ -39,7 +39,7 @@ use Rattle.search.proofs.RangeLaws.{from-nothing, from-passed, from-full, from-
 use Rattle.represent.specs.Rep.{keyOf}
 use Rattle.represent.specs.Listing.{firstWhere, within, firstKey, findIn, nextIn, rangedIn, rangeIn, summaryIn}
 use Rattle.represent.specs.Promises.{Sound}
-use Rattle.represent.proofs.AppendLaws.{filter-none, filter-same, append-all, pairwise-right, pairwise-before}
+use Rattle.lists.proofs.AppendLaws.{filter-none, filter-same, append-all, pairwise-right, pairwise-before}
 use Rattle.represent.proofs.FirstLaws.{firstOf, first-true, first-false, first-all, skip-below, first-beyond}
 
 pub lawful-bounded : (f : Format) (S : List Item) → All (λ it. lawfulItem f it ≡ true) S → Bounded keyOf (2 ^ width f) S

@@ -59,7 +59,7 @@ agrees-passes f s b0 bs k r low =
     rw (leafAt-relabel (λ x. x .0) b0 (bits (width f) k))
     (λ n. page-agreed f s (headOf s) (leafAt b0 (bits (width f) k)) k (depth b0 (bits (width f) k))
     (each-at (Lawful f s (headOf s)) b0 (bits (width f) k) (r .pages .each)) n
-    (keyed-own f s (headOf s) (width f) 0 k b0 (r .pages .keyed) (div-eq-of-lt low)))
+    (keyed-own (width f) 0 k b0 (r .pages .keyed) (div-eq-of-lt low)))
 
 -- a trie over another: P of each leaf and what stands there, whose labels are labels of the whole
 over-each : (P : ℕ → Trie ℕ → Type 0) (Q : ℕ → Type 0) (b u : Trie ℕ)

@@ -31,7 +31,7 @@ use Rattle.represent.proofs.ClauseLaws.{rep-clauses}
 
 pub descent-visits : DescentVisits
 descent-visits f s b0 bs k r low =
-    descent-is f s b0 bs r k low (nodes-pass f s b0 bs r) (height-keyed f s (headOf s) (width f) 0 b0 (r .pages .keyed))
+    descent-is f s b0 bs r k low (nodes-pass f s b0 bs r) (height-keyed (width f) 0 b0 (r .pages .keyed))
 
 module _ (f : Format) (s : List ℕ) (S : List Item) where
   bounded : Holds f s S → Bounded keyOf (2 ^ width f) S

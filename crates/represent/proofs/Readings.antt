@@ -29,7 +29,7 @@ use Rattle.represent.specs.Labelled.{relabel, Each, after}
 use Rattle.represent.specs.Rep.{Stretch, numbers, keyOf, Lawful, Rep, Holds}
 use Rattle.represent.specs.Listing.{firstWhere, findIn, nextIn}
 use Rattle.represent.specs.Promises.{pathSteps, FindReads, NextReads}
-use Rattle.represent.proofs.AppendLaws.{append-all}
+use Rattle.lists.proofs.AppendLaws.{append-all}
 use Rattle.represent.proofs.LabelLaws.{each-at, leafAt-relabel, after-relabel, each-after}
 use Rattle.represent.proofs.FirstLaws.{firstOf, orElse, above-true}
 use Rattle.represent.proofs.Records.{recordsOf, records, records-are, height-keyed, keyed-after, keyed-own, find-own, next-own, next-right}
@@ -121,13 +121,13 @@ module _ (f : Format) (s : List ℕ) (b0 : Trie Stretch) (b : Trie ℕ) (bs : Li
   key = bits (width f) k
 
   deep : height b0 ≤ width f
-  deep = height-keyed f s (headOf s) (width f) 0 b0 (r .pages .keyed)
+  deep = height-keyed (width f) 0 b0 (r .pages .keyed)
 
   own : Lawful f s (headOf s) (leafAt b0 key)
   own = each-at (Lawful f s (headOf s)) b0 key (r .pages .each)
 
   agree : Agree f s (headOf s) k (depth b0 key) (leafAt b0 key .1)
-  agree = keyed-own f s (headOf s) (width f) 0 k b0 (r .pages .keyed) (div-eq-of-lt low)
+  agree = keyed-own (width f) 0 k b0 (r .pages .keyed) (div-eq-of-lt low)
 
   visits : descent f s (headOf s) k
       ≡ record {
@@ -146,14 +146,14 @@ module _ (f : Format) (s : List ℕ) (b0 : Trie Stretch) (b : Trie ℕ) (bs : Li
   find-is =
       rw (ap (λ d. d .ok) visits, findOf)
       (ap₂ (found f s (headOf s) k) page-is (ap (λ d. d .used) visits) ∙ found-is f s (headOf s) k (leafAt b0 key) (depth b0 key) own agree)
-      ∙ sym (find-own f s (headOf s) (width f) k b0 (r .pages .keyed) low)
+      ∙ sym (find-own (width f) k b0 (r .pages .keyed) low)
 
   later : (strict : Bool) → afterOwn f s (headOf s) strict k (getD (descent f s (headOf s) k .steps) 0 noStep) ≡ firstOf (recordsOf (after b0 key))
   later strict =
       after-descent f s b0 b bs r (nodes-pass f s b0 (b ∷ bs) r) deep k low strict
       ∙ ap (λ ns. visited f s strict k (firstPage ns)) (after-relabel (λ x. x .0) b0 key)
       ∙ visited-is f s strict k (after b0 key) (each-after (Lawful f s (headOf s)) b0 key (r .pages .each))
-      (keyed-after f s (headOf s) (width f) 0 k b0 (r .pages .keyed) (div-eq-of-lt low))
+      (keyed-after (width f) 0 k b0 (r .pages .keyed) (div-eq-of-lt low))
 
   pub next-is : (strict : Bool) → nextOf f s (headOf s) strict k ≡ firstWhere (λ it. above strict k (it .key)) (records b0)
   unfolding nextOf fromDescent
@@ -169,6 +169,6 @@ module _ (f : Format) (s : List ℕ) (b0 : Trie Stretch) (b : Trie ℕ) (bs : Li
           ≡ firstWhere (λ it. above strict k (it .key)) (records b0)
       joined =
           elim (first-cases (λ it. above strict k (it .key)) (leafAt b0 key .1)) [
-            | inl e ↦ rw e (sym (next-right f s (headOf s) (width f) k b0 (r .pages .keyed) low strict e))
-            | inr e ↦ rw (e .1) (sym (next-own f s (headOf s) (width f) k b0 (r .pages .keyed) low strict (e .0) (e .1)))
+            | inl e ↦ rw e (sym (next-right (width f) k b0 (r .pages .keyed) low strict e))
+            | inr e ↦ rw (e .1) (sym (next-own (width f) k b0 (r .pages .keyed) low strict (e .0) (e .1)))
           ]

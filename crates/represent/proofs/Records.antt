@@ -36,7 +36,7 @@ use Rattle.represent.specs.Labelled.{before, after}
 use Rattle.represent.specs.Rep.{Stretch, contents, keyOf, Keyed}
 use Rattle.represent.specs.Listing.{firstWhere}
 use Rattle.represent.proofs.LabelLaws.{labels-at}
-use Rattle.represent.proofs.AppendLaws.{filter-every, filter-none, all-append}
+use Rattle.lists.proofs.AppendLaws.{filter-every, filter-none, all-append}
 use Rattle.represent.proofs.FirstLaws.{firstOf, orElse, orElse-nothing, first-append, first-none, skip-below, first-beyond}
 
 -- a key with a smaller quotient is smaller
@@ -135,62 +135,61 @@ prefix-above : (w q k : ℕ) (its : List Item) → k / 2 ^ w < q → Prefix keyO
 prefix-above w q k its l =
     all-map (λ it. it .key / 2 ^ w ≡ q) (λ it. k < it .key) its (λ it o. shr-lt-back w k (it .key) (omega arith))
 
-module _ (f : Format) (s : List ℕ) (h : Head) where
-  pub height-keyed : (w q : ℕ) (t : Trie Stretch) → Keyed f s h w q t → height t ≤ w
-  height-keyed w q (leaf x) a = omega arith
-  height-keyed zero q (fork l r) a = absurd a
-  height-keyed (suc w) q (fork l r) a = omega (arith, height-keyed w (2 * q) l (a .0), height-keyed w (2 * q + 1) r (a .1))
+pub height-keyed : (w q : ℕ) (t : Trie Stretch) → Keyed w q t → height t ≤ w
+height-keyed w q (leaf x) a = omega arith
+height-keyed zero q (fork l r) a = absurd a
+height-keyed (suc w) q (fork l r) a = omega (arith, height-keyed w (2 * q) l (a .0), height-keyed w (2 * q + 1) r (a .1))
 
-  pub depth-keyed : (w q : ℕ) (t : Trie Stretch) (key : Key) → Keyed f s h w q t → depth t key ≤ w
-  depth-keyed w q t key a = omega (arith, depth-le-height t key, height-keyed w q t a)
+pub depth-keyed : (w q : ℕ) (t : Trie Stretch) (key : Key) → Keyed w q t → depth t key ≤ w
+depth-keyed w q t key a = omega (arith, depth-le-height t key, height-keyed w q t a)
 
-  prefix-keyed : (w q : ℕ) (t : Trie Stretch) → Keyed f s h w q t → Prefix keyOf w q (recordsOf (labels t))
-  prefix-keyed w q (leaf x) a = all-append (λ it. it .key / 2 ^ w ≡ q) (x .1) [] a tt
-  prefix-keyed zero q (fork l r) a = absurd a
-  prefix-keyed (suc w) q (fork l r) a =
-      all-joined (λ it. it .key / 2 ^ suc w ≡ q) (labels l) (labels r)
-      (prefix-up w q (2 * q) (recordsOf (labels l)) (omega arith) (prefix-keyed w (2 * q) l (a .0)))
-      (prefix-up w q (2 * q + 1) (recordsOf (labels r)) (omega arith) (prefix-keyed w (2 * q + 1) r (a .1)))
+prefix-keyed : (w q : ℕ) (t : Trie Stretch) → Keyed w q t → Prefix keyOf w q (recordsOf (labels t))
+prefix-keyed w q (leaf x) a = all-append (λ it. it .key / 2 ^ w ≡ q) (x .1) [] a tt
+prefix-keyed zero q (fork l r) a = absurd a
+prefix-keyed (suc w) q (fork l r) a =
+    all-joined (λ it. it .key / 2 ^ suc w ≡ q) (labels l) (labels r)
+    (prefix-up w q (2 * q) (recordsOf (labels l)) (omega arith) (prefix-keyed w (2 * q) l (a .0)))
+    (prefix-up w q (2 * q + 1) (recordsOf (labels r)) (omega arith) (prefix-keyed w (2 * q + 1) r (a .1)))
 
-  pub keyed-before : (w q k : ℕ) (t : Trie Stretch) → Keyed f s h w q t → k / 2 ^ w ≡ q → All (λ it. it .key < k) (recordsOf (before t (bits w k)))
-  keyed-before w q k (leaf x) a e = tt
-  keyed-before zero q k (fork l r) a e = absurd a
-  keyed-before (suc w) q k (fork l r) a e =
-      elim (bool-cases (bit w k)) [
-        | inl b ↦
-            let c : k / 2 ^ w ≡ 2 * q + 1 = omega (arith, bit-true w k b) in
-            rw b
-            (all-joined (λ it. it .key < k) (labels l) (before r (bits w k))
-            (prefix-below w (2 * q) k (recordsOf (labels l)) (omega arith) (prefix-keyed w (2 * q) l (a .0)))
-            (keyed-before w (2 * q + 1) k r (a .1) c))
-        | inr b ↦ rw b (keyed-before w (2 * q) k l (a .0) (omega (arith, bit-false w k b)))
-      ]
+pub keyed-before : (w q k : ℕ) (t : Trie Stretch) → Keyed w q t → k / 2 ^ w ≡ q → All (λ it. it .key < k) (recordsOf (before t (bits w k)))
+keyed-before w q k (leaf x) a e = tt
+keyed-before zero q k (fork l r) a e = absurd a
+keyed-before (suc w) q k (fork l r) a e =
+    elim (bool-cases (bit w k)) [
+      | inl b ↦
+          let c : k / 2 ^ w ≡ 2 * q + 1 = omega (arith, bit-true w k b) in
+          rw b
+          (all-joined (λ it. it .key < k) (labels l) (before r (bits w k))
+          (prefix-below w (2 * q) k (recordsOf (labels l)) (omega arith) (prefix-keyed w (2 * q) l (a .0)))
+          (keyed-before w (2 * q + 1) k r (a .1) c))
+      | inr b ↦ rw b (keyed-before w (2 * q) k l (a .0) (omega (arith, bit-false w k b)))
+    ]
 
-  pub keyed-after : (w q k : ℕ) (t : Trie Stretch) → Keyed f s h w q t → k / 2 ^ w ≡ q → All (λ it. k < it .key) (recordsOf (after t (bits w k)))
-  keyed-after w q k (leaf x) a e = tt
-  keyed-after zero q k (fork l r) a e = absurd a
-  keyed-after (suc w) q k (fork l r) a e =
-      elim (bool-cases (bit w k)) [
-        | inl b ↦ rw b (keyed-after w (2 * q + 1) k r (a .1) (omega (arith, bit-true w k b)))
-        | inr b ↦
-            let c : k / 2 ^ w ≡ 2 * q = omega (arith, bit-false w k b) in
-            rw b
-            (all-joined (λ it. k < it .key) (after l (bits w k)) (labels r)
-            (keyed-after w (2 * q) k l (a .0) c)
-            (prefix-above w (2 * q + 1) k (recordsOf (labels r)) (omega arith) (prefix-keyed w (2 * q + 1) r (a .1))))
-      ]
+pub keyed-after : (w q k : ℕ) (t : Trie Stretch) → Keyed w q t → k / 2 ^ w ≡ q → All (λ it. k < it .key) (recordsOf (after t (bits w k)))
+keyed-after w q k (leaf x) a e = tt
+keyed-after zero q k (fork l r) a e = absurd a
+keyed-after (suc w) q k (fork l r) a e =
+    elim (bool-cases (bit w k)) [
+      | inl b ↦ rw b (keyed-after w (2 * q + 1) k r (a .1) (omega (arith, bit-true w k b)))
+      | inr b ↦
+          let c : k / 2 ^ w ≡ 2 * q = omega (arith, bit-false w k b) in
+          rw b
+          (all-joined (λ it. k < it .key) (after l (bits w k)) (labels r)
+          (keyed-after w (2 * q) k l (a .0) c)
+          (prefix-above w (2 * q + 1) k (recordsOf (labels r)) (omega arith) (prefix-keyed w (2 * q + 1) r (a .1))))
+    ]
 
-  -- the keys at a key's leaf agree with it in the bits that lead there
-  pub keyed-own : (w q k : ℕ) (t : Trie Stretch) → Keyed f s h w q t → k / 2 ^ w ≡ q
-      → All (λ it. it .key / 2 ^ (w - depth t (bits w k)) ≡ k / 2 ^ (w - depth t (bits w k))) (leafAt t (bits w k) .1)
-  keyed-own w q k (leaf x) a e =
-      rw sub-zero (all-map (λ it. it .key / 2 ^ w ≡ q) (λ it. it .key / 2 ^ w ≡ k / 2 ^ w) (x .1) (λ it p. p ∙ sym e) a)
-  keyed-own zero q k (fork l r) a e = absurd a
-  keyed-own (suc w) q k (fork l r) a e =
-      elim (bool-cases (bit w k)) [
-        | inl b ↦ rw (b, suc-sub-suc) (keyed-own w (2 * q + 1) k r (a .1) (omega (arith, bit-true w k b)))
-        | inr b ↦ rw (b, suc-sub-suc) (keyed-own w (2 * q) k l (a .0) (omega (arith, bit-false w k b)))
-      ]
+-- the keys at a key's leaf agree with it in the bits that lead there
+pub keyed-own : (w q k : ℕ) (t : Trie Stretch) → Keyed w q t → k / 2 ^ w ≡ q
+    → All (λ it. it .key / 2 ^ (w - depth t (bits w k)) ≡ k / 2 ^ (w - depth t (bits w k))) (leafAt t (bits w k) .1)
+keyed-own w q k (leaf x) a e =
+    rw sub-zero (all-map (λ it. it .key / 2 ^ w ≡ q) (λ it. it .key / 2 ^ w ≡ k / 2 ^ w) (x .1) (λ it p. p ∙ sym e) a)
+keyed-own zero q k (fork l r) a e = absurd a
+keyed-own (suc w) q k (fork l r) a e =
+    elim (bool-cases (bit w k)) [
+      | inl b ↦ rw (b, suc-sub-suc) (keyed-own w (2 * q + 1) k r (a .1) (omega (arith, bit-true w k b)))
+      | inr b ↦ rw (b, suc-sub-suc) (keyed-own w (2 * q) k l (a .0) (omega (arith, bit-false w k b)))
+    ]
 
 -- no record of another key is found
 find-none : (k : ℕ) (its : List Item) → Lacks keyOf k its → firstWhere (λ it. eqb (it .key) k) its ≡ Nothing
@@ -199,7 +198,7 @@ find-none k its a =
     (all-map (λ it. it .key ≡ k → ⊥) (λ it. eqb (it .key) k ≡ false) its (λ it n. ne-eqb (it .key) k n) a)
 
 -- find and next at a key: its own leaf, and what is right of it
-module _ (f : Format) (s : List ℕ) (h : Head) (W k : ℕ) (t : Trie Stretch) (keyed : Keyed f s h W 0 t) (fits : k < 2 ^ W) where
+module _ (W k : ℕ) (t : Trie Stretch) (keyed : Keyed W 0 t) (fits : k < 2 ^ W) where
   abbrev left : List Item
   left = recordsOf (before t (bits W k))
 
@@ -210,10 +209,10 @@ module _ (f : Format) (s : List ℕ) (h : Head) (W k : ℕ) (t : Trie Stretch) (
   right = recordsOf (after t (bits W k))
 
   all-left : All (λ it. it .key < k) left
-  all-left = keyed-before f s h W 0 k t keyed (div-eq-of-lt fits)
+  all-left = keyed-before W 0 k t keyed (div-eq-of-lt fits)
 
   all-right : All (λ it. k < it .key) right
-  all-right = keyed-after f s h W 0 k t keyed (div-eq-of-lt fits)
+  all-right = keyed-after W 0 k t keyed (div-eq-of-lt fits)
 
   pub find-own : firstWhere (λ it. eqb (it .key) k) (records t) ≡ firstWhere (λ it. eqb (it .key) k) own
   find-own =

@@ -2,6 +2,7 @@ pub mod Labelled
 pub mod Image
 pub mod Rep
 pub mod Round
+pub mod Frame
 pub mod Listing
 pub mod Clauses
 pub mod Example

@@ -75,6 +75,12 @@ module _ (θ : ℕ) (node : ℕ → List ℕ) where
     -- the levels are those of "the tree of a set"
     pub levels-are : map shape bs ≡ tower θ (shape u)
 
+-- "a stretch is all keys with one prefix"
+abbrev pub Keyed : ℕ → ℕ → Trie Stretch → Type 0
+Keyed w q (leaf x) = Prefix keyOf w q (x .1)
+Keyed zero q (fork l r) = ⊥
+Keyed (suc w) q (fork l r) = Keyed w (2 * q) l × Keyed w (2 * q + 1) r
+
 module _ (f : Format) (s : List ℕ) (h : Head) where
   -- "pointing to its stretch's block (null for an empty level-0 stretch)", "each page with its records"
   abbrev pub PageIs : Stretch → Type 0
@@ -87,12 +93,6 @@ module _ (f : Format) (s : List ℕ) (h : Head) where
     pub fits : length (x .1) ≤ h .capacity
     pub lawful : All (λ it. lawfulItem f it ≡ true) (x .1)
     pub sorted : Sorted keyOf (x .1)
-
-  -- "a stretch is all keys with one prefix"
-  abbrev pub Keyed : ℕ → ℕ → Trie Stretch → Type 0
-  Keyed w q (leaf x) = Prefix keyOf w q (x .1)
-  Keyed zero q (fork l r) = ⊥
-  Keyed (suc w) q (fork l r) = Keyed w (2 * q) l × Keyed w (2 * q + 1) r
 
   pub record Pages (b0 : Trie Stretch) : Type 0 where
     pub each : Each Lawful b0

@@ -16,9 +16,8 @@ use lib.Pow.{pow-pos, ones-lt}
 use lib.Seq.{ext-getD}
 use borrow.Author.Tests.{leb-true, le-leb, eqb-true, eq-eqb}
 use Rattle.lists.specs.Lists.{greatest, tab}
-use Rattle.lists.proofs.Cases.{refuted}
 use Rattle.lists.proofs.Powers.{run-lt, run-start, run-next, run-end}
-use Rattle.lists.proofs.Tests.{and-true, same-test, every-at, every-of, range-more, greatest-run, greatest-first, length-tab, getD-tab}
+use Rattle.lists.proofs.Tests.{untrue, and-true, same-test, every-at, every-of, range-more, greatest-run, greatest-first, length-tab, getD-tab}
 use Rattle.tree.specs.Trie.{Trie, height}
 use Rattle.tree.specs.Node.{Entry, flatten, largest, RunRule}
 use Rattle.tree.proofs.Flatten.{length-flatten}
@@ -172,7 +171,7 @@ module _ (H low high : ℕ) (e : ℕ → Entry ℕ) where
 
   -- where the walk stops
   fails : (Good → ⊥) → goodRuns H low high e ≡ false
-  fails f = refuted (goodRuns H low high e) (λ t. f (good-facts t))
+  fails f = sym (untrue (λ t. f (good-facts t)))
 
   pub deep-fails : (i : ℕ) → i < 2 ^ H → H < e i .0 → goodRuns H low high e ≡ false
   deep-fails i h q = fails (λ g. omega (arith, g .rule i h .0))

@@ -5,7 +5,7 @@ use mathlib.Core.List.{List, [], _∷_, _++_, append-nil}
 use Prim.Native.Nat.{ℕ, zero, suc, _+_, _-_, _*_, _^_, _≤_, _<_}
 use native.Mathlib.Omega.{arith}
 use lib.Dec.{leb}
-use lib.ListN.{length, take, drop, set, replicate, replicate-append-replicate, length-replicate, length-append, length-drop, length-set, drop-of-length-le}
+use lib.ListN.{length, take, drop, set, replicate, replicate-append-replicate, length-replicate, length-append, length-drop, drop-of-length-le}
 use lib.Pow.{pow-pos}
 use lib.Seq.{length-take-le}
 use borrow.Author.Tests.{le-leb, lt-leb}
@@ -35,10 +35,6 @@ unfolding setUpWords
 marked-is f θ C N P n s e h =
     let m : 18 + (n - 18) ≡ n = omega arith in
     ap (λ (k : ℕ). marked (replicate k 0 ++ s) θ C N P) (sym m) ∙ marked-zeros (n - 18) θ C N P s ∙ rw e
-
-pub length-marked : (s : List ℕ) (θ C N P : ℕ) → length (marked s θ C N P) ≡ length s
-unfolding marked
-length-marked s θ C N P = simp length-set
 
 -- the three ways of set-up
 pub outside : (f : Format) (θ C N P : ℕ) (s : List ℕ) → lawfulSizes θ C N P ≡ false

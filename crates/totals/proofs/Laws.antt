@@ -93,12 +93,6 @@ module _ (t : Totals) (it : Item) (today : ℕ) where
   pub updated-total-within : it .price < 2 ^ 32 → updatedOf t it today .total ≤ t .total + (2 ^ 32 - 1)
   updated-total-within h = omega (arith, updated-total, worth-within it today)
 
--- The totals of a list, its last record taken off.
-pub totals-last : (t : Totals) (its : List Item) (it : Item) (today : ℕ) → totalsOf t (its ++ (it ∷ [])) today ≡ updatedOf (totalsOf t its today) it today
-unfolding totalsOf
-totals-last t [] it today = refl
-totals-last t (i ∷ its) it today = totals-last (updatedOf t i today) its it today
-
 -- Count and total of a list.
 pub totals-count : (t : Totals) (its : List Item) (today : ℕ) → totalsOf t its today .count ≡ t .count + length its
 unfolding totalsOf

@@ -29,12 +29,6 @@ pub same-not : (b : Bool) → same b (not b) ≡ false
 same-not true = refl
 same-not false = refl
 
-pub not-same : (b c : Bool) → same (not b) c ≡ not (same b c)
-not-same true true = refl
-not-same true false = refl
-not-same false true = refl
-not-same false false = refl
-
 pub same-true : (b c : Bool) → same b c ≡ true → c ≡ b
 same-true true c e = e
 same-true false true e = sym e

@@ -27,14 +27,6 @@ module _ {A : Type 0} where
   length-flatten (suc H) (fork l r) d =
       length-append (flatten H l (suc d)) (flatten H r (suc d)) ∙ omega (arith, length-flatten H l (suc d), length-flatten H r (suc d))
 
-  pub fork-left : (H : ℕ) (l r : Trie A) (d : ℕ) (z : Entry A) (j : ℕ) → j < 2 ^ H
-      → getD (flatten (suc H) (fork l r) d) j z ≡ getD (flatten H l (suc d)) j z
-  fork-left H l r d z j h = List·getD-append (flatten H l (suc d)) (flatten H r (suc d)) z j (omega (arith, length-flatten H l (suc d)))
-
-  pub fork-right : (H : ℕ) (l r : Trie A) (d : ℕ) (z : Entry A) (j : ℕ)
-      → getD (flatten (suc H) (fork l r) d) (2 ^ H + j) z ≡ getD (flatten H r (suc d)) j z
-  fork-right H l r d z j = rw (← length-flatten H l (suc d)) (getD-append-add (flatten H l (suc d)) (flatten H r (suc d)) j z)
-
   abbrev pub start : ℕ → Trie A → Key → ℕ
   start H t k = index (depth t k) k * 2 ^ (H - depth t k)
 
@@ -75,12 +67,6 @@ module _ {A : Type 0} where
       pub graft-in : j < size H t k
           → getD (flatten H (graft t k s) d) (start H t k + j) z ≡ getD (flatten (H - depth t k) s (d + depth t k)) j z
       graft-in h = rw (graft-run H t s k d fits) (replaced-in _ _ _ _ (room H t k d fits) long z j h)
-
-      pub graft-below : j < start H t k → getD (flatten H (graft t k s) d) j z ≡ getD (flatten H t d) j z
-      graft-below h = rw (graft-run H t s k d fits) (replaced-below _ _ _ _ (room H t k d fits) long z j h)
-
-      pub graft-above : start H t k + size H t k ≤ j → getD (flatten H (graft t k s) d) j z ≡ getD (flatten H t d) j z
-      graft-above h = rw (graft-run H t s k d fits) (replaced-above _ _ _ _ (room H t k d fits) long z j h)
 
     -- the run is constant
     pub run : (z : Entry A) (j : ℕ) → j < size H t k → getD (flatten H t d) (start H t k + j) z ≡ (d + depth t k, leafAt t k)

@@ -211,10 +211,6 @@ module _ {R : Type 0} (key : R → ℕ) where
       one-more : w - depth t (bits w k) ≡ suc here
       one-more = omega arith
 
-      halve-is : halve key w k t ≡ graft t (bits w k) (halves here (leafAt t (bits w k)))
-      unfolding halves
-      halve-is = refl
-
       rest-is : rest t (bits w k) ≡ bits (suc here) k
       rest-is = rest-bits t w k (omega arith) ∙ ap (λ (n : ℕ). bits n k) one-more
 

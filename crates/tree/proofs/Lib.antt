@@ -8,7 +8,6 @@ pub mod LevelLaws
 pub mod BookLaws
 pub mod Promises
 pub mod Flatten
-pub mod SplitRun
 pub mod Scale
 pub mod RunRules
 pub mod Steps

@@ -46,21 +46,6 @@ module _ {A : Type 0} where
       largest-append (flatten H l (suc d)) (flatten H r (suc d))
       ∙ omega (arith, largest-flatten H l (suc d) (omega arith), largest-flatten H r (suc d) (omega arith))
 
-  pub getD-largest : (es : List (Entry A)) (z : Entry A) (j : ℕ) → j < length es → (getD es j z) .0 ≤ largest es
-  getD-largest [] z j h = absurd (omega arith)
-  getD-largest (e ∷ es) z zero h = omega arith
-  getD-largest (e ∷ es) z (suc j) h = omega (arith, getD-largest es z j (omega arith))
-
-  pub largest-in : (es : List (Entry A)) (z : Entry A) → 0 < length es → (j : ℕ) × (j < length es) × ((getD es j z) .0 ≡ largest es)
-  largest-in [] z h = absurd (omega arith)
-  largest-in (e ∷ []) z h = (0, omega arith, omega arith)
-  largest-in (e ∷ f ∷ es) z h =
-      let v = largest-in (f ∷ es) z (omega arith) in
-      elim (decLt (e .0) (largest (f ∷ es))) [
-        | yes p ↦ (suc (v .0), omega (arith, v .1), v .2 ∙ omega arith)
-        | no p ↦ (0, omega arith, omega arith)
-      ]
-
   -- lowered depths
   pub lowered-flatten : (H : ℕ) (t : Trie A) (d : ℕ) → map lowered (flatten H t (suc d)) ≡ flatten H t d
   lowered-flatten H (leaf x) d = map-replicate lowered (2 ^ H) (suc d, x)

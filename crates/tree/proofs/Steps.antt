@@ -63,18 +63,6 @@ module _ {A : Type 0} where
   pub begin-end : (H N : ℕ) (t : Trie A) (d : ℕ) → height t ≤ H → N ≡ d + H → begin N (runs t d) (length (runs t d)) ≡ 2 ^ H
   begin-end H N t d p e = begin-length N (runs t d) ∙ ap length (sym (flatten-spread H N t d p e)) ∙ length-flatten H t d
 
-  -- every index is in some run
-  pub begin-find : (H : ℕ) (es : List (Entry A)) (i : ℕ) → i < begin H es (length es)
-      → (n : ℕ) × (n < length es) × (begin H es n ≤ i) × (i < begin H es (suc n))
-  begin-find H [] i h = absurd (omega arith)
-  begin-find H (e ∷ es) i h =
-      elim (decLt i (2 ^ (H - e .0))) [
-        | yes p ↦ (0, omega arith, omega arith, omega arith)
-        | no p ↦
-            let v = begin-find H es (i - 2 ^ (H - e .0)) (omega arith) in
-            (suc (v .0), omega (arith, v .1), omega (arith, v .2), omega (arith, v .3))
-      ]
-
   -- what stands in run number n
   spread-run : (H : ℕ) (es : List (Entry A)) (z : Entry A) (n k : ℕ) → n < length es → k < 2 ^ (H - (getD es n z) .0)
       → getD (spread H es) (begin H es n + k) z ≡ getD es n z

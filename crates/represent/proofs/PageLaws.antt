@@ -1,0 +1,471 @@
+-- What the page operations of an insertion do to the pages. A graft at a key changes the leaf there and nothing else, so all that is to be shown
+-- is the new leaves' own laws, their place among the keys, and the count of their page numbers.
+use mathlib.Core.Path.{_≡_, refl, sym, ap, _∙_, subst}
+use mathlib.Core.Bool.{Bool, true, false}
+use mathlib.Core.Logic.{inl, inr}
+use mathlib.Core.List.{List, [], _∷_}
+use Prim.Native.Nat.{ℕ, zero, suc, _+_, _-_, _*_, _/_, _^_, _≤_, _<_}
+use native.Mathlib.Nat.{sub-zero, suc-sub-suc, div-eq-of-lt}
+use native.Mathlib.Decide.{decLe}
+use native.Mathlib.Omega.{arith}
+use lib.ListN.{length}
+use Rattle.lists.specs.Bits.{bit, bits}
+use Rattle.lists.specs.Lists.{All, all}
+use Rattle.lists.specs.Keyed.{Sorted, Prefix}
+use Rattle.lists.proofs.Cases.{bool-cases}
+use Rattle.lists.proofs.ListLaws.{length-filter, filter-all, filter-some}
+use Rattle.lists.proofs.BitLaws.{bit-false, bit-true}
+use Rattle.tree.specs.Trie.{Trie, leaf, fork, Key, leafAt, depth, graft, pair}
+use Rattle.tree.specs.Build.{same, side}
+use Rattle.tree.proofs.BuildLaws.{length-sides, sorted-side, all-side, prefix-low, prefix-high}
+use Rattle.store.specs.declared.Format.{Format}
+use Rattle.store.specs.declared.Head.{Head}
+use Rattle.store.specs.declared.Item.{Item}
+use Rattle.store.specs.Format.{width}
+use Rattle.store.specs.Head.{headOf, pageWords, pageAt}
+use Rattle.page.specs.Page.{lawfulItem}
+use Rattle.represent.specs.Labelled.{relabel, Each, ind, occ, OneForOne}
+use Rattle.represent.specs.Image.{pageImage}
+use Rattle.represent.specs.Rep.{Stretch, numbers, keyOf, PageIs, Lawful, Keyed, Pages}
+use Rattle.represent.proofs.LabelLaws.{ind-eq, ind-self, ind-other, occ-graft, ind-at, occ-at, each-at, leafAt-relabel}
+use Rattle.represent.proofs.Records.{keyed-own}
+use Rattle.represent.specs.Frame.{pageOf, Sized, putPage, putFilled}
+use Rattle.represent.proofs.Lengths.{length-pageImage}
+use Rattle.represent.proofs.Frame.{sized-long, putPage-head, putPage-sized, putPage-same, putPage-other}
+use Rattle.represent.proofs.Frame.{putFilled-sizes, putFilled-filled, putFilled-pages}
+
+pub relabel-graft : {A B : Type 0} (g : A → B) (t : Trie A) (k : Key) (c : Trie A) → relabel g (graft t k c) ≡ graft (relabel g t) k (relabel g c)
+relabel-graft g (leaf x) k c = refl
+relabel-graft g (fork l r) [] c = rw (relabel-graft g l [] c)
+relabel-graft g (fork l r) (false ∷ k) c = rw (relabel-graft g l k c)
+relabel-graft g (fork l r) (true ∷ k) c = rw (relabel-graft g r k c)
+
+-- what each label has, where g numbers the labels
+module _ {A : Type 0} (g : A → ℕ) (P Q : A → Type 0) where
+  pub each-map : (t : Trie A) → ((x : A) → 1 ≤ occ (g x) (relabel g t) → P x → Q x) → Each P t → Each Q t
+  each-map (leaf x) f h = f x (omega (arith, ind-self (g x))) h
+  each-map (fork l r) f h = (each-map l (λ x o. f x (omega arith)) (h .0), each-map r (λ x o. f x (omega arith)) (h .1))
+
+  at-key : (t : Trie A) (k : Key) (n : ℕ) → ind n (g (leafAt t k)) ≤ occ n (relabel g t)
+  at-key t k n = subst (λ (m : ℕ). ind n m ≤ occ n (relabel g t)) (leafAt-relabel g t k) (ind-at n (relabel g t) k)
+
+  -- the labels beside the leaf at the key are those that occur once more
+  pub each-graft : (t : Trie A) (k : Key) (c : Trie A)
+      → ((x : A) → ind (g x) (g (leafAt t k)) < occ (g x) (relabel g t) → P x → Q x) → Each P t → Each Q c → Each Q (graft t k c)
+  each-graft (leaf x) k c f h q = q
+  each-graft (fork l r) [] c f h q =
+      (each-graft l [] c (λ x o. f x (omega arith)) (h .0) q, each-map r (λ x o. f x (omega (arith, at-key l [] (g x)))) (h .1))
+  each-graft (fork l r) (false ∷ k) c f h q =
+      (each-graft l k c (λ x o. f x (omega arith)) (h .0) q, each-map r (λ x o. f x (omega (arith, at-key l k (g x)))) (h .1))
+  each-graft (fork l r) (true ∷ k) c f h q =
+      (each-map l (λ x o. f x (omega (arith, at-key r k (g x)))) (h .0), each-graft r k c (λ x o. f x (omega arith)) (h .1) q)
+
+numbers-graft : (p : ℕ) (t : Trie Stretch) (k : Key) (c : Trie Stretch)
+    → occ p (numbers (graft t k c)) + ind p (leafAt t k .0) ≡ occ p (numbers t) + occ p (numbers c)
+numbers-graft p t k c =
+    rw (relabel-graft (λ (x : Stretch). x .0) t k c, ← leafAt-relabel (λ (x : Stretch). x .0) t k) (occ-graft p (numbers t) k (numbers c))
+
+-- another trie at the place of a key
+pub keyed-graft : (w : ℕ) (t : Trie Stretch) (key : ℕ) (c : Trie Stretch) → Keyed w (key / 2 ^ w) t
+    → Keyed (w - depth t (bits w key)) (key / 2 ^ (w - depth t (bits w key))) c → Keyed w (key / 2 ^ w) (graft t (bits w key) c)
+keyed-graft w (leaf x) key c p q = rw sub-zero at q
+keyed-graft zero (fork l r) key c p q = absurd p
+keyed-graft (suc w) (fork l r) key c p q =
+    elim (bool-cases (bit w key)) [
+      | inl e ↦
+          rw e (
+            p .0,
+            subst (λ (q : ℕ). Keyed w q (graft r (bits w key) c)) (bit-true w key e)
+                (keyed-graft w r key c (subst (λ (q : ℕ). Keyed w q r) (sym (bit-true w key e)) (p .1)) (rw (e, suc-sub-suc) at q)),
+          )
+      | inr e ↦
+          rw e (
+            subst (λ (q : ℕ). Keyed w q (graft l (bits w key) c)) (bit-false w key e)
+                (keyed-graft w l key c (subst (λ (q : ℕ). Keyed w q l) (sym (bit-false w key e)) (p .0)) (rw (e, suc-sub-suc) at q)),
+            p .1,
+          )
+    ]
+
+-- other words
+module _ (f : Format) (s : List ℕ) (h : Head) (s′ : List ℕ) (h′ : Head) where
+  -- a page block that stays
+  page-frame : (x : Stretch) → h′ .capacity ≡ h .capacity → (1 ≤ x .0 → pageAt f s′ h′ (x .0) ≡ pageAt f s h (x .0))
+      → PageIs f s h x → PageIs f s′ h′ x
+  page-frame (p, []) c e is = is
+  page-frame (p, r ∷ rs) c e is = (is .0, e (is .0) ∙ is .1 ∙ ap (λ (C : ℕ). pageImage f C (r ∷ rs)) (sym c))
+
+  lawful-frame : (x : Stretch) → h′ .capacity ≡ h .capacity → (1 ≤ x .0 → pageAt f s′ h′ (x .0) ≡ pageAt f s h (x .0))
+      → Lawful f s h x → Lawful f s′ h′ x
+  lawful-frame x c e l = record { page = page-frame x c e (l .page); fits = rw c (l .fits); lawful = l .lawful; sorted = l .sorted }
+
+in-use : (f : Format) (s : List ℕ) (h : Head) (b0 : Trie Stretch) → Pages f s h b0 → (p : ℕ) → 1 ≤ occ p (numbers b0) → p ≤ h .filled
+in-use f s h b0 pg p o = elim (decLe p (h .filled)) [ yes l ↦ l | no l ↦ absurd (omega (arith, pg .oneForOne .none p (omega arith))) ]
+
+pub pages-frame : (f : Format) (s s′ : List ℕ) (h h′ : Head) (b0 : Trie Stretch) → h′ .capacity ≡ h .capacity → h′ .filled ≡ h .filled
+    → ((p : ℕ) → 1 ≤ p → p ≤ h .filled → pageAt f s′ h′ p ≡ pageAt f s h p) → Pages f s h b0 → Pages f s′ h′ b0
+pages-frame f s s′ h h′ b0 c e kept pg =
+    record {
+      each =
+          each-map (λ x. x .0) (Lawful f s h) (Lawful f s′ h′) b0
+          (λ x o. lawful-frame f s h s′ h′ x c (λ p. kept (x .0) p (in-use f s h b0 pg (x .0) o)))
+          (pg .each);
+      keyed = pg .keyed;
+      oneForOne = rw e (pg .oneForOne);
+    }
+
+-- a list that loses nothing to a side
+pub side-whole : {R : Type 0} (key : R → ℕ) (b : Bool) (w : ℕ) (rs : List R) → length (side key b w rs) ≡ length rs → side key b w rs ≡ rs
+side-whole key b w rs e =
+    elim (bool-cases (all (λ r. same b (bit w (key r))) rs)) [
+      | inl a ↦ filter-all (λ r. same b (bit w (key r))) rs a
+      | inr a ↦ absurd (omega (arith, filter-some (λ r. same b (bit w (key r))) rs a))
+    ]
+
+-- At the place of a key:
+--   stretchAt f b0 key == the stretch that holds it
+--   leftAt, prefixAt   == how many bits are left there, and what the others are
+--   nextBit            == the number of the first that is left
+--   halfAt b f b0 key  == those of its records whose next bit is b
+--   replacedAt f b0 key c == b0 with the stretches c there
+abbrev pub stretchAt : Format → Trie Stretch → ℕ → Stretch
+stretchAt f b0 key = leafAt b0 (bits (width f) key)
+
+abbrev pub leftAt : Format → Trie Stretch → ℕ → ℕ
+leftAt f b0 key = width f - depth b0 (bits (width f) key)
+
+abbrev pub prefixAt : Format → Trie Stretch → ℕ → ℕ
+prefixAt f b0 key = key / 2 ^ leftAt f b0 key
+
+abbrev pub nextBit : Format → Trie Stretch → ℕ → ℕ
+nextBit f b0 key = width f - suc (depth b0 (bits (width f) key))
+
+abbrev pub halfAt : Bool → Format → Trie Stretch → ℕ → List Item
+halfAt b f b0 key = side keyOf b (nextBit f b0 key) (stretchAt f b0 key .1)
+
+abbrev pub replacedAt : Format → Trie Stretch → ℕ → Trie Stretch → Trie Stretch
+replacedAt f b0 key c = graft b0 (bits (width f) key) c
+
+-- the records of a page to be written, at a place with w bits left and the prefix q
+pub record Fit (f : Format) (C w q : ℕ) (rs : List Item) : Type 0 where
+  pub some : 1 ≤ length rs
+  pub fits : length rs ≤ C
+  pub lawful : All (λ it. lawfulItem f it ≡ true) rs
+  pub sorted : Sorted keyOf rs
+  pub prefix : Prefix keyOf w q rs
+
+module _ (f : Format) (s : List ℕ) (h : Head) where
+  page-new : (p : ℕ) (rs : List Item) → 1 ≤ length rs → 1 ≤ p → pageAt f s h p ≡ pageImage f (h .capacity) rs → PageIs f s h (p, rs)
+  page-new p [] some low e = absurd (omega arith)
+  page-new p (r ∷ rs) some low e = (low, e)
+
+  -- a page that is written
+  lawful-page : (C p w q : ℕ) (rs : List Item) → h .capacity ≡ C → Fit f C w q rs → 1 ≤ p → pageAt f s h p ≡ pageImage f C rs → Lawful f s h (p, rs)
+  lawful-page C p w q rs c fit low e =
+      record {
+        page = page-new p rs (fit .some) low (e ∙ ap (λ (C : ℕ). pageImage f C rs) (sym c));
+        fits = rw c (fit .fits);
+        lawful = fit .lawful;
+        sorted = fit .sorted;
+      }
+
+  lawful-none : Lawful f s h (0, [])
+  lawful-none = record { page = refl; fits = omega arith; lawful = tt; sorted = tt }
+
+  number-low : (x : Stretch) → PageIs f s h x → 1 ≤ length (x .1) → 1 ≤ x .0
+  number-low (p, []) is some = absurd (omega arith)
+  number-low (p, r ∷ rs) is some = is .0
+
+module _ (f : Format) (s : List ℕ) (h : Head) (b0 : Trie Stretch) (key : ℕ) (pg : Pages f s h b0) (inside : key < 2 ^ width f) where
+  keyed : Keyed (width f) (key / 2 ^ width f) b0
+  keyed = subst (λ (q : ℕ). Keyed (width f) q b0) (sym (div-eq-of-lt inside)) (pg .keyed)
+
+  -- "its own bits lead to each held record"
+  pub prefix-at : Prefix keyOf (leftAt f b0 key) (prefixAt f b0 key) (stretchAt f b0 key .1)
+  prefix-at = keyed-own (width f) 0 key b0 (pg .keyed) (div-eq-of-lt inside)
+
+  pub lawful-at : Lawful f s h (stretchAt f b0 key)
+  lawful-at = each-at (Lawful f s h) b0 (bits (width f) key) (pg .each)
+
+  pub number-high : stretchAt f b0 key .0 ≤ h .filled
+  number-high =
+      let k : Key = bits (width f) key in
+      in-use f s h b0 pg (stretchAt f b0 key .0)
+      (subst (λ (n : ℕ). 1 ≤ occ n (numbers b0)) (leafAt-relabel (λ (x : Stretch). x .0) b0 k) (occ-at (numbers b0) k))
+
+  half-fit : (b : Bool) (w q : ℕ) → 1 ≤ length (halfAt b f b0 key) → Prefix keyOf w q (halfAt b f b0 key)
+      → Fit f (h .capacity) w q (halfAt b f b0 key)
+  half-fit b w q some prefix =
+      let rs : List Item = stretchAt f b0 key .1 in
+      record {
+        some = some;
+        fits = omega (arith, length-filter (λ r. same b (bit (nextBit f b0 key) (keyOf r))) rs, lawful-at .fits);
+        lawful = all-side keyOf (λ it. lawfulItem f it ≡ true) b (nextBit f b0 key) rs (lawful-at .lawful);
+        sorted = sorted-side keyOf b (nextBit f b0 key) rs (lawful-at .sorted);
+        prefix = prefix;
+      }
+
+  -- the halves' prefixes
+  module _ (deep : depth b0 (bits (width f) key) < width f) where
+    one-more : suc (nextBit f b0 key) ≡ leftAt f b0 key
+    one-more = omega arith
+
+    whole : Prefix keyOf (suc (nextBit f b0 key)) (key / 2 ^ suc (nextBit f b0 key)) (stretchAt f b0 key .1)
+    whole = subst (λ (w : ℕ). Prefix keyOf w (key / 2 ^ w) (stretchAt f b0 key .1)) (sym one-more) prefix-at
+
+    low-prefix : Prefix keyOf (nextBit f b0 key) (2 * (key / 2 ^ suc (nextBit f b0 key))) (halfAt false f b0 key)
+    low-prefix = prefix-low keyOf (nextBit f b0 key) (key / 2 ^ suc (nextBit f b0 key)) (stretchAt f b0 key .1) whole
+
+    high-prefix : Prefix keyOf (nextBit f b0 key) (2 * (key / 2 ^ suc (nextBit f b0 key)) + 1) (halfAt true f b0 key)
+    high-prefix = prefix-high keyOf (nextBit f b0 key) (key / 2 ^ suc (nextBit f b0 key)) (stretchAt f b0 key .1) whole
+
+    halves-keyed : (x y : Stretch) → x .1 ≡ halfAt false f b0 key → y .1 ≡ halfAt true f b0 key
+        → Keyed (leftAt f b0 key) (prefixAt f b0 key) (pair x y)
+    halves-keyed x y a b =
+        let w : ℕ = nextBit f b0 key in
+        let q : ℕ = key / 2 ^ suc w in
+        subst (λ (v : ℕ). Keyed v (key / 2 ^ v) (pair x y)) one-more
+        (subst (Prefix keyOf w (2 * q)) (sym a) low-prefix, subst (Prefix keyOf w (2 * q + 1)) (sym b) high-prefix)
+
+  -- the page numbers with the stretches c at the key: none more, or the next one more
+  module _ (c : Trie Stretch) where
+    same-count : ((p : ℕ) → 1 ≤ p → occ p (numbers c) ≡ ind p (stretchAt f b0 key .0))
+        → OneForOne (h .filled) (λ p. occ p (numbers (replacedAt f b0 key c)))
+    same-count e =
+        record {
+          once = λ p low high. omega (arith, numbers-graft p b0 (bits (width f) key) c, e p low, pg .oneForOne .once p low high);
+          none = λ p l. omega (arith, numbers-graft p b0 (bits (width f) key) c, e p (omega arith), pg .oneForOne .none p l);
+        }
+
+    next-count : ((p : ℕ) → 1 ≤ p → occ p (numbers c) ≡ ind p (stretchAt f b0 key .0) + ind p (suc (h .filled)))
+        → OneForOne (suc (h .filled)) (λ p. occ p (numbers (replacedAt f b0 key c)))
+    next-count e = record { once = once; none = none }
+      where
+        m : ℕ
+        m = suc (h .filled)
+
+        count : (p : ℕ) → 1 ≤ p → occ p (numbers (replacedAt f b0 key c)) ≡ occ p (numbers b0) + ind p m
+        count p low = omega (arith, numbers-graft p b0 (bits (width f) key) c, e p low)
+
+        once : (p : ℕ) → 1 ≤ p → p ≤ m → occ p (numbers (replacedAt f b0 key c)) ≡ 1
+        once p low high =
+            elim (decLe p (h .filled)) [
+              | yes l ↦ omega (arith, count p low, ind-other p m (λ i. omega arith), pg .oneForOne .once p low l)
+              | no l ↦ omega (arith, count p low, ind-eq p m (omega arith), pg .oneForOne .none p (omega arith))
+            ]
+
+        none : (p : ℕ) → m < p → occ p (numbers (replacedAt f b0 key c)) ≡ 0
+        none p l = omega (arith, count p (omega arith), ind-other p m (λ i. omega arith), pg .oneForOne .none p (omega arith))
+
+  -- new words, in which the other pages are as they were
+  module _ (s′ : List ℕ) (h′ : Head) (capacity : h′ .capacity ≡ h .capacity)
+      (kept : (p : ℕ) → 1 ≤ p → p ≤ h .filled → (p ≡ stretchAt f b0 key .0 → ⊥) → pageAt f s′ h′ p ≡ pageAt f s h p) where
+    beside : (x : Stretch) → ind (x .0) (stretchAt f b0 key .0) < occ (x .0) (numbers b0) → 1 ≤ x .0 → pageAt f s′ h′ (x .0) ≡ pageAt f s h (x .0)
+    beside x o low =
+        let l : x .0 ≤ h .filled = in-use f s h b0 pg (x .0) (omega arith) in
+        kept (x .0) low l (λ e. omega (arith, ind-eq (x .0) (stretchAt f b0 key .0) e, pg .oneForOne .once (x .0) low l))
+
+    pages-graft : (c : Trie Stretch) (m : ℕ) → Each (Lawful f s′ h′) c → Keyed (leftAt f b0 key) (prefixAt f b0 key) c
+        → h′ .filled ≡ m → OneForOne m (λ p. occ p (numbers (replacedAt f b0 key c))) → Pages f s′ h′ (replacedAt f b0 key c)
+    pages-graft c m each place e counted =
+        let k : Key = bits (width f) key in
+        record {
+          each =
+              each-graft (λ x. x .0) (Lawful f s h) (Lawful f s′ h′) b0 k c (λ x o. lawful-frame f s h s′ h′ x capacity (beside x o)) (pg .each) each;
+          keyed =
+              subst (λ (q : ℕ). Keyed (width f) q (graft b0 k c)) (div-eq-of-lt inside)
+              (keyed-graft (width f) b0 key c keyed place);
+          oneForOne = rw e counted;
+        }
+
+    -- The place takes the records rs, in its own page, or where it has none in the next page.
+    put-any : (rs : List Item) → 1 ≤ stretchAt f b0 key .0 → Fit f (h .capacity) (leftAt f b0 key) (prefixAt f b0 key) rs
+        → h′ .filled ≡ h .filled → pageAt f s′ h′ (stretchAt f b0 key .0) ≡ pageImage f (h .capacity) rs
+        → Pages f s′ h′ (replacedAt f b0 key (leaf (stretchAt f b0 key .0, rs)))
+    put-any rs low fit filled e =
+        let n : ℕ = stretchAt f b0 key .0 in
+        pages-graft (leaf (n, rs)) (h .filled) (lawful-page f s′ h′ (h .capacity) n (leftAt f b0 key) (prefixAt f b0 key) rs capacity fit low e)
+        (fit .prefix) filled (same-count (leaf (n, rs)) (λ p q. refl))
+
+    take-any : (rs : List Item) → stretchAt f b0 key .0 ≡ 0 → Fit f (h .capacity) (leftAt f b0 key) (prefixAt f b0 key) rs
+        → h′ .filled ≡ suc (h .filled) → pageAt f s′ h′ (suc (h .filled)) ≡ pageImage f (h .capacity) rs
+        → Pages f s′ h′ (replacedAt f b0 key (leaf (suc (h .filled), rs)))
+    take-any rs null fit filled e =
+        let m : ℕ = suc (h .filled) in
+        pages-graft (leaf (m, rs)) m (lawful-page f s′ h′ (h .capacity) m (leftAt f b0 key) (prefixAt f b0 key) rs capacity fit (omega arith) e)
+        (fit .prefix) filled (next-count (leaf (m, rs)) (λ p q. omega (arith, ind-other p (stretchAt f b0 key .0) (λ i. omega arith))))
+
+    -- neither half is empty: the lower keeps the page, and the upper takes the next one
+    both-any : depth b0 (bits (width f) key) < width f → 1 ≤ stretchAt f b0 key .0
+        → 1 ≤ length (halfAt false f b0 key) → 1 ≤ length (halfAt true f b0 key) → h′ .filled ≡ suc (h .filled)
+        → pageAt f s′ h′ (stretchAt f b0 key .0) ≡ pageImage f (h .capacity) (halfAt false f b0 key)
+        → pageAt f s′ h′ (suc (h .filled)) ≡ pageImage f (h .capacity) (halfAt true f b0 key)
+        → Pages f s′ h′ (replacedAt f b0 key (pair (stretchAt f b0 key .0, halfAt false f b0 key) (suc (h .filled), halfAt true f b0 key)))
+    both-any deep low some₀ some₁ filled e₀ e₁ =
+        let w : ℕ = nextBit f b0 key in
+        let q : ℕ = key / 2 ^ suc w in
+        let x : Stretch = (stretchAt f b0 key .0, halfAt false f b0 key) in
+        let y : Stretch = (suc (h .filled), halfAt true f b0 key) in
+        let lower = half-fit false w (2 * q) some₀ (low-prefix deep) in
+        let upper = half-fit true w (2 * q + 1) some₁ (high-prefix deep) in
+        pages-graft (pair x y) (suc (h .filled)) (
+          lawful-page f s′ h′ (h .capacity) (x .0) w (2 * q) (x .1) capacity lower low e₀,
+          lawful-page f s′ h′ (h .capacity) (y .0) w (2 * q + 1) (y .1) capacity upper (omega arith) e₁,
+        )
+        (halves-keyed deep x y refl refl) filled (next-count (pair x y) (λ p q. refl))
+
+  -- one half is empty, and the other keeps the page
+  pub pages-upper : depth b0 (bits (width f) key) < width f → halfAt false f b0 key ≡ []
+      → Pages f s h (replacedAt f b0 key (pair (0, []) (stretchAt f b0 key)))
+  pages-upper deep e =
+      let x : Stretch = stretchAt f b0 key in
+      let w : ℕ = nextBit f b0 key in
+      let all : halfAt true f b0 key ≡ x .1 = side-whole keyOf true w (x .1) (omega (arith, length-sides keyOf w (x .1), ap length e)) in
+      pages-graft s h refl (λ p a b c. refl) (pair (0, []) x) (h .filled) (lawful-none f s h, lawful-at)
+      (halves-keyed deep (0, []) x (sym e) (sym all)) refl
+      (same-count (pair (0, []) x) (λ p low. omega (arith, ind-other p 0 (λ i. omega arith))))
+
+  pub pages-lower : depth b0 (bits (width f) key) < width f → halfAt true f b0 key ≡ []
+      → Pages f s h (replacedAt f b0 key (pair (stretchAt f b0 key) (0, [])))
+  pages-lower deep e =
+      let x : Stretch = stretchAt f b0 key in
+      let w : ℕ = nextBit f b0 key in
+      let all : halfAt false f b0 key ≡ x .1 = side-whole keyOf false w (x .1) (omega (arith, length-sides keyOf w (x .1), ap length e)) in
+      pages-graft s h refl (λ p a b c. refl) (pair x (0, [])) (h .filled) (lawful-at, lawful-none f s h)
+      (halves-keyed deep x (0, []) (sym all) (sym e)) refl
+      (same-count (pair x (0, [])) (λ p low. omega (arith, ind-other p 0 (λ i. omega arith))))
+
+-- putItems f C s p rs  == the words s with the records rs in page block p, where C is the capacity
+-- takeItems f C s p rs == that, and p as the number of pages taken
+abbrev pub putItems : Format → ℕ → List ℕ → ℕ → List Item → List ℕ
+putItems f C s p rs = putPage f s p (pageImage f C rs)
+
+abbrev pub takeItems : Format → ℕ → List ℕ → ℕ → List Item → List ℕ
+takeItems f C s p rs = putFilled (putItems f C s p rs) p
+
+abbrev pub PagesOf : Format → List ℕ → Trie Stretch → Type 0
+PagesOf f s b0 = Pages f s (headOf s) b0
+
+module _ (f : Format) (C : ℕ) (s : List ℕ) (p : ℕ) (rs : List Item) (ok : Sized f s) (low : 1 ≤ p) (high : p ≤ headOf s .pages)
+    (full : headOf s .capacity ≡ C) (fits : length rs ≤ C) where
+  put-head : headOf (putItems f C s p rs) ≡ headOf s
+  put-head = putPage-head f s p (pageImage f C rs) (omega (arith, sized-long f s ok))
+
+  put-length : length (pageImage f C rs) ≡ pageWords f (headOf s .capacity)
+  put-length = length-pageImage f C rs fits ∙ ap (pageWords f) (sym full)
+
+  put-sized : Sized f (putItems f C s p rs)
+  put-sized = putPage-sized f s p (pageImage f C rs) ok low high put-length
+
+  put-same : pageOf f (putItems f C s p rs) p ≡ pageImage f C rs
+  put-same = putPage-same f s p (pageImage f C rs) ok low high put-length
+
+  put-other : (x : ℕ) → 1 ≤ x → (x ≡ p → ⊥) → pageOf f (putItems f C s p rs) x ≡ pageOf f s x
+  put-other = putPage-other f s p (pageImage f C rs) ok low high put-length
+
+  take-capacity : headOf (takeItems f C s p rs) .capacity ≡ headOf s .capacity
+  take-capacity = putFilled-sizes (putItems f C s p rs) p .capacity ∙ ap (λ (h : Head). h .capacity) put-head
+
+  take-filled : headOf (takeItems f C s p rs) .filled ≡ p
+  take-filled = putFilled-filled (putItems f C s p rs) p (omega (arith, sized-long f (putItems f C s p rs) put-sized))
+
+  take-same : pageOf f (takeItems f C s p rs) p ≡ pageImage f C rs
+  take-same = putFilled-pages (putItems f C s p rs) p f p ∙ put-same
+
+  take-other : (x : ℕ) → 1 ≤ x → (x ≡ p → ⊥) → pageOf f (takeItems f C s p rs) x ≡ pageOf f s x
+  take-other x q ne = putFilled-pages (putItems f C s p rs) p f x ∙ put-other x q ne
+
+module _ (f : Format) (s : List ℕ) (b0 : Trie Stretch) (key : ℕ) (ok : Sized f s) (pg : PagesOf f s b0) (inside : key < 2 ^ width f) where
+  pub pages-put : (rs : List Item) → headOf s .filled ≤ headOf s .pages → 1 ≤ stretchAt f b0 key .0
+      → Fit f (headOf s .capacity) (leftAt f b0 key) (prefixAt f b0 key) rs
+      → PagesOf f (putItems f (headOf s .capacity) s (stretchAt f b0 key .0) rs) (replacedAt f b0 key (leaf (stretchAt f b0 key .0, rs)))
+  pages-put rs room low fit =
+      let n : ℕ = stretchAt f b0 key .0 in
+      let C : ℕ = headOf s .capacity in
+      let s′ : List ℕ = putItems f C s n rs in
+      let high : n ≤ headOf s .pages = omega (arith, number-high f s (headOf s) b0 key pg inside) in
+      let head : headOf s′ ≡ headOf s = put-head f C s n rs ok low high refl (fit .fits) in
+      put-any f s (headOf s) b0 key pg inside s′ (headOf s′) (ap (λ (h : Head). h .capacity) head)
+      (λ p a b c. put-other f C s n rs ok low high refl (fit .fits) p a c) rs low fit (ap (λ (h : Head). h .filled) head)
+      (put-same f C s n rs ok low high refl (fit .fits))
+
+  pub pages-take : (rs : List Item) → suc (headOf s .filled) ≤ headOf s .pages → stretchAt f b0 key .0 ≡ 0
+      → Fit f (headOf s .capacity) (leftAt f b0 key) (prefixAt f b0 key) rs
+      → PagesOf f (takeItems f (headOf s .capacity) s (suc (headOf s .filled)) rs) (replacedAt f b0 key (leaf (suc (headOf s .filled), rs)))
+  pages-take rs room null fit =
+      let m : ℕ = suc (headOf s .filled) in
+      let C : ℕ = headOf s .capacity in
+      let s′ : List ℕ = takeItems f C s m rs in
+      let low : 1 ≤ m = omega arith in
+      take-any f s (headOf s) b0 key pg inside s′ (headOf s′) (take-capacity f C s m rs ok low room refl (fit .fits))
+      (λ p a b c. take-other f C s m rs ok low room refl (fit .fits) p a (λ e. omega arith)) rs null fit
+      (take-filled f C s m rs ok low room refl (fit .fits)) (take-same f C s m rs ok low room refl (fit .fits))
+
+  pub pages-both : depth b0 (bits (width f) key) < width f → suc (headOf s .filled) ≤ headOf s .pages
+      → 1 ≤ length (halfAt false f b0 key) → 1 ≤ length (halfAt true f b0 key)
+      → PagesOf f
+      (takeItems f (headOf s .capacity) (putItems f (headOf s .capacity) s (stretchAt f b0 key .0) (halfAt false f b0 key))
+      (suc (headOf s .filled)) (halfAt true f b0 key))
+      (replacedAt f b0 key (pair (stretchAt f b0 key .0, halfAt false f b0 key) (suc (headOf s .filled), halfAt true f b0 key)))
+  pages-both deep room some₀ some₁ =
+      both-any f s (headOf s) b0 key pg inside s′ (headOf s′) (take-capacity f C s₁ m o ok₁ low₁ high₁ full fits₁ ∙ full)
+      (λ p a b c. take-other f C s₁ m o ok₁ low₁ high₁ full fits₁ p a (λ e. omega arith) ∙ put-other f C s n z ok low high refl fits p a c)
+      deep low some₀ some₁ (take-filled f C s₁ m o ok₁ low₁ high₁ full fits₁)
+      (take-other f C s₁ m o ok₁ low₁ high₁ full fits₁ n low (λ e. omega (arith, known)) ∙ put-same f C s n z ok low high refl fits)
+      (take-same f C s₁ m o ok₁ low₁ high₁ full fits₁)
+    where
+      n : ℕ
+      n = stretchAt f b0 key .0
+
+      m : ℕ
+      m = suc (headOf s .filled)
+
+      C : ℕ
+      C = headOf s .capacity
+
+      z : List Item
+      z = halfAt false f b0 key
+
+      o : List Item
+      o = halfAt true f b0 key
+
+      s₁ : List ℕ
+      s₁ = putItems f C s n z
+
+      s′ : List ℕ
+      s′ = takeItems f C s₁ m o
+
+      lawful : Lawful f s (headOf s) (stretchAt f b0 key)
+      lawful = lawful-at f s (headOf s) b0 key pg inside
+
+      sides : length z + length o ≡ length (stretchAt f b0 key .1)
+      sides = length-sides keyOf (nextBit f b0 key) (stretchAt f b0 key .1)
+
+      low : 1 ≤ n
+      low = number-low f s (headOf s) (stretchAt f b0 key) (lawful .page) (omega (arith, sides))
+
+      known : n ≤ headOf s .filled
+      known = number-high f s (headOf s) b0 key pg inside
+
+      high : n ≤ headOf s .pages
+      high = omega (arith, known)
+
+      fits : length z ≤ C
+      fits = omega (arith, sides, lawful .fits)
+
+      head : headOf s₁ ≡ headOf s
+      head = put-head f C s n z ok low high refl fits
+
+      ok₁ : Sized f s₁
+      ok₁ = put-sized f C s n z ok low high refl fits
+
+      low₁ : 1 ≤ m
+      low₁ = omega arith
+
+      high₁ : m ≤ headOf s₁ .pages
+      high₁ = rw head room
+
+      full : headOf s₁ .capacity ≡ C
+      full = ap (λ (h : Head). h .capacity) head
+
+      fits₁ : length o ≤ C
+      fits₁ = omega (arith, sides, lawful .fits)
