@@ -1,9 +1,9 @@
 -- Tests over a range of numbers, and conjunctions of tests, as facts.
 use mathlib.Core.Path.{_≡_, refl, sym, ap, _∙_, subst}
 use mathlib.Core.Bool.{Bool, true, false, not, _&&_, false≢true}
-use mathlib.Core.List.{List, [], _∷_, _++_}
+use mathlib.Core.List.{[], _∷_, _++_}
 use Prim.Native.Nat.{ℕ, zero, suc, _+_, _-_, _≤_, _<_, max}
-use native.Mathlib.Decide.{decLt, ℕ-discrete}
+use native.Mathlib.Decide.{decLt}
 use native.Mathlib.Numerals.{add-one}
 use native.Mathlib.Omega.{arith}
 use lib.ListN.{length, getD}
@@ -62,6 +62,12 @@ every-of (suc n) t h = rw (every-of n t (λ k q. h k (omega arith)), h n (omega 
 
 pub every-not : (n : ℕ) (t : ℕ → Bool) (k : ℕ) → k < n → t k ≡ false → every n t ≡ false
 every-not n t k h q = same-test (every n t) false (λ e. sym q ∙ every-at n t e k h) (λ e. absurd (false≢true e))
+
+pub every-ext : (n : ℕ) (t u : ℕ → Bool) → ((k : ℕ) → k < n → t k ≡ u k) → every n t ≡ every n u
+every-ext n t u h =
+    same-test (every n t) (every n u)
+    (λ e. every-of n u (λ k q. sym (h k q) ∙ every-at n t e k q))
+    (λ e. every-of n t (λ k q. h k q ∙ every-at n u e k q))
 
 -- a function that rises at each step rises over any steps
 pub rising :

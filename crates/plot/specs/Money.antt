@@ -4,7 +4,7 @@
 --   Reply                               == an answer by document 01's number, with its value (0 for a refusal)
 --   reply b                             == document 01's number and value for each case of a `BalanceAnswer`
 --   balanceReply price lease last today == what the call `balance` is to reply
-use mathlib.Core.Bool.{Bool, true, false, _&&_}
+use mathlib.Core.Bool.{true, false, _&&_}
 use Prim.Native.Nat.{ℕ, _-_, _*_, _/_, min}
 use lib.Dec.{eqb}
 use Rattle.plot.specs.declared.BalanceAnswer.{BalanceAnswer}

@@ -3,7 +3,7 @@
 --   Stands θ node Q n == node n shows a trie of some level, and Q holds of the level below and each label of that trie
 --   Below s b0 bs j x == x is a label of level j
 use mathlib.Core.Path.{_≡_, refl, sym, ap, _∙_, subst}
-use mathlib.Core.Bool.{Bool, true, false}
+use mathlib.Core.Bool.{true}
 use mathlib.Core.Logic.{_⊎_, inl, inr}
 use mathlib.Core.List.{List, [], _∷_, _++_, List·Memᴰ, List·Memᴰ·head, List·Memᴰ·tail}
 use Prim.Native.Nat.{ℕ, zero, suc, _+_, _-_, _*_, _%_, _^_, _≤_, _<_}
@@ -12,20 +12,18 @@ use native.Mathlib.Decide.{ℕ-discrete, decLe}
 use native.Mathlib.Nat.{sub-le}
 use lib.ListN.{getD}
 use Rattle.lists.specs.Bits.{bit, bits, index}
-use Rattle.lists.specs.Lists.{All}
 use Rattle.lists.proofs.Cases.{bool-cases}
 use Rattle.lists.proofs.Powers.{run-lt}
 use Rattle.lists.proofs.BitLaws.{index-lt, index-own}
 use Rattle.tree.specs.Trie.{Trie, leaf, fork, Key, height, labels, leafAt, depth}
 use Rattle.tree.specs.Node.{Entry, flatten, RunRule}
-use Rattle.tree.proofs.TrieLaws.{depth-le-height}
-use Rattle.tree.proofs.NodePromises.{at-key, obeys}
+use Rattle.tree.proofs.NodePromises.{obeys}
 use Rattle.store.specs.declared.Format.{Format}
 use Rattle.store.specs.Format.{width}
-use Rattle.store.specs.Head.{headOf, zeros, nodeStart, pageAt}
-use Rattle.store.specs.Node.{depthWord, levelWord, backWord, forwardWord, entryDepth, entryPointer, entryOf}
+use Rattle.store.specs.Head.{headOf, zeros, pageAt}
+use Rattle.store.specs.Node.{depthWord, levelWord, entryDepth, entryPointer, entryOf}
 use Rattle.page.specs.Page.{pageRule}
-use Rattle.represent.specs.Labelled.{relabel, Each, ind, occ, occs, OneForOne, Over, Linked, before, after}
+use Rattle.represent.specs.Labelled.{Each, occ, occs, before, after}
 use Rattle.represent.specs.Image.{nodeAt, NodeIs}
 use Rattle.represent.specs.Rep.{Stretch, numbers, Nodes, Rep}
 use Rattle.represent.specs.Clauses.{Taken, start, PointsDown, NotBefore, terminal, InKeyOrder, Clauses}

@@ -1,6 +1,6 @@
 -- The worked example holds its tree, by computation.
 use mathlib.Core.Path.{_≡_, refl, sym, subst}
-use mathlib.Core.List.{List, [], _∷_}
+use mathlib.Core.List.{[], _∷_}
 use Prim.Native.Nat.{ℕ, zero, suc, _≤_, _<_}
 use native.Mathlib.Omega.{arith}
 use native.Mathlib.Decide.{ℕ-discrete}
@@ -16,10 +16,10 @@ use Rattle.store.specs.Format.{width, words}
 use Rattle.store.specs.Head.{headOf, zeros, lawfulSizes, size, nodeWords, nodeStart, pageStart, pageWords, pageAt}
 use Rattle.page.specs.Page.{lawfulItem}
 use Rattle.search.specs.Range.{itemWords, flat}
-use Rattle.represent.specs.Labelled.{ind, occ, occs, OneForOne}
-use Rattle.represent.specs.Image.{nodeImage, pageImage, nodeAt, NodeIs}
-use Rattle.represent.specs.Rep.{Unlinked, Directory, Pages, Rep, Holds, numbers}
-use Rattle.represent.specs.Example.{one, two, three, stretches, directory, stored, ExampleHolds}
+use Rattle.represent.specs.Labelled.{ind, occ, occs}
+use Rattle.represent.specs.Image.{nodeImage, pageImage, nodeAt}
+use Rattle.represent.specs.Rep.{Unlinked, numbers}
+use Rattle.represent.specs.Example.{stretches, directory, stored, ExampleHolds}
 use Rattle.represent.proofs.LabelLaws.{ind-other}
 
 -- the node numbers 1, 2, 3, and the page numbers 3, 1, 2

@@ -1,7 +1,7 @@
 -- A node of level 1 splits, with its links: the node behind it is one of the level's and not itself, so the right half comes to stand between them.
 use mathlib.Core.Path.{_≡_, sym, ap, _∙_, subst}
 use mathlib.Core.List.{List, _∷_, _++_}
-use Prim.Native.Nat.{ℕ, suc, _+_, _-_, _≤_, _<_}
+use Prim.Native.Nat.{ℕ, suc, _-_, _≤_, _<_}
 use native.Mathlib.Omega.{arith}
 use Rattle.tree.specs.Trie.{Trie, fork, Key, labels, leafAt, depth, rest, graft, pair}
 use Rattle.store.specs.Node.{backWord, forwardWord}

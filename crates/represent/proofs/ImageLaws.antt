@@ -1,6 +1,6 @@
 -- The words of a node block, read in place: a block that shows a trie v has v's entries at their places and zeros after them.
 --   Shown s a θ level v == the words of s from a on are a node block of this level with the entries of v
-use mathlib.Core.Path.{_≡_, refl, sym, ap, ap₂, _∙_, subst}
+use mathlib.Core.Path.{_≡_, refl, sym, ap, ap₂, _∙_}
 use mathlib.Core.Bool.{true}
 use mathlib.Core.List.{List, [], _∷_, _++_}
 use Prim.Native.Nat.{ℕ, zero, suc, _+_, _-_, _*_, _^_, _≤_, _<_}
@@ -8,10 +8,10 @@ use native.Mathlib.Omega.{arith}
 use native.Mathlib.Nat.{mul-le-mul-right}
 use lib.Dec.{eqb}
 use lib.Pow.{pow-mono}
-use lib.ListN.{length, getD, take, drop, replicate, length-append, length-replicate, List·getD-append}
+use lib.ListN.{length, getD, drop, replicate}
 use lib.Seq.{getD-take, getD-drop}
 use borrow.Author.Tests.{eq-eqb}
-use Rattle.lists.specs.Lists.{part, every}
+use Rattle.lists.specs.Lists.{part}
 use Rattle.lists.specs.Bits.{bits}
 use Rattle.lists.proofs.BitLaws.{index-own}
 use Rattle.lists.proofs.Parts.{part-in, getD-past}
@@ -22,8 +22,8 @@ use Rattle.tree.proofs.TrieLaws.{depth-le-height}
 use Rattle.tree.proofs.Flatten.{length-flatten, entry}
 use Rattle.store.specs.declared.Format.{Format}
 use Rattle.store.specs.declared.Head.{Head}
-use Rattle.store.specs.Head.{word, zeros, nodeWords, nodeStart, pageWords, size}
-use Rattle.store.specs.Node.{depthWord, levelWord, backWord, forwardWord, entryDepth, entryPointer, entryOf}
+use Rattle.store.specs.Head.{word, zeros, nodeWords, nodeStart, size}
+use Rattle.store.specs.Node.{depthWord, levelWord, backWord, forwardWord, entryOf}
 use Rattle.represent.specs.Labelled.{occ}
 use Rattle.represent.specs.Image.{entryWords, nodeImage, nodeAt, NodeIs}
 use Rattle.represent.proofs.LabelLaws.{occ-at}

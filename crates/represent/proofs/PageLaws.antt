@@ -29,6 +29,7 @@ use Rattle.represent.specs.Image.{pageImage}
 use Rattle.represent.specs.Rep.{Stretch, numbers, keyOf, PageIs, Lawful, Keyed, Pages}
 use Rattle.represent.proofs.LabelLaws.{ind-eq, ind-self, ind-other, occ-graft, ind-at, occ-at, each-at, leafAt-relabel}
 use Rattle.represent.proofs.Records.{keyed-own}
+use Rattle.represent.specs.Insertion.{stretchAt, leftAt, prefixAt, nextBit, halfAt, replacedAt, Fit, putItems, takeItems}
 use Rattle.represent.specs.Frame.{pageOf, Sized, putPage, putFilled}
 use Rattle.represent.proofs.Lengths.{length-pageImage}
 use Rattle.represent.proofs.Frame.{sized-long, putPage-head, putPage-sized, putPage-same, putPage-other}
@@ -120,38 +121,6 @@ side-whole key b w rs e =
       | inl a ↦ filter-all (λ r. same b (bit w (key r))) rs a
       | inr a ↦ absurd (omega (arith, filter-some (λ r. same b (bit w (key r))) rs a))
     ]
-
--- At the place of a key:
---   stretchAt f b0 key == the stretch that holds it
---   leftAt, prefixAt   == how many bits are left there, and what the others are
---   nextBit            == the number of the first that is left
---   halfAt b f b0 key  == those of its records whose next bit is b
---   replacedAt f b0 key c == b0 with the stretches c there
-abbrev pub stretchAt : Format → Trie Stretch → ℕ → Stretch
-stretchAt f b0 key = leafAt b0 (bits (width f) key)
-
-abbrev pub leftAt : Format → Trie Stretch → ℕ → ℕ
-leftAt f b0 key = width f - depth b0 (bits (width f) key)
-
-abbrev pub prefixAt : Format → Trie Stretch → ℕ → ℕ
-prefixAt f b0 key = key / 2 ^ leftAt f b0 key
-
-abbrev pub nextBit : Format → Trie Stretch → ℕ → ℕ
-nextBit f b0 key = width f - suc (depth b0 (bits (width f) key))
-
-abbrev pub halfAt : Bool → Format → Trie Stretch → ℕ → List Item
-halfAt b f b0 key = side keyOf b (nextBit f b0 key) (stretchAt f b0 key .1)
-
-abbrev pub replacedAt : Format → Trie Stretch → ℕ → Trie Stretch → Trie Stretch
-replacedAt f b0 key c = graft b0 (bits (width f) key) c
-
--- the records of a page to be written, at a place with w bits left and the prefix q
-pub record Fit (f : Format) (C w q : ℕ) (rs : List Item) : Type 0 where
-  pub some : 1 ≤ length rs
-  pub fits : length rs ≤ C
-  pub lawful : All (λ it. lawfulItem f it ≡ true) rs
-  pub sorted : Sorted keyOf rs
-  pub prefix : Prefix keyOf w q rs
 
 module _ (f : Format) (s : List ℕ) (h : Head) where
   page-new : (p : ℕ) (rs : List Item) → 1 ≤ length rs → 1 ≤ p → pageAt f s h p ≡ pageImage f (h .capacity) rs → PageIs f s h (p, rs)
@@ -333,14 +302,6 @@ module _ (f : Format) (s : List ℕ) (h : Head) (b0 : Trie Stretch) (key : ℕ) 
       pages-graft s h refl (λ p a b c. refl) (pair x (0, [])) (h .filled) (lawful-at, lawful-none f s h)
       (halves-keyed deep x (0, []) (sym all) (sym e)) refl
       (same-count (pair x (0, [])) (λ p low. omega (arith, ind-other p 0 (λ i. omega arith))))
-
--- putItems f C s p rs  == the words s with the records rs in page block p, where C is the capacity
--- takeItems f C s p rs == that, and p as the number of pages taken
-abbrev pub putItems : Format → ℕ → List ℕ → ℕ → List Item → List ℕ
-putItems f C s p rs = putPage f s p (pageImage f C rs)
-
-abbrev pub takeItems : Format → ℕ → List ℕ → ℕ → List Item → List ℕ
-takeItems f C s p rs = putFilled (putItems f C s p rs) p
 
 abbrev pub PagesOf : Format → List ℕ → Trie Stretch → Type 0
 PagesOf f s b0 = Pages f s (headOf s) b0

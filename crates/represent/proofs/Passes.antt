@@ -2,23 +2,14 @@
 -- are labels, which are numbers of blocks in use.
 use mathlib.Core.Path.{_≡_, refl, sym, subst}
 use mathlib.Core.Bool.{true}
-use mathlib.Core.List.{List, [], _∷_, _++_}
-use mathlib.Core.Logic.{inl, inr}
-use Prim.Native.Nat.{ℕ, suc, _+_, _-_, _/_, _^_, _≤_, _<_}
+use mathlib.Core.List.{List, [], _∷_}
+use Prim.Native.Nat.{ℕ, suc, _+_, _-_, _/_, _^_, _≤_}
 use native.Mathlib.Nat.{div-eq-of-lt}
-use native.Mathlib.Decide.{decLe}
 use native.Mathlib.Omega.{arith}
-use lib.Dec.{eqb}
-use lib.ListN.{getD}
-use borrow.Author.Tests.{eqb-true, eq-eqb, le-leb}
+use borrow.Author.Tests.{eq-eqb, le-leb}
 use Rattle.lists.specs.Bits.{bits}
-use Rattle.lists.specs.Lists.{All}
 use Rattle.lists.specs.Keyed.{Prefix}
-use Rattle.lists.proofs.BitLaws.{index-own}
-use Rattle.lists.proofs.Cases.{bool-cases}
-use Rattle.tree.specs.Trie.{Trie, leaf, fork, height, labels, leafAt, depth}
-use Rattle.tree.specs.Node.{flatten}
-use Rattle.tree.proofs.TrieLaws.{depth-le-height}
+use Rattle.tree.specs.Trie.{Trie, height, labels, leafAt, depth}
 use Rattle.tree.proofs.Flatten.{entry}
 use Rattle.store.specs.declared.Format.{Format}
 use Rattle.store.specs.declared.Head.{Head}
@@ -28,7 +19,7 @@ use Rattle.store.specs.Node.{backWord, forwardWord, entryOf, linkRule, pointerL
 use Rattle.store.proofs.RunWalk.{Points, trie-is-good}
 use Rattle.store.proofs.NodeLaws.{link-1, link-above, low-1, low-above, high-1, high-above, facts-node}
 use Rattle.page.specs.Page.{pageRule, agrees}
-use Rattle.represent.specs.Labelled.{Each, occ, occs, Over, first, Linked}
+use Rattle.represent.specs.Labelled.{Each, occ, occs, Over}
 use Rattle.represent.specs.Image.{nodeAt, NodeIs}
 use Rattle.represent.specs.Rep.{Stretch, numbers, keyOf, Nodes, backOf, forwardOf, Unlinked, Lawful, Rep}
 use Rattle.represent.specs.Promises.{RulesAbove, NodesPass, PagesPass, AgreesPasses}

@@ -1,6 +1,6 @@
 -- The promises about a store that holds a set, from the laws of represented stores.
-use mathlib.Core.Path.{_≡_, refl, sym, ap, _∙_, subst}
-use mathlib.Core.Bool.{Bool, true}
+use mathlib.Core.Path.{_≡_, sym, ap, _∙_, subst}
+use mathlib.Core.Bool.{true}
 use mathlib.Core.List.{List, [], _∷_}
 use Prim.Native.Nat.{ℕ, _^_, _<_}
 use lib.Dec.{eqb}
@@ -10,7 +10,7 @@ use Rattle.tree.specs.Trie.{Trie}
 use Rattle.store.specs.declared.Format.{Format}
 use Rattle.store.specs.declared.Item.{Item}
 use Rattle.store.specs.Format.{width}
-use Rattle.store.specs.Head.{headOf, headRule}
+use Rattle.store.specs.Head.{headOf}
 use Rattle.page.specs.Page.{above}
 use Rattle.search.specs.declared.Sought.{Sought}
 use Rattle.search.specs.Descent.{noStep}

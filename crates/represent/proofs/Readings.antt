@@ -1,9 +1,9 @@
 -- The readings of a store that holds S are those of the list S. The descent ends at the stretch of the key. Its page, if it has one, gives its records back;
 -- the page reached after it is that of the first later stretch with records.
-use mathlib.Core.Path.{_≡_, refl, sym, ap, ap₂, _∙_, subst}
+use mathlib.Core.Path.{_≡_, refl, sym, ap, ap₂, _∙_}
 use mathlib.Core.Bool.{Bool, true, false}
 use mathlib.Core.Logic.{inl, inr}
-use mathlib.Core.List.{List, [], _∷_, _++_, map, append-nil}
+use mathlib.Core.List.{List, [], _∷_, _++_, map}
 use Prim.Native.Nat.{ℕ, zero, suc, _-_, _/_, _^_, _≤_, _<_}
 use native.Mathlib.Omega.{arith}
 use native.Mathlib.Nat.{div-eq-of-lt}
@@ -13,26 +13,26 @@ use borrow.Author.Tests.{eq-eqb, ne-eqb}
 use Rattle.lists.specs.Bits.{bits}
 use Rattle.lists.specs.Lists.{All}
 use Rattle.lists.proofs.ListLaws.{all-map}
-use Rattle.tree.specs.Trie.{Trie, leaf, fork, Key, labels, leafAt, depth, height}
+use Rattle.tree.specs.Trie.{Trie, Key, leafAt, depth, height}
 use Rattle.store.specs.declared.Format.{Format}
 use Rattle.store.specs.declared.Head.{Head}
 use Rattle.store.specs.declared.Item.{Item}
 use Rattle.store.specs.Format.{width}
-use Rattle.store.specs.Head.{headOf, headRule, pageAt}
+use Rattle.store.specs.Head.{headOf, pageAt}
 use Rattle.page.specs.Page.{count, itemAt, above, firstAbove}
 use Rattle.search.specs.declared.Sought.{Sought}
 use Rattle.search.specs.declared.Sought.the-variants.{Record, Nothing, Damaged}
 use Rattle.search.specs.Descent.{noStep, descent}
-use Rattle.search.specs.Find.{soundPage, inPage, findOf, checked, findReply}
-use Rattle.search.specs.Next.{visitAfter, afterOwn, fromDescent, nextOf, nextReply}
-use Rattle.represent.specs.Labelled.{relabel, Each, after}
-use Rattle.represent.specs.Rep.{Stretch, numbers, keyOf, Lawful, Rep, Holds}
-use Rattle.represent.specs.Listing.{firstWhere, findIn, nextIn}
-use Rattle.represent.specs.Promises.{pathSteps, FindReads, NextReads}
+use Rattle.search.specs.Find.{soundPage, inPage, findOf}
+use Rattle.search.specs.Next.{visitAfter, afterOwn, fromDescent, nextOf}
+use Rattle.represent.specs.Labelled.{after}
+use Rattle.represent.specs.Rep.{Stretch, numbers, Lawful, Rep}
+use Rattle.represent.specs.Listing.{firstWhere}
+use Rattle.represent.specs.Promises.{pathSteps}
 use Rattle.lists.proofs.AppendLaws.{append-all}
 use Rattle.represent.proofs.LabelLaws.{each-at, leafAt-relabel, after-relabel, each-after}
 use Rattle.represent.proofs.FirstLaws.{firstOf, orElse, above-true}
-use Rattle.represent.proofs.Records.{recordsOf, records, records-are, height-keyed, keyed-after, keyed-own, find-own, next-own, next-right}
+use Rattle.represent.proofs.Records.{recordsOf, records, height-keyed, keyed-after, keyed-own, find-own, next-own, next-right}
 use Rattle.represent.proofs.PageImage.{first-cases, page-head, page-passes, page-agrees, page-all-above, page-first, page-none, page-find}
 use Rattle.represent.proofs.Passes.{nodes-pass}
 use Rattle.represent.proofs.DescentVisits.{descent-is}

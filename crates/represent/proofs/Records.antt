@@ -27,8 +27,6 @@ use Rattle.tree.specs.Trie.{Trie, leaf, fork, Key, height, labels, leafAt, dept
 use Rattle.tree.specs.Build.{same, side, build}
 use Rattle.tree.proofs.TrieLaws.{depth-le-height}
 use Rattle.tree.proofs.BuildLaws.{sorted-side, prefix-low, prefix-high, build-le, build-gt}
-use Rattle.store.specs.declared.Format.{Format}
-use Rattle.store.specs.declared.Head.{Head}
 use Rattle.store.specs.declared.Item.{Item}
 use Rattle.page.specs.Page.{above}
 use Rattle.search.specs.declared.Sought.the-variants.{Record, Nothing}

@@ -14,36 +14,12 @@ use Rattle.store.specs.declared.Head.{Head}
 use Rattle.store.specs.Head.{headOf, nodeWords, pageWords, size, pageStart, pageAt}
 use Rattle.store.specs.Node.{backWord, forwardWord}
 use Rattle.represent.specs.Image.{NodeIs}
+use Rattle.represent.specs.Insertion.{Others, nodesEnd, others, Ok, wordStore}
 use Rattle.represent.specs.Frame.{nodeOf, pageOf, sizeOf, Sized, putNode, putHead}
 use Rattle.represent.proofs.Frame.{SameSizes, sized-long, putNode-head, putNode-sized, putNode-same, putNode-other, putNode-drop}
 use Rattle.represent.proofs.Frame.{putHead-sizes, putHead-filled, putHead-root, putHead-levels, putHead-taken}
 use Rattle.represent.proofs.Frame.{putHead-sized, putHead-nodes, putHead-drop}
 use Rattle.represent.proofs.Lengths.{length-nodeImage}
-
--- all but the node blocks and the three words of the head
-pub record Others : Type 0 where
-  pub theta : ℕ
-  pub capacity : ℕ
-  pub nodes : ℕ
-  pub pages : ℕ
-  pub filled : ℕ
-  -- the words behind the node blocks
-  pub behind : List ℕ
-
--- the number of the first word behind the node blocks
-abbrev pub nodesEnd : Head → ℕ
-nodesEnd h = 16 + h .nodes * nodeWords (h .theta)
-
-abbrev pub others : List ℕ → Others
-others s =
-    record {
-      theta = headOf s .theta;
-      capacity = headOf s .capacity;
-      nodes = headOf s .nodes;
-      pages = headOf s .pages;
-      filled = headOf s .filled;
-      behind = drop (nodesEnd (headOf s)) s;
-    }
 
 -- others that stay
 pub others-sizes : (s t : List ℕ) → others t ≡ others s → SameSizes (headOf s) (headOf t)
@@ -82,53 +58,49 @@ module _ (f : Format) where
   others-beyond s t e = sym (beyond-in t) ∙ ap beyondIn e ∙ beyond-in s
 
 module _ (f : Format) (θ : ℕ) where
-  pub record Ok (s : List ℕ) : Type 0 where
-    pub theta : headOf s .theta ≡ θ
-    pub sized : Sized f s
-
   -- a node block put
-  fills : (s ws : List ℕ) (level : ℕ) (v : Trie ℕ) → Ok s → NodeIs θ ws level v → length ws ≡ nodeWords (headOf s .theta)
+  fills : (s ws : List ℕ) (level : ℕ) (v : Trie ℕ) → Ok f θ s → NodeIs θ ws level v → length ws ≡ nodeWords (headOf s .theta)
   fills s ws level v ok is =
       ap length (is .image) ∙ length-nodeImage θ level (backWord ws 0) (forwardWord ws 0) v (is .low) ∙ ap nodeWords (sym (ok .theta))
 
   module _ (s : List ℕ) (n : ℕ) (ws : List ℕ) where
-    pub put-head : Ok s → headOf (putNode s n ws) ≡ headOf s
+    pub put-head : Ok f θ s → headOf (putNode s n ws) ≡ headOf s
     put-head ok = putNode-head s n ws (omega (arith, sized-long f s (ok .sized)))
 
-    pub put-root : Ok s → headOf (putNode s n ws) .root ≡ headOf s .root
+    pub put-root : Ok f θ s → headOf (putNode s n ws) .root ≡ headOf s .root
     put-root ok = ap (λ (h : Head). h .root) (put-head ok)
 
-    pub put-levels : Ok s → headOf (putNode s n ws) .levels ≡ headOf s .levels
+    pub put-levels : Ok f θ s → headOf (putNode s n ws) .levels ≡ headOf s .levels
     put-levels ok = ap (λ (h : Head). h .levels) (put-head ok)
 
-    pub put-taken : Ok s → headOf (putNode s n ws) .taken ≡ headOf s .taken
+    pub put-taken : Ok f θ s → headOf (putNode s n ws) .taken ≡ headOf s .taken
     put-taken ok = ap (λ (h : Head). h .taken) (put-head ok)
 
-    pub put-cap : Ok s → headOf (putNode s n ws) .nodes ≡ headOf s .nodes
+    pub put-cap : Ok f θ s → headOf (putNode s n ws) .nodes ≡ headOf s .nodes
     put-cap ok = ap (λ (h : Head). h .nodes) (put-head ok)
 
     module _ (level : ℕ) (v : Trie ℕ) where
-      pub put-ok : Ok s → 1 ≤ n → n ≤ headOf s .nodes → NodeIs θ ws level v → Ok (putNode s n ws)
+      pub put-ok : Ok f θ s → 1 ≤ n → n ≤ headOf s .nodes → NodeIs θ ws level v → Ok f θ (putNode s n ws)
       put-ok ok low high is =
           record {
             theta = ap (λ (h : Head). h .theta) (put-head ok) ∙ ok .theta;
             sized = putNode-sized f s n ws (ok .sized) low high (fills s ws level v ok is);
           }
 
-      pub put-same : Ok s → 1 ≤ n → n ≤ headOf s .nodes → NodeIs θ ws level v → nodeOf (putNode s n ws) n ≡ ws
+      pub put-same : Ok f θ s → 1 ≤ n → n ≤ headOf s .nodes → NodeIs θ ws level v → nodeOf (putNode s n ws) n ≡ ws
       put-same ok low high is = putNode-same f s n ws (ok .sized) low high (fills s ws level v ok is)
 
-      pub put-other : (x : ℕ) → Ok s → 1 ≤ n → n ≤ headOf s .nodes → NodeIs θ ws level v → 1 ≤ x → x ≤ headOf s .nodes → (x ≡ n → ⊥)
+      pub put-other : (x : ℕ) → Ok f θ s → 1 ≤ n → n ≤ headOf s .nodes → NodeIs θ ws level v → 1 ≤ x → x ≤ headOf s .nodes → (x ≡ n → ⊥)
           → nodeOf (putNode s n ws) x ≡ nodeOf s x
       put-other x ok low high is p q ne = putNode-other f s n ws (ok .sized) low high (fills s ws level v ok is) x p ne
 
-      pub put-others : Ok s → 1 ≤ n → n ≤ headOf s .nodes → NodeIs θ ws level v → others (putNode s n ws) ≡ others s
+      pub put-others : Ok f θ s → 1 ≤ n → n ≤ headOf s .nodes → NodeIs θ ws level v → others (putNode s n ws) ≡ others s
       put-others ok low high is =
           rw (put-head ok, putNode-drop f s n ws (ok .sized) low high (fills s ws level v ok is) (nodesEnd (headOf s)) (omega arith))
 
   -- the head's three words set
-  module _ (s : List ℕ) (root levels taken : ℕ) (ok : Ok s) where
-    pub head-ok : Ok (putHead s root levels taken)
+  module _ (s : List ℕ) (root levels taken : ℕ) (ok : Ok f θ s) where
+    pub head-ok : Ok f θ (putHead s root levels taken)
     head-ok = record { theta = putHead-sizes s root levels taken .theta ∙ ok .theta; sized = putHead-sized s root levels taken f (ok .sized) }
 
     long : 8 ≤ length s

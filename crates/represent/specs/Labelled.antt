@@ -8,7 +8,7 @@
 --   before, after t k == the labels left and right of the leaf at the key
 --   Linked back forward p ns == the numbers ns are linked both ways in this order, the first after p, the last before null
 use mathlib.Core.Path.{_≡_}
-use mathlib.Core.Bool.{Bool, true, false, cond}
+use mathlib.Core.Bool.{true, false, cond}
 use mathlib.Core.List.{List, [], _∷_, _++_}
 use Prim.Native.Nat.{ℕ, _+_, _≤_, _<_}
 use lib.Dec.{eqb}

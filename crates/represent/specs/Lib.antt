@@ -3,6 +3,7 @@ pub mod Image
 pub mod Rep
 pub mod Round
 pub mod Frame
+pub mod Insertion
 pub mod Listing
 pub mod Clauses
 pub mod Example

@@ -17,7 +17,7 @@ use Prim.Native.Nat.{ℕ, zero, suc, _+_, _*_, _≤_, _<_}
 use lib.ListN.{length, replicate}
 use Rattle.lists.specs.Lists.{All}
 use Rattle.lists.specs.Keyed.{Sorted, Prefix}
-use Rattle.tree.specs.Trie.{Trie, leaf, fork, Shape, shape, labels}
+use Rattle.tree.specs.Trie.{Trie, leaf, fork, shape, labels}
 use Rattle.tree.specs.Tower.{tower}
 use Rattle.tree.specs.Build.{build}
 use Rattle.store.specs.declared.Format.{Format}

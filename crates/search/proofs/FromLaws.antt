@@ -1,21 +1,18 @@
 -- Next from the descent on: one law for each way out.
-use mathlib.Core.Path.{_≡_, refl, sym, ap, _∙_}
+use mathlib.Core.Path.{_≡_, sym, ap, _∙_}
 use mathlib.Core.Bool.{Bool, true, false}
 use mathlib.Core.List.{List}
 use Prim.Native.Nat.{ℕ, _≤_, _<_}
-use lib.Dec.{ltb, eqb}
 use lib.ListN.{getD}
 use borrow.Author.Tests.{lt-ltb, le-ltb, eq-eqb, ne-eqb}
 use Rattle.store.specs.declared.Format.{Format}
 use Rattle.store.specs.declared.Head.{Head}
-use Rattle.store.specs.declared.Item.{Item}
 use Rattle.store.specs.Head.{nodeStart, pageAt}
 use Rattle.store.specs.Node.{depthWord}
 use Rattle.store.proofs.NodeLaws.{node-facts}
 use Rattle.page.specs.Page.{count, itemAt, firstAbove}
 use Rattle.search.specs.declared.Descent.{Descent}
-use Rattle.search.specs.declared.Sought.{Sought}
-use Rattle.search.specs.declared.Sought.the-variants.{Record, Nothing, Damaged}
+use Rattle.search.specs.declared.Sought.the-variants.{Record, Damaged}
 use Rattle.search.specs.Descent.{noStep, descent}
 use Rattle.search.specs.Find.{soundPage}
 use Rattle.search.specs.Next.{afterOwn, fromDescent, nextOf}

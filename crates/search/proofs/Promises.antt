@@ -1,7 +1,7 @@
 -- The promises of specs/Promises.antt: each turn's record is above the one before, and every refusal is written as zeros.
-use mathlib.Core.Path.{_≡_, refl, sym, ap, _∙_}
+use mathlib.Core.Path.{_≡_, refl}
 use mathlib.Core.Bool.{Bool, true, false}
-use mathlib.Core.List.{List, [], _∷_}
+use mathlib.Core.List.{List}
 use mathlib.Core.Logic.{inl, inr}
 use Prim.Native.Nat.{ℕ, zero, suc, _+_, _-_, _/_, _≤_, _<_}
 use native.Mathlib.Decide.{decLt, ℕ-discrete}
@@ -22,7 +22,7 @@ use Rattle.search.specs.declared.Sought.{Sought}
 use Rattle.search.specs.declared.Sought.the-variants.{Record, Nothing, Damaged}
 use Rattle.search.specs.Find.{noItem, checked}
 use Rattle.search.specs.Next.{nextOf}
-use Rattle.search.specs.Range.{Ranged, also, rangeFrom, ranged, listed, rangeOf}
+use Rattle.search.specs.Range.{also, rangeFrom, ranged, listed, rangeOf}
 use Rattle.search.specs.Summary.{summed, summaryOf}
 use Rattle.search.specs.Promises.{NextAbove, RangeAscends, FindRefusals, RangeRefusals, SummaryRefusals}
 use Rattle.search.proofs.NextLaws as NextLaws

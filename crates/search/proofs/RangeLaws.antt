@@ -1,14 +1,13 @@
 -- A range and a summary, turn by turn: each turn's record is above the one before, so fuel enough for the keys that are left is fuel enough.
-use mathlib.Core.Path.{_≡_, refl, sym, ap, _∙_}
+use mathlib.Core.Path.{_≡_, refl, ap, _∙_}
 use mathlib.Core.Bool.{Bool, true, false}
-use mathlib.Core.List.{List, [], _∷_, _++_}
+use mathlib.Core.List.{List, [], _∷_}
 use mathlib.Core.Logic.{inl, inr}
 use native.Mathlib.Nat.{zero-add}
 use Rattle.lists.proofs.Cases.{bool-cases}
-use Prim.Native.Nat.{ℕ, zero, suc, _+_, _-_, _*_, _/_, _^_, _≤_, _<_}
+use Prim.Native.Nat.{ℕ, suc, _+_, _-_, _≤_, _<_}
 use native.Mathlib.Omega.{arith}
-use lib.Dec.{ltb, eqb}
-use lib.ListN.{length, drop}
+use lib.ListN.{length}
 use borrow.Author.Tests.{lt-ltb, le-ltb, eq-eqb, ne-eqb, ltb-true, leb-true}
 use Rattle.store.specs.declared.Format.{Format}
 use Rattle.store.specs.declared.Head.{Head}
@@ -18,12 +17,11 @@ use Rattle.totals.specs.declared.Totals.{Totals}
 use Rattle.totals.specs.Totals.{noTotals, updatedOf}
 use Rattle.search.specs.declared.Listing.{Listing}
 use Rattle.search.specs.declared.Summing.{Summing}
-use Rattle.search.specs.declared.Sought.{Sought}
 use Rattle.search.specs.declared.Sought.the-variants.{Record, Nothing, Damaged}
 use Rattle.search.specs.Next.{nextOf}
 use Rattle.search.proofs.NextLaws.{next-above}
-use Rattle.search.specs.Range.{Ranged, ended, broken, also, rangeFrom, ranged, listing, firsts}
-use Rattle.search.specs.Summary.{done, damage, sumFrom, summed}
+use Rattle.search.specs.Range.{Ranged, ended, broken, also, rangeFrom, ranged, listing}
+use Rattle.search.specs.Summary.{done, damage, sumFrom}
 
 -- how many more turns there may be than keys left: one where the first key itself counts
 unfoldable pub lead : Bool → ℕ

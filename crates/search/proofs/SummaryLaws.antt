@@ -1,21 +1,17 @@
 -- Summary and range, one law for each way out.
-use mathlib.Core.Path.{_≡_, refl, sym, ap, _∙_}
-use mathlib.Core.Bool.{Bool, true, false}
-use mathlib.Core.List.{List, _++_}
-use Prim.Native.Nat.{ℕ, _+_, _-_, _*_, _/_, _≤_, _<_}
+use mathlib.Core.Path.{_≡_, ap, _∙_}
+use mathlib.Core.Bool.{true, false}
+use mathlib.Core.List.{List}
+use Prim.Native.Nat.{ℕ, _≤_, _<_}
 use native.Mathlib.Omega.{arith}
-use lib.Dec.{ltb}
-use lib.ListN.{length, drop}
 use borrow.Author.Tests.{lt-ltb, le-ltb}
 use Rattle.plot.specs.Plot.{lawfulDay}
 use Rattle.store.specs.declared.Format.{Format}
 use Rattle.store.specs.declared.Head.{Head}
-use Rattle.store.specs.Format.{words}
 use Rattle.store.specs.Head.{headOf, headRule}
 use Rattle.store.proofs.HeadLaws.{head-facts, levels-within}
 use Rattle.search.specs.declared.Summing.{Summing}
-use Rattle.search.specs.Summary.{SummaryReply, refused, summed, summingReply, summaryOf}
-use Rattle.search.specs.Range.{Ranged, RangeReply, ranged, listed, rangeOf}
+use Rattle.search.specs.Summary.{refused, summed, summingReply, summaryOf}
 
 -- what a store that keeps the head rule has, as the readings ask it
 pub readable : (f : Format) (s : List ℕ) (h : Head) → h ≡ headOf s → headRule f s ≡ true

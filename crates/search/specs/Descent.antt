@@ -5,7 +5,7 @@
 --   descent f s h k              == the same from the root
 -- A step is the node, the key's entry number in it, that entry's local depth, and the bits used before the node; the step of level l stands at
 -- l − 1 of the 32 steps.
-use mathlib.Core.Bool.{Bool, true, false, _&&_}
+use mathlib.Core.Bool.{true, false, _&&_}
 use mathlib.Core.List.{List}
 use Prim.Native.Nat.{ℕ, zero, suc, _+_}
 use lib.Dec.{leb}

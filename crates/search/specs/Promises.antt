@@ -16,7 +16,7 @@ use Rattle.store.specs.declared.Item.{Item}
 use Rattle.page.specs.Page.{above}
 use Rattle.search.specs.declared.Sought.{Sought}
 use Rattle.search.specs.declared.Sought.the-variants.{Record}
-use Rattle.search.specs.Find.{Reply, noItem, checked}
+use Rattle.search.specs.Find.{noItem, checked}
 use Rattle.search.specs.Next.{nextOf}
 use Rattle.search.specs.Range.{ranged, refused, rangeOf}
 use Rattle.search.specs.Summary.{summaryOf}

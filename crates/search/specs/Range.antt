@@ -19,7 +19,6 @@ use Rattle.store.specs.declared.Head.{Head}
 use Rattle.store.specs.declared.Item.{Item}
 use Rattle.store.specs.Format.{words}
 use Rattle.store.specs.Head.{headOf, headRule}
-use Rattle.search.specs.declared.Sought.{Sought}
 use Rattle.search.specs.declared.Sought.the-variants.{Record, Nothing, Damaged}
 use Rattle.search.specs.declared.Listing.{Listing}
 use Rattle.search.specs.declared.RangeAnswer.{RangeAnswer}

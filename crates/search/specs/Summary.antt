@@ -14,7 +14,6 @@ use Rattle.store.specs.declared.Head.{Head}
 use Rattle.store.specs.Head.{headOf, headRule}
 use Rattle.totals.specs.declared.Totals.{Totals}
 use Rattle.totals.specs.Totals.{noTotals, updatedOf}
-use Rattle.search.specs.declared.Sought.{Sought}
 use Rattle.search.specs.declared.Sought.the-variants.{Record, Nothing, Damaged}
 use Rattle.search.specs.declared.Summing.{Summing}
 use Rattle.search.specs.declared.SummaryAnswer.{SummaryAnswer}

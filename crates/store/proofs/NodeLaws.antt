@@ -1,22 +1,21 @@
 -- The node rule, test by test: one run of a walk, and what a row of tests comes to.
-use mathlib.Core.Path.{_≡_, refl, sym, ap, _∙_}
+use mathlib.Core.Path.{_≡_, sym, _∙_}
 use mathlib.Core.Bool.{Bool, true, false, _&&_}
 use mathlib.Core.List.{List}
 use mathlib.Core.Logic.{inl, inr}
-use Prim.Native.Nat.{ℕ, zero, suc, _+_, _-_, _*_, _/_, _%_, _^_, _≤_, _<_, max}
+use Prim.Native.Nat.{ℕ, _+_, _-_, _*_, _/_, _%_, _^_, _≤_, _<_, max}
 use native.Mathlib.Nat.{mod-one}
 use native.Mathlib.Omega.{arith}
 use lib.Dec.{leb, eqb}
 use lib.Bits.{bitAnd}
 use borrow.Author.Tests.{leb-true, leb-false, eqb-true, eqb-false, eq-eqb, ne-eqb, le-leb}
-use Rattle.lists.specs.Lists.{every}
 use Rattle.lists.proofs.Cases.{bool-cases}
 use Rattle.lists.proofs.Tests.{and-true, every-none, every-more, every-not}
 use Rattle.lists.proofs.Shifts.{low-bits, mod-below}
 use Rattle.tree.specs.Node.{Entry}
 use Rattle.store.specs.declared.Head.{Head}
-use Rattle.store.specs.Head.{word, zeros}
-use Rattle.store.specs.Node.{depthWord, levelWord, backWord, forwardWord, entryDepth, entryPointer, entryOf, sameEntry, sameRun, goodRuns, runTest, linkRule, pointerLow, pointerHigh, nodeRule, entryNumber}
+use Rattle.store.specs.Head.{zeros}
+use Rattle.store.specs.Node.{depthWord, levelWord, backWord, forwardWord, entryOf, sameEntry, sameRun, goodRuns, runTest, linkRule, pointerLow, pointerHigh, nodeRule, entryNumber}
 use Rattle.store.proofs.RunWalk.{Passed, passed-more, deep-fails, align-fails, low-fails, high-fails, run-fails}
 
 -- a run of equal entries, one more at a time

@@ -1,20 +1,18 @@
 -- What set-up writes: zeros, and then the few words that are not.
-use mathlib.Core.Path.{_≡_, refl, sym, ap, _∙_}
-use mathlib.Core.Bool.{Bool, true, false}
-use mathlib.Core.List.{List, [], _∷_, _++_, append-nil}
-use Prim.Native.Nat.{ℕ, zero, suc, _+_, _-_, _*_, _^_, _≤_, _<_}
+use mathlib.Core.Path.{_≡_, sym, ap, _∙_}
+use mathlib.Core.Bool.{true, false}
+use mathlib.Core.List.{List, _∷_, _++_}
+use Prim.Native.Nat.{ℕ, _+_, _-_, _*_, _^_, _≤_, _<_}
 use native.Mathlib.Omega.{arith}
-use lib.Dec.{leb}
-use lib.ListN.{length, take, drop, set, replicate, replicate-append-replicate, length-replicate, length-append, length-drop, drop-of-length-le}
+use lib.ListN.{length, take, drop, replicate, replicate-append-replicate, length-replicate, length-append}
 use lib.Pow.{pow-pos}
 use lib.Seq.{length-take-le}
 use borrow.Author.Tests.{le-leb, lt-leb}
 use Rattle.store.specs.declared.Format.{Format}
-use Rattle.store.specs.declared.SetUpAnswer.{SetUpAnswer}
 use Rattle.store.specs.declared.SetUpAnswer.the-variants.{Done, OutsideLimits, TooShort}
 use Rattle.store.specs.Format.{words}
-use Rattle.store.specs.Head.{nodeWords, pageWords, size, lawfulSizes}
-use Rattle.store.specs.SetUp.{setUpWords, marked, Reply, reply, After, setUp}
+use Rattle.store.specs.Head.{nodeWords, size, lawfulSizes}
+use Rattle.store.specs.SetUp.{setUpWords, marked, reply, setUp}
 use Rattle.store.proofs.HeadLaws.{Limits}
 use Rattle.store.proofs.Sizes.{times-le}
 

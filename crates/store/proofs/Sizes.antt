@@ -1,17 +1,12 @@
 -- Bounds on sizes and positions, so that sums and products of them fit a machine word; and the logarithm by its two bounds.
-use mathlib.Core.Path.{_≡_, refl, sym, ap, _∙_}
-use mathlib.Core.Bool.{Bool, true, false}
-use Prim.Native.Nat.{ℕ, zero, suc, _+_, _-_, _*_, _/_, _^_, _≤_, _<_}
-use native.Mathlib.Decide.{decLe, decLt}
+use mathlib.Core.Path.{_≡_}
+use Prim.Native.Nat.{ℕ, zero, suc, _*_, _^_, _≤_, _<_}
+use native.Mathlib.Decide.{decLe}
 use native.Mathlib.Nat.{mul-le-mul, le-of-lt}
 use native.Mathlib.Omega.{arith}
-use lib.Dec.{leb}
-use lib.Pow.{pow-mono, pow-pos}
+use lib.Pow.{pow-mono}
 use borrow.Author.Tests.{le-leb, lt-leb}
 use Rattle.tree.specs.Book.{logBelow, log2}
-use Rattle.store.specs.declared.Format.{Format}
-use Rattle.store.specs.declared.Format.the-variants.{Plots}
-use Rattle.store.specs.Format.{width, words}
 
 -- a product of bounded numbers
 pub times-le : (a b x y : ℕ) → a ≤ x → b ≤ y → a * b ≤ x * y

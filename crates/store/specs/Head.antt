@@ -10,7 +10,7 @@
 --   pageAt f s h p     == the words of page block p
 --   lawfulSizes θ C N P == θ, C, N and P within their limits
 --   headRule f s       == the head rule
-use mathlib.Core.Bool.{Bool, true, false, _&&_}
+use mathlib.Core.Bool.{Bool, _&&_}
 use mathlib.Core.List.{List}
 use Prim.Native.Nat.{ℕ, _+_, _-_, _*_, _^_}
 use lib.Dec.{leb, eqb}

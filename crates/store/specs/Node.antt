@@ -9,7 +9,6 @@
 --   linkRule, pointerLow, pointerHigh == what the level says of links and pointers
 --   nodeRule h s b level == a visited node at this level
 --   entryNumber W k used H == the entry that a key takes, after the used bits
-use mathlib.Core.Path.{_≡_}
 use mathlib.Core.Bool.{Bool, true, false, _&&_}
 use mathlib.Core.List.{List}
 use Prim.Native.Nat.{ℕ, _+_, _-_, _*_, _/_, _%_, _^_}
@@ -17,7 +16,7 @@ use lib.Dec.{leb, eqb}
 use Rattle.lists.specs.Lists.{every, greatest}
 use Rattle.tree.specs.Node.{Entry}
 use Rattle.store.specs.declared.Head.{Head}
-use Rattle.store.specs.Head.{word, zeros, nodeWords}
+use Rattle.store.specs.Head.{word, zeros}
 
 abbrev pub depthWord : List ℕ → ℕ → ℕ
 depthWord s b = word s b

@@ -334,7 +334,7 @@ pub fn larger(a: u32, b: u32) -> u32
     a
 }
 
-// Whether the entries of a node fall into lawful runs, the largest local depth being the node's. Each entry is read twice at most.
+// Whether the entries of a node fall into lawful runs, the largest local depth being the node's. From run to run, so linear in the entries.
 pub fn runs_ok(store: &[u32], at: usize, depth: u32, low: u32, high: u32) -> bool
     requires { ⌜ (at < 2 ^ 40) × (depth ≤ 6) ⌝ }
     ensures { λ r. ⌜ r ≡ goodRuns depth low high (entryOf (now (store .entry)) at) ⌝ }

@@ -1,21 +1,21 @@
 -- The book's records stay ascending, and they are those accepted, in whatever order they came. A set that fits is accepted in every order:
 -- what the book holds on the way is a sublist of what it holds at the end, and a tree never shrinks.
-use mathlib.Core.Path.{_≡_, refl, sym, ap, ap₂, _∙_, subst}
-use mathlib.Core.Bool.{Bool, true, false, not, _&&_, _||_, true≢false, false≢true}
-use mathlib.Core.List.{List, [], _∷_, Sublistᴰ, Sublistᴰ·refl, Sublistᴰ·trans, List·Permᴰ}
+use mathlib.Core.Path.{_≡_, refl, sym, ap, _∙_, subst}
+use mathlib.Core.Bool.{Bool, true, false, not, _&&_, _||_, true≢false}
+use mathlib.Core.List.{List, [], _∷_, Sublistᴰ, List·Permᴰ}
 use mathlib.Core.Logic.{inl, inr}
-use Prim.Native.Nat.{ℕ, zero, suc, _+_, _^_, _≤_, _<_}
+use Prim.Native.Nat.{ℕ, _≤_}
 use native.Mathlib.Omega.{arith}
 use lib.Dec.{leb, eqb}
 use borrow.Author.Tests.{le-leb, leb-true, eq-eqb, not-true}
 use Rattle.lists.specs.Lists.{All}
-use Rattle.lists.specs.Keyed.{Sorted, Distinct, Lacks, Bounded, contains, insert, ascending}
+use Rattle.lists.specs.Keyed.{Sorted, Distinct, Lacks, contains, insert, ascending}
 use Rattle.lists.proofs.Cases.{bool-cases}
 use Rattle.lists.proofs.Tests.{and-true}
 use Rattle.lists.proofs.ListLaws.{all-map, all-both, all-perm}
-use Rattle.lists.proofs.KeyedLaws.{all-insert, sorted-insert, sublist-insert, insert-swap, contains-false, lacks-contains, contains-insert, insertAll, sublist-insertAll, insertAll-ascending, distinct-perm, ascending-perm}
+use Rattle.lists.proofs.KeyedLaws.{all-insert, sorted-insert, contains-false, lacks-contains, contains-insert, insertAll, sublist-insertAll, insertAll-ascending, distinct-perm, ascending-perm}
 use Rattle.tree.specs.Trie.{shape}
-use Rattle.tree.specs.Book.{Format, Sizes, Reply, refused, Entered, Booked, tree, levelsOf, nodesOf, pagesOf, fits, entered, book, accepts, accepted, Narrow}
+use Rattle.tree.specs.Book.{Format, Sizes, Entered, tree, levelsOf, nodesOf, pagesOf, fits, entered, book, accepts, accepted}
 use Rattle.tree.proofs.Growth.{within-tower, within-build, sublist-pages}
 
 or-true : (a b : Bool) → b ≡ true → (a || b) ≡ true

@@ -1,24 +1,23 @@
 -- The trie of a list of records: its height, what stands at a key, and how it grows with a record. An insertion changes the leaf at its key
 -- only, since the other side of every fork keeps its records.
-use mathlib.Core.Path.{_≡_, refl, sym, ap, ap₂, _∙_, subst}
+use mathlib.Core.Path.{_≡_, refl, sym, ap, _∙_}
 use mathlib.Core.Bool.{Bool, true, false, not}
 use mathlib.Core.List.{List, [], _∷_}
 use mathlib.Core.Logic.{_⊎_, inl, inr}
-use Prim.Native.Nat.{ℕ, zero, suc, _+_, _-_, _*_, _/_, _^_, _≤_, _<_, max}
+use Prim.Native.Nat.{ℕ, zero, suc, _+_, _-_, _*_, _/_, _^_, _≤_, _<_}
 use native.Mathlib.Nat.{sub-zero, suc-sub-suc, div-one}
-use native.Mathlib.Decide.{decLe, decLt}
+use native.Mathlib.Decide.{decLe}
 use native.Mathlib.Omega.{arith}
-use lib.Dec.{leb}
 use lib.ListN.{length}
 use borrow.Author.Tests.{le-leb, lt-leb}
 use Rattle.lists.specs.Bits.{bit, bits}
-use Rattle.lists.specs.Lists.{All, filter}
-use Rattle.lists.specs.Keyed.{Sorted, Lacks, Prefix, insert}
+use Rattle.lists.specs.Lists.{All}
+use Rattle.lists.specs.Keyed.{Sorted, Prefix, insert}
 use Rattle.lists.proofs.Cases.{bool-cases}
 use Rattle.lists.proofs.BitLaws.{bit-false, bit-true}
 use Rattle.lists.proofs.ListLaws.{all-filter, all-filter-to, pairwise-filter, filter-not}
 use Rattle.lists.proofs.KeyedLaws.{length-insert, filter-insert-in, filter-insert-out}
-use Rattle.tree.specs.Trie.{Trie, leaf, fork, Key, height, leafAt, depth, graft}
+use Rattle.tree.specs.Trie.{Trie, leaf, fork, height, leafAt, depth}
 use Rattle.tree.specs.Build.{same, side, build, target}
 
 pub same-self : (b : Bool) → same b b ≡ true

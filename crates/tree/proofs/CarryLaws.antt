@@ -1,14 +1,13 @@
 -- One halving at the key is a carry: with a local depth below θ the level stays tall over the halved one, at θ it is halved too, and so on
 -- up; a level that stays tall is the cut, so the carried tower is the tower.
-use mathlib.Core.Path.{_≡_, refl, sym, ap, ap₂, _∙_, subst}
-use mathlib.Core.Bool.{Bool, true, false}
+use mathlib.Core.Path.{_≡_, refl, sym, ap, ap₂, _∙_}
+use mathlib.Core.Bool.{true, false}
 use mathlib.Core.List.{List, [], _∷_}
-use Prim.Native.Nat.{ℕ, zero, suc, _+_, _-_, _≤_, _<_, max}
+use Prim.Native.Nat.{ℕ, zero, suc, _+_, _-_, _≤_, _<_}
 use native.Mathlib.Decide.{decLt}
 use native.Mathlib.Omega.{arith}
-use lib.Dec.{ltb}
 use borrow.Author.Tests.{lt-ltb, le-ltb}
-use Rattle.tree.specs.Trie.{Trie, leaf, fork, Shape, tip, Key, height, leaves, depth, graft, pair, split}
+use Rattle.tree.specs.Trie.{leaf, fork, Shape, tip, Key, height, depth, pair, split}
 use Rattle.tree.specs.Tower.{tower, allLeaves, nodes, Tall, IsFork, Topped, Canonical}
 use Rattle.tree.specs.Carry.{locals, carry, bump, bumpCost, splits, bumps, bumpCosts}
 use Rattle.tree.proofs.TrieLaws.{depth-le-height, height-split, depth-split, leaves-graft}

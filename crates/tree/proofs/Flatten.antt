@@ -8,13 +8,12 @@ use mathlib.Core.List.{[], _∷_, _++_}
 use Prim.Native.Nat.{ℕ, zero, suc, _+_, _-_, _*_, _^_, _≤_, _<_}
 use native.Mathlib.Nat.{suc-add, zero-mul, add-zero, add-suc, suc-sub-suc, sub-zero, mul-le-mul-right}
 use native.Mathlib.Omega.{arith}
-use lib.ListN.{length, getD, drop, length-append, length-replicate, getD-replicate, List·getD-append}
-use lib.Seq.{getD-append-add}
+use lib.ListN.{length, getD, drop, length-append, length-replicate, getD-replicate}
 use Rattle.lists.specs.Bits.{index}
 use Rattle.lists.proofs.Powers.{pow-split}
 use Rattle.lists.proofs.BitLaws.{index-lt, index-split}
 use Rattle.lists.specs.Lists.{replaced}
-use Rattle.lists.proofs.Parts.{replaced-all, replaced-left, replaced-right, replaced-in, replaced-below, replaced-above}
+use Rattle.lists.proofs.Parts.{replaced-all, replaced-left, replaced-right, replaced-in}
 use Rattle.tree.specs.Trie.{Trie, leaf, fork, Key, leafAt, depth, graft}
 use Rattle.tree.specs.Node.{Entry, flatten}
 use Rattle.tree.specs.NodePromises.{Length}

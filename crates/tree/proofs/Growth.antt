@@ -1,18 +1,17 @@
 -- A tree never shrinks when records are added: the trie of a sublist has only forks that the trie of the list has, and so have all its cuts.
-use mathlib.Core.Path.{_≡_, refl, sym, ap, _∙_}
-use mathlib.Core.Bool.{Bool, true, false, not}
-use mathlib.Core.List.{List, [], _∷_, Sublistᴰ}
-use Prim.Native.Nat.{ℕ, zero, suc, _+_, _-_, _≤_, _<_, max}
-use native.Mathlib.Decide.{decLe, decLt}
+use mathlib.Core.Bool.{Bool, true, false}
+use mathlib.Core.List.{List, Sublistᴰ}
+use Prim.Native.Nat.{ℕ, zero, suc, _≤_}
+use native.Mathlib.Decide.{decLe}
 use native.Mathlib.Omega.{arith}
 use lib.ListN.{length}
 use Rattle.lists.specs.Bits.{bit}
 use Rattle.lists.proofs.ListLaws.{filter-sublist, length-sublist}
-use Rattle.tree.specs.Trie.{Trie, leaf, fork, Shape, tip, shape, height, leaves}
+use Rattle.tree.specs.Trie.{leaf, fork, Shape, shape, height, leaves}
 use Rattle.tree.specs.Tower.{cut, above, tower, allLeaves, levels, nodes}
 use Rattle.tree.specs.Build.{same, side, build, filled, pages}
 use Rattle.tree.proofs.TrieLaws.{leaves-pos}
-use Rattle.tree.proofs.TowerLaws.{cut-le, cut-gt, above-tip}
+use Rattle.tree.proofs.TowerLaws.{cut-le, cut-gt}
 use Rattle.tree.proofs.BuildLaws.{length-sides, build-le, build-gt}
 use Rattle.tree.proofs.InsertLaws.{filled-pos, filled-zero, filled-le}
 

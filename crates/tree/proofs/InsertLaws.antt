@@ -1,27 +1,26 @@
 -- An insertion as rounds and a put: a round leaves what the insertion is to come to as it was, and with room at the key the put reaches it.
 -- The rounds last while the records of the leaf at the key agree with it in the next bit.
-use mathlib.Core.Path.{_≡_, refl, sym, ap, ap₂, _∙_, subst}
-use mathlib.Core.Bool.{Bool, true, false, not}
+use mathlib.Core.Path.{_≡_, refl, sym, ap, _∙_}
+use mathlib.Core.Bool.{Bool, true, false}
 use mathlib.Core.List.{List, [], _∷_}
-use mathlib.Core.Logic.{_⊎_, inl, inr}
-use Prim.Native.Nat.{ℕ, zero, suc, pred, _+_, _-_, _/_, _^_, _≤_, _<_}
+use mathlib.Core.Logic.{inl, inr}
+use Prim.Native.Nat.{ℕ, zero, suc, _+_, _-_, _/_, _^_, _≤_, _<_}
 use native.Mathlib.Nat.{div-one}
-use native.Mathlib.Decide.{decLe, decLt}
+use native.Mathlib.Decide.{decLt}
 use native.Mathlib.Omega.{arith}
-use lib.Dec.{leb, ltb}
 use lib.ListN.{length}
 use borrow.Author.Tests.{lt-ltb, le-ltb}
 use Rattle.lists.specs.Bits.{bit, bits}
-use Rattle.lists.specs.Lists.{All, filter, all}
+use Rattle.lists.specs.Lists.{all}
 use Rattle.lists.specs.Keyed.{Sorted, Lacks, Prefix, insert}
 use Rattle.lists.proofs.Cases.{bool-cases}
 use Rattle.lists.proofs.ListLaws.{filter-all, filter-some, length-filter}
 use Rattle.lists.proofs.KeyedLaws.{length-insert}
-use Rattle.tree.specs.Trie.{Trie, leaf, fork, Shape, tip, Key, shape, height, leafAt, depth, rest, graft, pair, split}
+use Rattle.tree.specs.Trie.{Trie, leaf, fork, Shape, tip, Key, shape, leafAt, depth, rest, graft, pair, split}
 use Rattle.tree.specs.Build.{same, side, build, rounds, target, halve, put, roundsAt, filled, pages, pagesAt}
 use Rattle.tree.specs.Carry.{splits}
 use Rattle.tree.proofs.TrieLaws.{graft-leafAt, graft-graft, leafAt-graft, depth-graft, depth-pair, depth-le-height, rest-bits, shape-graft, rest-shape}
-use Rattle.tree.proofs.BuildLaws.{length-sides, sorted-side, all-side, side-insert, side-insert-off, prefix-side, build-le, build-gt, height-build, leaf-all, leaf-sorted, leaf-prefix, leaf-small, build-insert}
+use Rattle.tree.proofs.BuildLaws.{length-sides, side-insert, side-insert-off, prefix-side, build-le, build-gt, height-build, leaf-all, leaf-sorted, leaf-prefix, leaf-small, build-insert}
 
 -- halvings at a key stay on the key's side, and in the leaf at the key
 splits-low : (d : ℕ) (l r : Shape) (k : Key) → splits d (fork l r) (false ∷ k) ≡ fork (splits d l k) r

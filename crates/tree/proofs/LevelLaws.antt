@@ -1,18 +1,16 @@
 -- Levels stay within L: at most 2^w keys share all but w bits, so a stretch with more than C records has more than f bits left, and every
 -- level takes θ from the height.
-use mathlib.Core.Path.{_≡_, refl, sym, ap, _∙_}
-use mathlib.Core.Bool.{Bool, true, false}
-use mathlib.Core.List.{List, [], _∷_}
-use Prim.Native.Nat.{ℕ, zero, suc, _+_, _-_, _*_, _/_, _^_, _≤_, _<_, max}
-use native.Mathlib.Nat.{suc-mul, le-div-iff-mul-le, zero-mul}
+use mathlib.Core.Bool.{true, false}
+use mathlib.Core.List.{List}
+use Prim.Native.Nat.{ℕ, zero, suc, _+_, _-_, _*_, _^_, _≤_, _<_}
+use native.Mathlib.Nat.{suc-mul, le-div-iff-mul-le}
 use native.Mathlib.Decide.{decLe, decLt}
 use native.Mathlib.Omega.{arith}
-use lib.Dec.{leb}
 use lib.ListN.{length}
 use lib.Pow.{pow-mono}
 use borrow.Author.Tests.{le-leb, lt-leb}
 use Rattle.lists.specs.Keyed.{Sorted, Prefix}
-use Rattle.tree.specs.Trie.{Trie, leaf, fork, Shape, tip, shape, height}
+use Rattle.tree.specs.Trie.{leaf, fork, Shape, shape, height}
 use Rattle.tree.specs.Tower.{cut, above, tower, levels}
 use Rattle.tree.specs.Build.{side, build}
 use Rattle.tree.specs.Book.{logBelow, log2, levelBound}

@@ -1,22 +1,21 @@
 -- The promises of specs/Promises.antt, each from its laws: `TowerIsCanonical` as `tower-is-canonical`, and so on.
-use mathlib.Core.Path.{_≡_, refl, sym, ap, _∙_}
+use mathlib.Core.Path.{_≡_, sym, _∙_}
 use mathlib.Core.Bool.{true}
-use mathlib.Core.List.{List, [], _∷_, Sublistᴰ, List·Permᴰ}
-use Prim.Native.Nat.{ℕ, zero, suc, _/_, _^_, _≤_, _<_}
+use mathlib.Core.List.{[]}
+use Prim.Native.Nat.{ℕ, _/_, _^_, _≤_, _<_}
 use native.Mathlib.Nat.{div-eq-of-lt}
 use native.Mathlib.Omega.{arith}
 use borrow.Author.Tests.{le-leb}
 use Rattle.lists.specs.Bits.{bits}
-use Rattle.lists.specs.Lists.{All}
-use Rattle.lists.specs.Keyed.{Sorted, Distinct, Bounded, Prefix, ascending}
+use Rattle.lists.specs.Keyed.{Prefix, ascending}
 use Rattle.lists.proofs.ListLaws.{all-map}
 use Rattle.lists.proofs.KeyedLaws.{bounded-prefix, ascending-perm, ascending-sublist}
 use Rattle.plot.proofs.Promises.{lawful-record}
-use Rattle.tree.specs.Trie.{Trie, shape}
+use Rattle.tree.specs.Trie.{shape}
 use Rattle.tree.specs.Tower.{cut, tower}
 use Rattle.tree.specs.Build.{build, roundsAt}
-use Rattle.tree.specs.Book.{Format, Sizes, plotFormat, tree, fits, book, accepted, Narrow}
-use Rattle.tree.specs.Promises.{TowerIsCanonical, OnlyTower, OneHalving, Inserted, Insertion, RoundKeeps, RoundCounts, PutReaches, LevelsWithin, OneList, NeverShrinks, HoldsAccepted, AnyOrder, BookKeeps}
+use Rattle.tree.specs.Book.{Format, Sizes, plotFormat, tree, fits, book, Narrow}
+use Rattle.tree.specs.Promises.{TowerIsCanonical, OnlyTower, OneHalving, Insertion, RoundKeeps, RoundCounts, PutReaches, LevelsWithin, OneList, NeverShrinks, HoldsAccepted, AnyOrder, BookKeeps}
 use Rattle.tree.proofs.TowerLaws.{tower-canonical, tower-unique}
 use Rattle.tree.proofs.CarryLaws.{halved, halvings}
 use Rattle.tree.proofs.BuildLaws.{build-le, build-insert}

@@ -1,14 +1,12 @@
 -- The tower by `cut` is the one canonical tower: a level that is tall over the one below is its cut, and a cut takes θ from the height.
-use mathlib.Core.Path.{_≡_, refl, sym, ap, ap₂, _∙_, subst}
-use mathlib.Core.Bool.{Bool, true, false}
+use mathlib.Core.Path.{_≡_, refl, sym, ap, ap₂, _∙_}
 use mathlib.Core.List.{List, [], _∷_}
-use Prim.Native.Nat.{ℕ, zero, suc, _+_, _-_, _≤_, _<_, max}
-use native.Mathlib.Decide.{decLe, decLt}
+use Prim.Native.Nat.{ℕ, zero, suc, _-_, _≤_, _<_}
+use native.Mathlib.Decide.{decLe}
 use native.Mathlib.Omega.{arith}
-use lib.Dec.{leb}
 use borrow.Author.Tests.{le-leb, lt-leb}
-use Rattle.tree.specs.Trie.{Trie, leaf, fork, Shape, tip, height}
-use Rattle.tree.specs.Tower.{cut, above, tower, Tall, IsFork, Topped, Canonical}
+use Rattle.tree.specs.Trie.{leaf, fork, Shape, tip, height}
+use Rattle.tree.specs.Tower.{cut, above, tower, Tall, Topped, Canonical}
 
 pub cut-le : (θ : ℕ) (t : Shape) → height t ≤ θ → cut θ t ≡ tip
 unfolding cut

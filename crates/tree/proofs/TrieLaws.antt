@@ -1,14 +1,14 @@
 -- Tries at a key: what a graft does to height, depth, leaves and labels. Each by recursion along the key.
-use mathlib.Core.Path.{_≡_, refl, sym, ap, ap₂, _∙_}
-use mathlib.Core.Bool.{Bool, true, false}
-use mathlib.Core.List.{List, [], _∷_}
-use Prim.Native.Nat.{ℕ, zero, suc, _+_, _-_, _≤_, _<_, max}
+use mathlib.Core.Path.{_≡_, refl, ap, _∙_}
+use mathlib.Core.Bool.{true, false}
+use mathlib.Core.List.{[], _∷_}
+use Prim.Native.Nat.{ℕ, zero, suc, _+_, _-_, _≤_, max}
 use native.Mathlib.Nat.{sub-zero, suc-sub-suc}
 use native.Mathlib.Omega.{arith}
 use mathlib.Core.Logic.{inl, inr}
 use Rattle.lists.specs.Bits.{bit, bits}
 use Rattle.lists.proofs.Cases.{bool-cases}
-use Rattle.tree.specs.Trie.{Trie, leaf, fork, Shape, tip, Key, shape, height, leaves, leafAt, depth, rest, graft, pair, split}
+use Rattle.tree.specs.Trie.{Trie, leaf, fork, Shape, Key, shape, height, leaves, leafAt, depth, rest, graft, pair}
 
 module _ {A : Type 0} where
   pub depth-le-height : (t : Trie A) (k : Key) → depth t k ≤ height t

@@ -4,11 +4,11 @@
 --   bump θ hs       == the local depths after that
 --   bumpCost θ hs   == the nodes that it takes
 --   splits d t k    == d halvings at the key, one after another; bumps, bumpCosts: the same of `bump` and `bumpCost`
-use mathlib.Core.Bool.{Bool, true, false}
+use mathlib.Core.Bool.{true, false}
 use mathlib.Core.List.{List, [], _∷_}
 use Prim.Native.Nat.{ℕ, zero, suc, _+_, _-_}
 use lib.Dec.{ltb}
-use Rattle.tree.specs.Trie.{Trie, leaf, fork, Shape, tip, Key, depth, split}
+use Rattle.tree.specs.Trie.{Trie, Shape, tip, Key, depth, split}
 
 abbrev pub locals : {A : Type 0} → Trie A → List (Trie A) → Key → List ℕ
 locals t [] k = []

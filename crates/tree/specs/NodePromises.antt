@@ -10,7 +10,6 @@
 --   IsTrie      == every array of 2^H entries that keeps the run rule and has the largest depth H is the array of a trie of height H
 --   Steps       == stepping from a run to the next goes through the leaves, left to right
 use mathlib.Core.Path.{_≡_}
-use mathlib.Core.Bool.{Bool}
 use mathlib.Core.List.{List, _++_, map}
 use Prim.Native.Nat.{ℕ, suc, _+_, _-_, _*_, _/_, _%_, _^_, _≤_, _<_}
 use lib.ListN.{length, getD, take, drop}

@@ -21,7 +21,7 @@ use Rattle.tree.specs.Trie.{Trie, Shape, Key, shape, leafAt, depth, spli
 use Rattle.tree.specs.Tower.{tower, levels, nodes, Canonical}
 use Rattle.tree.specs.Carry.{locals, carry, bump, bumpCost, splits, bumpCosts}
 use Rattle.tree.specs.Build.{build, pages, target, halve, put, roundsAt, pagesAt}
-use Rattle.tree.specs.Book.{Format, Sizes, tree, levelsOf, nodesOf, pagesOf, fits, book, accepted, Narrow, log2, levelBound}
+use Rattle.tree.specs.Book.{Format, Sizes, levelsOf, nodesOf, pagesOf, fits, book, accepted, Narrow, log2, levelBound}
 
 abbrev pub TowerIsCanonical : Type 0
 TowerIsCanonical = (θ : ℕ) (t : Shape) → 1 ≤ θ → Canonical θ t (tower θ t)

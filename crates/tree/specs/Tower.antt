@@ -6,13 +6,13 @@
 --   nodes θ t    == the number of nodes: a node for each stretch of the levels 1 to Levels
 --   Tall θ b t   == b has a leaf only over at most θ bits of t, and a fork only over more
 --   Canonical θ t bs == each level of bs is tall over the one below (t first), none but the last is one stretch, and the last is
-use mathlib.Core.Bool.{Bool, true, false}
+use mathlib.Core.Bool.{true, false}
 use mathlib.Core.List.{List, [], _∷_}
 use mathlib.Core.Path.{_≡_}
 use Prim.Native.Nat.{ℕ, zero, suc, _+_, _≤_, _<_}
 use lib.Dec.{leb}
 use lib.ListN.{length}
-use Rattle.tree.specs.Trie.{Trie, leaf, fork, Shape, tip, height, leaves}
+use Rattle.tree.specs.Trie.{leaf, fork, Shape, tip, height, leaves}
 
 -- "Level k stretches (k ≥ 1): start with all keys and halve every stretch that contains a level k−1 stretch whose prefix is over θ bits
 -- longer." Below a stretch the longest prefix is `height` bits longer.

@@ -1,7 +1,7 @@
 -- The records written so far are the first ones of the walk.
 use borrow.Author.Needs.{needs}
-use mathlib.Core.Path.{_≡_, refl, sym, ap, _∙_}
-use mathlib.Core.Bool.{Bool, true, false}
+use mathlib.Core.Path.{_≡_, refl, sym, _∙_}
+use mathlib.Core.Bool.{false}
 use mathlib.Core.List.{List, [], _∷_, _++_}
 use Prim.Native.Nat.{ℕ, _+_, _-_, _*_, _≤_, _<_}
 use native.Mathlib.Omega.{arith}
@@ -9,10 +9,7 @@ use lib.ListN.{length, drop, length-append}
 use Rattle.store.specs.declared.Format.{Format}
 use Rattle.store.specs.declared.Item.{Item}
 use Rattle.store.specs.Format.{words}
-use Rattle.search.specs.declared.Sought.{Sought}
-use Rattle.search.specs.declared.Sought.the-variants.{Record, Nothing, Damaged}
-use Rattle.search.specs.Next.{nextOf}
-use Rattle.search.specs.Range.{itemWords, flat, firsts}
+use Rattle.search.specs.Range.{flat, firsts}
 use Rattle.search.proofs.FillLaws.{firsts-none, firsts-lost, room-more, part-room, length-filled, fill-more, walk-more, walk-short, walk-end, fill-end}
 use Rattle.search.proofs.fill.Statement.{statement}
 use Rattle.search.proofs.fill.Tie as tie

@@ -1,7 +1,7 @@
 -- The answer from where the loop stands is the answer from the start.
 use borrow.Author.Needs.{needs}
 use mathlib.Core.Path.{_≡_, refl, sym, _∙_}
-use Prim.Native.Nat.{_+_, _-_, _^_, _≤_, _<_}
+use Prim.Native.Nat.{_+_, _^_, _≤_, _<_}
 use native.Mathlib.Omega.{arith}
 use Rattle.store.specs.Head.{nodeStart}
 use Rattle.store.specs.Node.{depthWord}

@@ -1,11 +1,9 @@
 -- Each turn passes a record above the one before.
 use borrow.Author.Needs.{needs}
-use mathlib.Core.Path.{_≡_, refl, sym, ap, _∙_}
-use mathlib.Core.Bool.{Bool, true, false}
-use Prim.Native.Nat.{ℕ, _+_, _-_, _≤_, _<_}
+use mathlib.Core.Path.{_≡_, sym, _∙_}
+use Prim.Native.Nat.{ℕ, _+_, _-_, _≤_}
 use native.Mathlib.Omega.{arith}
-use Rattle.search.specs.declared.Sought.{Sought}
-use Rattle.search.specs.declared.Sought.the-variants.{Record, Nothing, Damaged}
+use Rattle.search.specs.declared.Sought.the-variants.{Record}
 use Rattle.search.specs.Next.{nextOf}
 use Rattle.search.specs.Range.{rangeFrom, ranged, listing}
 use Rattle.search.proofs.RangeLaws.{listing-is, lead, lead-false, lead-true, outcome, outcome-start, next-lead, turn-damaged, turn-nothing, turn-passed, turn-full, turn-last, turn-on}

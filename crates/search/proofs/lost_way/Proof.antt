@@ -1,5 +1,5 @@
 -- By its definition.
-use mathlib.Core.Path.{_≡_, refl}
+use mathlib.Core.Path.{refl}
 use Rattle.search.specs.Descent.{noSteps, lost}
 use Rattle.search.proofs.lost_way.Statement.{statement}
 use Rattle.search.proofs.lost_way.Tie as tie

@@ -1,6 +1,6 @@
 -- One law for each way out.
 use borrow.Author.Needs.{needs}
-use mathlib.Core.Path.{_≡_, sym, ap, _∙_}
+use mathlib.Core.Path.{ap, _∙_}
 use borrow.Author.Tests.{not-true, not-false}
 use Rattle.lists.proofs.Tests.{passed, failed}
 use Rattle.search.specs.declared.Sought.the-variants.{Record}

@@ -1,7 +1,5 @@
 -- One law for each way out; the second pass writes what the first one found.
 use borrow.Author.Needs.{needs}
-use mathlib.Core.Path.{_≡_, _∙_}
-use native.Mathlib.Omega.{arith}
 use borrow.Author.Tests.{not-true, not-false}
 use Rattle.lists.proofs.Tests.{passed, failed}
 use Rattle.search.proofs.SummaryLaws.{readable}

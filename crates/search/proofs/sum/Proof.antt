@@ -1,13 +1,11 @@
 -- Each turn adds a record above the one before, so there are fewer records than keys, and the total fits.
 use borrow.Author.Needs.{needs}
-use mathlib.Core.Path.{_≡_, refl, sym, ap, _∙_}
-use mathlib.Core.Bool.{Bool, true, false}
-use Prim.Native.Nat.{ℕ, _+_, _-_, _≤_, _<_, _^_}
+use mathlib.Core.Path.{_≡_, refl, sym, _∙_}
+use Prim.Native.Nat.{ℕ, _+_, _-_, _≤_}
 use native.Mathlib.Omega.{arith}
-use Rattle.totals.specs.Totals.{noTotals, updatedOf, Room}
+use Rattle.totals.specs.Totals.{noTotals}
 use Rattle.totals.proofs.Laws.{Bounded, bounded-none, bounded-updated, bounded-room, updated-count}
-use Rattle.search.specs.declared.Sought.{Sought}
-use Rattle.search.specs.declared.Sought.the-variants.{Record, Nothing, Damaged}
+use Rattle.search.specs.declared.Sought.the-variants.{Record}
 use Rattle.search.specs.Next.{nextOf}
 use Rattle.search.specs.Summary.{sumFrom, summed}
 use Rattle.search.proofs.RangeLaws.{summing-is, lead, lead-false, lead-true, next-lead, adds-damaged, adds-nothing, adds-passed, adds-last, adds-on}

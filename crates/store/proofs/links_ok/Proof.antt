@@ -1,7 +1,6 @@
 -- By the level, test by test.
-use mathlib.Core.Path.{_≡_, refl, sym, ap, _∙_}
+use mathlib.Core.Path.{refl, sym}
 use mathlib.Core.Bool.{true, false}
-use native.Mathlib.Omega.{arith}
 use borrow.Author.Tests.{eq-eqb, ne-eqb, le-leb, lt-leb}
 use Rattle.store.proofs.NodeLaws.{link-1, link-above}
 use Rattle.store.proofs.links_ok.Statement.{statement}

@@ -1,7 +1,5 @@
 -- Where the block ends within the store it is that part, else no word.
 use borrow.Author.Needs.{needs}
-use mathlib.Core.Path.{_≡_, sym, ap, _∙_}
-use native.Mathlib.Omega.{arith}
 use Rattle.store.proofs.HeadLaws.{page-given, page-none}
 use Rattle.store.proofs.page_at.Statement.{statement}
 use Rattle.store.proofs.page_at.Tie as tie

@@ -1,12 +1,8 @@
 -- Test by test.
 use borrow.Author.Needs.{needs}
-use mathlib.Core.Path.{_≡_, refl, sym, ap, _∙_}
+use mathlib.Core.Path.{refl, sym}
 use mathlib.Core.Bool.{true, false}
-use native.Mathlib.Omega.{arith}
 use borrow.Author.Tests.{eq-eqb, ne-eqb, le-leb, lt-leb}
-use Prim.Native.Nat.{ℕ, _+_, _-_, _*_, _%_, _^_, _≤_, _<_}
-use lib.Dec.{leb, eqb}
-use lib.ListN.{getD}
 use Rattle.store.proofs.NodeLaws.{run-test-is}
 use Rattle.store.proofs.run_ok.Statement.{statement}
 use Rattle.store.proofs.run_ok.Tie as tie

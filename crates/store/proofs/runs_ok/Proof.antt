@@ -1,9 +1,8 @@
 -- The walk has passed whole runs so far.
 use borrow.Author.Needs.{needs}
-use mathlib.Core.Path.{_≡_, refl, sym, ap, _∙_}
-use mathlib.Core.Bool.{true, false}
+use mathlib.Core.Path.{_≡_, sym}
 use native.Mathlib.Omega.{arith}
-use Prim.Native.Nat.{ℕ, _+_, _-_, _*_, _^_, _≤_, _<_, max}
+use Prim.Native.Nat.{_+_, _-_, _^_, _≤_, max}
 use Rattle.lists.proofs.Tests.{passed, failed}
 use Rattle.store.specs.Node.{entryOf}
 use Rattle.store.proofs.RunWalk.{Passed, passed-none, passed-all}

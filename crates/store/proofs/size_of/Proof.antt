@@ -1,6 +1,6 @@
 -- Two products of bounded numbers.
 use borrow.Author.Needs.{needs}
-use Prim.Native.Nat.{_*_, _^_, _≤_}
+use Prim.Native.Nat.{_*_, _≤_}
 use native.Mathlib.Omega.{arith}
 use Rattle.store.proofs.Sizes.{times-le}
 use Rattle.store.proofs.HeadLaws.{size-is}

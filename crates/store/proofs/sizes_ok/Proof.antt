@@ -1,5 +1,4 @@
 -- Test by test.
-use mathlib.Core.Bool.{true, false}
 use borrow.Author.Tests.{le-leb, lt-leb}
 use Rattle.store.specs.Head.{lawfulSizes}
 use Rattle.store.proofs.sizes_ok.Statement.{statement}
