@@ -32,9 +32,9 @@ use Rattle.represent.specs.Labelled.{occs, Over, under, before, after, f
 use Rattle.represent.specs.Image.{nodeAt, NodeIs}
 use Rattle.represent.specs.Rep.{Stretch, numbers, Rep}
 use Rattle.represent.specs.Promises.{RulesAbove}
-use Rattle.represent.proofs.LabelLaws.{occ-at, labels-at, over-map, depth-under, each-after, each-of}
+use Rattle.represent.proofs.LabelLaws.{label-low, occ-at, labels-at, over-map, depth-under, each-after, each-of}
 use Rattle.represent.proofs.ImageLaws.{Shown}
-use Rattle.represent.proofs.RepLaws.{label-low, rep-shown}
+use Rattle.represent.proofs.RepLaws.{rep-shown}
 use Rattle.represent.proofs.DescentVisits.{height-relabel, entry-rest, own-shown, own-room, descent-is}
 use Rattle.represent.proofs.Links.{backAt, forwardAt, rep-next, rep-after}
 use Rattle.represent.proofs.Counting.{length-labels, rep-leaves}

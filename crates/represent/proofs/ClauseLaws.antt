@@ -27,9 +27,9 @@ use Rattle.represent.specs.Labelled.{Each, occ, occs, before, after}
 use Rattle.represent.specs.Image.{nodeAt, NodeIs}
 use Rattle.represent.specs.Rep.{Stretch, numbers, Nodes, Rep}
 use Rattle.represent.specs.Clauses.{Taken, start, PointsDown, NotBefore, terminal, InKeyOrder, Clauses}
-use Rattle.represent.proofs.LabelLaws.{ind-other, occ-at, labels-at, each-labels, each-of, each-label, each-relabel, over-in, over-parts}
+use Rattle.represent.proofs.LabelLaws.{label-low, label-high, ind-other, occ-at, labels-at, each-labels, each-of, each-label, each-relabel, over-in, over-parts}
 use Rattle.represent.proofs.ImageLaws.{entry-label, Shown}
-use Rattle.represent.proofs.RepLaws.{label-low, label-high, rep-shown}
+use Rattle.represent.proofs.RepLaws.{rep-shown}
 use Rattle.represent.proofs.Links.{rep-linked}
 
 module _ (θ : ℕ) (node : ℕ → List ℕ) (Q : ℕ → ℕ → Type 0) where
@@ -127,7 +127,7 @@ module _ (f : Format) (s : List ℕ) (b0 : Trie Stretch) (b : Trie ℕ) (bs : Li
   taken n o =
       record {
         positive = label-low (b ∷ bs) n (r .directory .positive) o;
-        within = label-high (headOf s .taken) (λ x. occs x (b ∷ bs)) n (r .directory .oneForOne) o;
+        within = label-high (headOf s .taken) (λ x. occs x (b ∷ bs)) n (r .directory .oneForOne .none) o;
       }
 
   abbrev At : ℕ → Type 0
@@ -164,7 +164,7 @@ module _ (f : Format) (s : List ℕ) (b0 : Trie Stretch) (b : Trie ℕ) (bs : Li
         elim below [
           | inl z ↦
               inl (at n t .2 .level-is ∙ ap suc (z .0),
-              label-high (headOf s .filled) (λ p. occ p (numbers b0)) (entryPointer s (start s n) i) (r .pages .oneForOne) (z .1))
+              label-high (headOf s .filled) (λ p. occ p (numbers b0)) (entryPointer s (start s n) i) (r .pages .oneForOne .none) (z .1))
           | inr z ↦
               inr (taken (entryPointer s (start s n) i) (z .2),
               ap suc (rep-shown f s b0 (b ∷ bs) r (entryPointer s (start s n) i) (at n t .0) (z .0) (z .2) (z .1) .level-is)
@@ -185,7 +185,7 @@ module _ (f : Format) (s : List ℕ) (b0 : Trie Stretch) (b : Trie ℕ) (bs : Li
                   | inr z ↦ absurd (omega (arith, z .3, at n t .2 .level-is))
                 ] in
               let w = each-label _ (numbers b0) (entryPointer s (start s n) i) (each-relabel (λ x. x .0) _ b0 pass) o in
-              inr (omega arith, label-high (headOf s .filled) (λ p. occ p (numbers b0)) (entryPointer s (start s n) i) (r .pages .oneForOne) o,
+              inr (omega arith, label-high (headOf s .filled) (λ p. occ p (numbers b0)) (entryPointer s (start s n) i) (r .pages .oneForOne .none) o,
               subst (λ p. pageRule f (headOf s .capacity) (pageAt f s (headOf s) p) ≡ true) (w .1) (w .2 (λ q. e (sym (w .1) ∙ q))))
         ]
 

@@ -12,8 +12,7 @@ use Rattle.store.specs.declared.Format.{Format}
 use Rattle.store.specs.Head.{headOf}
 use Rattle.represent.specs.Labelled.{Each, ind, occ, occs}
 use Rattle.represent.specs.Rep.{Stretch, Rep}
-use Rattle.represent.proofs.LabelLaws.{ind-eq, ind-other, each-of}
-use Rattle.represent.proofs.RepLaws.{label-low, label-high}
+use Rattle.represent.proofs.LabelLaws.{label-low, label-high, ind-eq, ind-other, each-of}
 use Rattle.represent.proofs.Links.{rep-once}
 
 abbrev upTo : ℕ → (ℕ → ℕ) → ℕ
@@ -58,6 +57,6 @@ rep-leaves f s b0 b bs r =
     leaves-within (headOf s .taken) b
     (each-of _ b (λ n o. (
       label-low (b ∷ bs) n (r .directory .positive) (omega arith),
-      label-high (headOf s .taken) (λ x. occs x (b ∷ bs)) n (r .directory .oneForOne) (omega arith),
+      label-high (headOf s .taken) (λ x. occs x (b ∷ bs)) n (r .directory .oneForOne .none) (omega arith),
     )))
     (λ x. omega (arith, rep-once f s b0 (b ∷ bs) r x))

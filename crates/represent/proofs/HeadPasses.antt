@@ -30,8 +30,7 @@ use Rattle.represent.specs.Labelled.{relabel, occs}
 use Rattle.represent.specs.Image.{nodeAt}
 use Rattle.represent.specs.Rep.{numbers, keyOf, Nodes, Links, Rep, Holds}
 use Rattle.represent.specs.Promises.{HeadPasses}
-use Rattle.represent.proofs.LabelLaws.{ind-self}
-use Rattle.represent.proofs.RepLaws.{label-low, label-high}
+use Rattle.represent.proofs.LabelLaws.{label-low, label-high, ind-self}
 
 -- the logarithm of the capacity is below the width
 log-lt : (n C m : ℕ) → 1 ≤ m → C < 2 ^ m → logBelow n C < m
@@ -97,7 +96,7 @@ module _ (f : Format) (s : List ℕ) (S : List Item) (w : Holds f s S) where
   counts =
       let p = root-in (h .theta) (nodeAt s h) (h .root) (h .levels) (numbers (w .b0)) (w .bs) (r .directory .nodes) (r .directory .links) in
       let low : 1 ≤ h .root = label-low (w .bs) (h .root) (r .directory .positive) (p .0) in
-      let high : h .root ≤ h .taken = label-high (h .taken) (λ n. occs n (w .bs)) (h .root) (r .directory .oneForOne) (p .0) in
+      let high : h .root ≤ h .taken = label-high (h .taken) (λ n. occs n (w .bs)) (h .root) (r .directory .oneForOne .none) (p .0) in
       record {
         taken-low = omega arith;
         taken = r .nodes-fit;

@@ -2,8 +2,8 @@
 -- Labels are counted: distinct is `occ` at most 1, a label is `occ` at least 1.
 use mathlib.Core.Path.{_≡_, refl, sym, ap, ap₂, _∙_, subst}
 use mathlib.Core.Bool.{Bool, true, false, cond}
-use mathlib.Core.List.{[], _∷_, _++_, map, map-append, append-assoc, append-nil}
-use Prim.Native.Nat.{ℕ, suc, _+_, _≤_}
+use mathlib.Core.List.{List, [], _∷_, _++_, map, map-append, append-assoc, append-nil}
+use Prim.Native.Nat.{ℕ, suc, _+_, _≤_, _<_}
 use native.Mathlib.Omega.{arith}
 use native.Mathlib.Decide.{ℕ-discrete, decLe}
 use lib.Dec.{eqb}
@@ -11,7 +11,7 @@ use borrow.Author.Tests.{eq-eqb, ne-eqb}
 use Rattle.lists.specs.Lists.{All}
 use Rattle.tree.specs.Trie.{Trie, leaf, fork, Key, labels, leafAt, depth, rest, graft}
 use Rattle.tree.proofs.TrieLaws.{graft-leafAt}
-use Rattle.represent.specs.Labelled.{relabel, Each, ind, occ, Over, under, before, after}
+use Rattle.represent.specs.Labelled.{relabel, Each, ind, occ, occs, Over, under, before, after}
 use Rattle.lists.proofs.AppendLaws.{all-append, append-all}
 
 pub ind-eq : (x n : ℕ) → x ≡ n → ind x n ≡ 1
@@ -45,6 +45,21 @@ ind-at x (fork l r) (true ∷ k) = omega (arith, ind-at x r k)
 
 pub occ-at : (t : Trie ℕ) (k : Key) → 1 ≤ occ (leafAt t k) t
 occ-at t k = omega (arith, ind-at (leafAt t k) t k, ind-self (leafAt t k))
+
+-- a label is a number from 1 to m, where 0 is none and no number above m is one
+pub label-low : (bs : List (Trie ℕ)) (n : ℕ) → occs 0 bs ≡ 0 → 1 ≤ occs n bs → 1 ≤ n
+label-low bs n z o =
+    elim (decLe 1 n) [
+      | yes p ↦ p
+      | no p ↦ let e : n ≡ 0 = omega arith in absurd (omega (arith, z, subst (λ x. 1 ≤ occs x bs) e o))
+    ]
+
+pub label-high : (m : ℕ) (g : ℕ → ℕ) (n : ℕ) → ((x : ℕ) → m < x → g x ≡ 0) → 1 ≤ g n → n ≤ m
+label-high m g n none o =
+    elim (decLe n m) [
+      | yes p ↦ p
+      | no p ↦ absurd (omega (arith, none n (omega arith)))
+    ]
 
 module _ {A : Type 0} where
   pub labels-graft : (t : Trie A) (k : Key) (c : Trie A) → labels (graft t k c) ≡ before t k ++ (labels c ++ after t k)

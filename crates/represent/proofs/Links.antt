@@ -4,7 +4,6 @@ use mathlib.Core.Path.{_≡_, refl, sym, _∙_, subst}
 use mathlib.Core.List.{List, [], _∷_, _++_}
 use Prim.Native.Nat.{ℕ, _+_, _≤_}
 use native.Mathlib.Omega.{arith}
-use native.Mathlib.Decide.{decLe}
 use Rattle.lists.specs.Bits.{bits}
 use Rattle.tree.specs.Trie.{Trie, Key, labels, leafAt}
 use Rattle.store.specs.declared.Format.{Format}
@@ -16,9 +15,10 @@ use Rattle.represent.specs.Labelled.{ind, occ, occs, before, after, firs
 use Rattle.represent.specs.Image.{nodeAt, NodeIs}
 use Rattle.represent.specs.Rep.{Stretch, numbers, backOf, forwardOf, Rep}
 use Rattle.represent.specs.Promises.{Neighbour, NeighbourPasses}
-use Rattle.represent.proofs.LabelLaws.{ind-eq, ind-self, labels-at, over-in}
+use Rattle.represent.proofs.LabelLaws.{label-high, ind-eq, ind-self, labels-at, over-in}
+use Rattle.represent.proofs.CarriedLaws.{one-numbered}
 use Rattle.represent.proofs.Chain.{count, count-labels, count-at, linked-next, linked-after, Same, linked-frame}
-use Rattle.represent.proofs.RepLaws.{label-high, rep-shown, rep-back, rep-forward}
+use Rattle.represent.proofs.RepLaws.{rep-shown, rep-back, rep-forward}
 
 -- the links, in place
 module _ (s : List ℕ) where
@@ -30,17 +30,7 @@ module _ (s : List ℕ) where
 
 -- no label occurs twice
 pub rep-once : (f : Format) (s : List ℕ) (b0 : Trie Stretch) (bs : List (Trie ℕ)) → Rep f s b0 bs → (n : ℕ) → occs n bs ≤ 1
-rep-once f s b0 bs r n =
-    elim (decLe n (headOf s .taken)) [
-      | yes p ↦
-          elim (decLe 1 n) [
-            | yes q ↦ omega (arith, r .directory .oneForOne .once n q p)
-            | no q ↦
-                let e : n ≡ 0 = omega arith in
-                rw e (omega (arith, r .directory .positive))
-          ]
-      | no p ↦ omega (arith, r .directory .oneForOne .none n (omega arith))
-    ]
+rep-once f s b0 bs r = one-numbered (headOf s .taken) bs (r .directory .oneForOne) (r .directory .positive) .once
 
 module _ (f : Format) (s : List ℕ) (b0 : Trie Stretch) (b : Trie ℕ) (bs : List (Trie ℕ)) (r : Rep f s b0 (b ∷ bs)) where
   abbrev h : Head
@@ -81,7 +71,7 @@ module _ (f : Format) (s : List ℕ) (b0 : Trie Stretch) (b : Trie ℕ) (bs : Li
         let o : 1 ≤ occ m b = omega (arith, ind-self m) in
         let w = level-1 m o in
         record {
-          taken = label-high (h .taken) (λ n. occs n (b ∷ bs)) m (r .directory .oneForOne) (omega arith);
+          taken = label-high (h .taken) (λ n. occs n (b ∷ bs)) m (r .directory .oneForOne .none) (omega arith);
           another = λ q. omega (arith, ind-self m, ind-eq m (leafAt b key) q, rep-once f s b0 (b ∷ bs) r m);
           level = rep-shown f s b0 (b ∷ bs) r m 1 (w .0) (omega arith) (w .1) .level-is;
           back = subst (Linked (backAt s) (forwardAt s) (leafAt b key)) e rep-after .0;

@@ -10,8 +10,8 @@ use native.Mathlib.Decide.{decLe}
 use native.Mathlib.Omega.{arith}
 use lib.ListN.{length}
 use Rattle.lists.specs.Bits.{bit, bits}
-use Rattle.lists.specs.Lists.{All, all}
-use Rattle.lists.specs.Keyed.{Sorted, Prefix}
+use Rattle.lists.specs.Lists.{all}
+use Rattle.lists.specs.Keyed.{Prefix}
 use Rattle.lists.proofs.Cases.{bool-cases}
 use Rattle.lists.proofs.ListLaws.{length-filter, filter-all, filter-some}
 use Rattle.lists.proofs.BitLaws.{bit-false, bit-true}
@@ -27,10 +27,10 @@ use Rattle.page.specs.Page.{lawfulItem}
 use Rattle.represent.specs.Labelled.{relabel, Each, ind, occ, OneForOne}
 use Rattle.represent.specs.Image.{pageImage}
 use Rattle.represent.specs.Rep.{Stretch, numbers, keyOf, PageIs, Lawful, Keyed, Pages}
-use Rattle.represent.proofs.LabelLaws.{ind-eq, ind-self, ind-other, occ-graft, ind-at, occ-at, each-at, leafAt-relabel}
+use Rattle.represent.proofs.LabelLaws.{label-high, ind-eq, ind-self, ind-other, occ-graft, ind-at, occ-at, each-at, leafAt-relabel}
 use Rattle.represent.proofs.Records.{keyed-own}
 use Rattle.represent.specs.Insertion.{stretchAt, leftAt, prefixAt, nextBit, halfAt, replacedAt, Fit, putItems, takeItems}
-use Rattle.represent.specs.Frame.{pageOf, Sized, putPage, putFilled}
+use Rattle.represent.specs.Frame.{pageOf, Sized}
 use Rattle.represent.proofs.Lengths.{length-pageImage}
 use Rattle.represent.proofs.Frame.{sized-long, putPage-head, putPage-sized, putPage-same, putPage-other}
 use Rattle.represent.proofs.Frame.{putFilled-sizes, putFilled-filled, putFilled-pages}
@@ -99,8 +99,8 @@ module _ (f : Format) (s : List ℕ) (h : Head) (s′ : List ℕ) (h′ : Head) 
       → Lawful f s h x → Lawful f s′ h′ x
   lawful-frame x c e l = record { page = page-frame x c e (l .page); fits = rw c (l .fits); lawful = l .lawful; sorted = l .sorted }
 
-in-use : (f : Format) (s : List ℕ) (h : Head) (b0 : Trie Stretch) → Pages f s h b0 → (p : ℕ) → 1 ≤ occ p (numbers b0) → p ≤ h .filled
-in-use f s h b0 pg p o = elim (decLe p (h .filled)) [ yes l ↦ l | no l ↦ absurd (omega (arith, pg .oneForOne .none p (omega arith))) ]
+number-used : (f : Format) (s : List ℕ) (h : Head) (b0 : Trie Stretch) → Pages f s h b0 → (p : ℕ) → 1 ≤ occ p (numbers b0) → p ≤ h .filled
+number-used f s h b0 pg p o = label-high (h .filled) (λ p. occ p (numbers b0)) p (pg .oneForOne .none) o
 
 pub pages-frame : (f : Format) (s s′ : List ℕ) (h h′ : Head) (b0 : Trie Stretch) → h′ .capacity ≡ h .capacity → h′ .filled ≡ h .filled
     → ((p : ℕ) → 1 ≤ p → p ≤ h .filled → pageAt f s′ h′ p ≡ pageAt f s h p) → Pages f s h b0 → Pages f s′ h′ b0
@@ -108,7 +108,7 @@ pages-frame f s s′ h h′ b0 c e kept pg =
     record {
       each =
           each-map (λ x. x .0) (Lawful f s h) (Lawful f s′ h′) b0
-          (λ x o. lawful-frame f s h s′ h′ x c (λ p. kept (x .0) p (in-use f s h b0 pg (x .0) o)))
+          (λ x o. lawful-frame f s h s′ h′ x c (λ p. kept (x .0) p (number-used f s h b0 pg (x .0) o)))
           (pg .each);
       keyed = pg .keyed;
       oneForOne = rw e (pg .oneForOne);
@@ -158,7 +158,7 @@ module _ (f : Format) (s : List ℕ) (h : Head) (b0 : Trie Stretch) (key : ℕ) 
   pub number-high : stretchAt f b0 key .0 ≤ h .filled
   number-high =
       let k : Key = bits (width f) key in
-      in-use f s h b0 pg (stretchAt f b0 key .0)
+      number-used f s h b0 pg (stretchAt f b0 key .0)
       (subst (λ (n : ℕ). 1 ≤ occ n (numbers b0)) (leafAt-relabel (λ (x : Stretch). x .0) b0 k) (occ-at (numbers b0) k))
 
   half-fit : (b : Bool) (w q : ℕ) → 1 ≤ length (halfAt b f b0 key) → Prefix keyOf w q (halfAt b f b0 key)
@@ -230,7 +230,7 @@ module _ (f : Format) (s : List ℕ) (h : Head) (b0 : Trie Stretch) (key : ℕ) 
       (kept : (p : ℕ) → 1 ≤ p → p ≤ h .filled → (p ≡ stretchAt f b0 key .0 → ⊥) → pageAt f s′ h′ p ≡ pageAt f s h p) where
     beside : (x : Stretch) → ind (x .0) (stretchAt f b0 key .0) < occ (x .0) (numbers b0) → 1 ≤ x .0 → pageAt f s′ h′ (x .0) ≡ pageAt f s h (x .0)
     beside x o low =
-        let l : x .0 ≤ h .filled = in-use f s h b0 pg (x .0) (omega arith) in
+        let l : x .0 ≤ h .filled = number-used f s h b0 pg (x .0) (omega arith) in
         kept (x .0) low l (λ e. omega (arith, ind-eq (x .0) (stretchAt f b0 key .0) e, pg .oneForOne .once (x .0) low l))
 
     pages-graft : (c : Trie Stretch) (m : ℕ) → Each (Lawful f s′ h′) c → Keyed (leftAt f b0 key) (prefixAt f b0 key) c

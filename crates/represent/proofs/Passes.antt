@@ -23,10 +23,10 @@ use Rattle.represent.specs.Labelled.{Each, occ, occs, Over}
 use Rattle.represent.specs.Image.{nodeAt, NodeIs}
 use Rattle.represent.specs.Rep.{Stretch, numbers, keyOf, Nodes, backOf, forwardOf, Unlinked, Lawful, Rep}
 use Rattle.represent.specs.Promises.{RulesAbove, NodesPass, PagesPass, AgreesPasses}
-use Rattle.represent.proofs.LabelLaws.{each-map, each-at, each-labels, labels-each, each-of, each-label, leafAt-relabel, over-in, over-parts}
+use Rattle.represent.proofs.LabelLaws.{label-low, label-high, each-map, each-at, each-labels, labels-each, each-of, each-label, leafAt-relabel, over-in, over-parts}
 use Rattle.represent.proofs.Chain.{linked-all}
 use Rattle.represent.proofs.ImageLaws.{entry-label, Shown}
-use Rattle.represent.proofs.RepLaws.{label-low, label-high, rep-shown, rep-back, rep-forward}
+use Rattle.represent.proofs.RepLaws.{rep-shown, rep-back, rep-forward}
 use Rattle.represent.proofs.PageImage.{page-passes, page-agrees}
 use Rattle.represent.proofs.Records.{keyed-own}
 
@@ -85,7 +85,7 @@ module _ (f : Format) (s : List ℕ) (b0 : Trie Stretch) (all : List (Trie ℕ))
 
   -- a label of the levels is the number of a taken node
   taken : (n : ℕ) → 1 ≤ occs n all → (1 ≤ n) × (n ≤ h .taken)
-  taken n o = (label-low all n (r .directory .positive) o, label-high (h .taken) (λ x. occs x all) n (r .directory .oneForOne) o)
+  taken n o = (label-low all n (r .directory .positive) o, label-high (h .taken) (λ x. occs x all) n (r .directory .oneForOne .none) o)
 
   rule-at : (n level : ℕ) (v : Trie ℕ) → 1 ≤ occs n all → NodeIs (h .theta) (node n) level v
       → ((x : ℕ) → 1 ≤ occ x v → (pointerLow level ≤ x) × (x ≤ pointerHigh h level))
@@ -128,7 +128,7 @@ module _ (f : Format) (s : List ℕ) (b0 : Trie Stretch) (b : Trie ℕ) (bs : Li
       (λ n v o j is.
       rule-at f s b0 (b ∷ bs) r n 1 v (omega arith) is
       (λ x q.
-      let t = label-high (headOf s .filled) (λ p. occ p (numbers b0)) x (r .pages .oneForOne) (omega (arith, j x)) in
+      let t = label-high (headOf s .filled) (λ p. occ p (numbers b0)) x (r .pages .oneForOne .none) (omega (arith, j x)) in
       (omega (arith, low-1 1 refl), omega (arith, high-1 (headOf s) 1 refl, t)))
       (let l = each-label LinksTaken b n links-taken o in
       sym (link-1 (headOf s) 1 _ _ true true refl (sym (le-leb _ (headOf s .taken) (l .0))) (sym (le-leb _ (headOf s .taken) (l .1))))))

@@ -1,31 +1,17 @@
 -- What every represented store has: its labels are numbers of blocks in use, and each block in use is read as the tries say.
-use mathlib.Core.Path.{_≡_, subst}
+use mathlib.Core.Path.{_≡_}
 use mathlib.Core.List.{List}
 use Prim.Native.Nat.{ℕ, _≤_}
 use native.Mathlib.Omega.{arith}
-use native.Mathlib.Decide.{decLe}
 use Rattle.tree.specs.Trie.{Trie}
 use Rattle.store.specs.declared.Format.{Format}
 use Rattle.store.specs.Head.{headOf, nodeStart}
 use Rattle.store.specs.Node.{backWord, forwardWord}
-use Rattle.represent.specs.Labelled.{occs, OneForOne}
+use Rattle.represent.specs.Labelled.{occs}
 use Rattle.represent.specs.Image.{nodeAt, NodeIs}
 use Rattle.represent.specs.Rep.{Stretch, Rep}
+use Rattle.represent.proofs.LabelLaws.{label-low, label-high}
 use Rattle.represent.proofs.ImageLaws.{Shown, node-shown, node-back, node-forward}
-
-pub label-low : (bs : List (Trie ℕ)) (n : ℕ) → occs 0 bs ≡ 0 → 1 ≤ occs n bs → 1 ≤ n
-label-low bs n z o =
-    elim (decLe 1 n) [
-      | yes p ↦ p
-      | no p ↦ let e : n ≡ 0 = omega arith in absurd (omega (arith, z, subst (λ x. 1 ≤ occs x bs) e o))
-    ]
-
-pub label-high : (m : ℕ) (g : ℕ → ℕ) (n : ℕ) → OneForOne m g → 1 ≤ g n → n ≤ m
-label-high m g n w o =
-    elim (decLe n m) [
-      | yes p ↦ p
-      | no p ↦ absurd (omega (arith, w .none n (omega arith)))
-    ]
 
 -- a node of a represented store, in place
 module _ (f : Format) (s : List ℕ) (b0 : Trie Stretch) (bs : List (Trie ℕ)) (r : Rep f s b0 bs) (n level : ℕ) (v : Trie ℕ)
@@ -34,7 +20,7 @@ module _ (f : Format) (s : List ℕ) (b0 : Trie Stretch) (bs : List (Trie ℕ)) 
   low = label-low bs n (r .directory .positive) o
 
   high : n ≤ headOf s .nodes
-  high = omega (arith, label-high (headOf s .taken) (λ x. occs x bs) n (r .directory .oneForOne) o, r .nodes-fit)
+  high = omega (arith, label-high (headOf s .taken) (λ x. occs x bs) n (r .directory .oneForOne .none) o, r .nodes-fit)
 
   pub rep-shown : Shown s (nodeStart (headOf s) n) (headOf s .theta) level v
   rep-shown = node-shown f s (headOf s) n level v low high (r .long) is

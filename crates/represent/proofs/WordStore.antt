@@ -2,7 +2,7 @@
 -- else, the pages among it, is in `others`, which neither changes.
 use mathlib.Core.Path.{_≡_, sym, ap, _∙_}
 use mathlib.Core.List.{List}
-use Prim.Native.Nat.{ℕ, _+_, _-_, _*_, _≤_}
+use Prim.Native.Nat.{ℕ, _-_, _*_, _≤_}
 use native.Mathlib.Omega.{arith}
 use lib.ListN.{length, drop}
 use lib.Seq.{drop-drop}
@@ -14,8 +14,8 @@ use Rattle.store.specs.declared.Head.{Head}
 use Rattle.store.specs.Head.{headOf, nodeWords, pageWords, size, pageStart, pageAt}
 use Rattle.store.specs.Node.{backWord, forwardWord}
 use Rattle.represent.specs.Image.{NodeIs}
-use Rattle.represent.specs.Insertion.{Others, nodesEnd, others, Ok, wordStore}
-use Rattle.represent.specs.Frame.{nodeOf, pageOf, sizeOf, Sized, putNode, putHead}
+use Rattle.represent.specs.Insertion.{Others, nodesEnd, others, Ok}
+use Rattle.represent.specs.Frame.{nodeOf, pageOf, sizeOf, putNode, putHead}
 use Rattle.represent.proofs.Frame.{SameSizes, sized-long, putNode-head, putNode-sized, putNode-same, putNode-other, putNode-drop}
 use Rattle.represent.proofs.Frame.{putHead-sizes, putHead-filled, putHead-root, putHead-levels, putHead-taken}
 use Rattle.represent.proofs.Frame.{putHead-sized, putHead-nodes, putHead-drop}
