@@ -32,4 +32,4 @@ pub mod Frame
 pub mod Lengths
 pub mod WordStore
 pub mod PageLaws
-pub mod DirectoryFrame
+pub mod Stepping

@@ -161,13 +161,22 @@ module _ (f : Format) (s : List ℕ) (h : Head) (b0 : Trie Stretch) (key : ℕ) 
       number-used f s h b0 pg (stretchAt f b0 key .0)
       (subst (λ (n : ℕ). 1 ≤ occ n (numbers b0)) (leafAt-relabel (λ (x : Stretch). x .0) b0 k) (occ-at (numbers b0) k))
 
+  half-small : (b : Bool) → length (halfAt b f b0 key) ≤ length (stretchAt f b0 key .1)
+  half-small b = length-filter (λ r. same b (bit (nextBit f b0 key) (keyOf r))) (stretchAt f b0 key .1)
+
+  pub half-fits : (b : Bool) → length (halfAt b f b0 key) ≤ h .capacity
+  half-fits b = omega (arith, half-small b, lawful-at .fits)
+
+  pub own-low : (b : Bool) → 1 ≤ length (halfAt b f b0 key) → 1 ≤ stretchAt f b0 key .0
+  own-low b some = number-low f s h (stretchAt f b0 key) (lawful-at .page) (omega (arith, half-small b))
+
   half-fit : (b : Bool) (w q : ℕ) → 1 ≤ length (halfAt b f b0 key) → Prefix keyOf w q (halfAt b f b0 key)
       → Fit f (h .capacity) w q (halfAt b f b0 key)
   half-fit b w q some prefix =
       let rs : List Item = stretchAt f b0 key .1 in
       record {
         some = some;
-        fits = omega (arith, length-filter (λ r. same b (bit (nextBit f b0 key) (keyOf r))) rs, lawful-at .fits);
+        fits = half-fits b;
         lawful = all-side keyOf (λ it. lawfulItem f it ≡ true) b (nextBit f b0 key) rs (lawful-at .lawful);
         sorted = sorted-side keyOf b (nextBit f b0 key) rs (lawful-at .sorted);
         prefix = prefix;
@@ -308,31 +317,31 @@ PagesOf f s b0 = Pages f s (headOf s) b0
 
 module _ (f : Format) (C : ℕ) (s : List ℕ) (p : ℕ) (rs : List Item) (ok : Sized f s) (low : 1 ≤ p) (high : p ≤ headOf s .pages)
     (full : headOf s .capacity ≡ C) (fits : length rs ≤ C) where
-  put-head : headOf (putItems f C s p rs) ≡ headOf s
+  pub put-head : headOf (putItems f C s p rs) ≡ headOf s
   put-head = putPage-head f s p (pageImage f C rs) (omega (arith, sized-long f s ok))
 
-  put-length : length (pageImage f C rs) ≡ pageWords f (headOf s .capacity)
+  pub put-length : length (pageImage f C rs) ≡ pageWords f (headOf s .capacity)
   put-length = length-pageImage f C rs fits ∙ ap (pageWords f) (sym full)
 
-  put-sized : Sized f (putItems f C s p rs)
+  pub put-sized : Sized f (putItems f C s p rs)
   put-sized = putPage-sized f s p (pageImage f C rs) ok low high put-length
 
   put-same : pageOf f (putItems f C s p rs) p ≡ pageImage f C rs
   put-same = putPage-same f s p (pageImage f C rs) ok low high put-length
 
-  put-other : (x : ℕ) → 1 ≤ x → (x ≡ p → ⊥) → pageOf f (putItems f C s p rs) x ≡ pageOf f s x
+  pub put-other : (x : ℕ) → 1 ≤ x → (x ≡ p → ⊥) → pageOf f (putItems f C s p rs) x ≡ pageOf f s x
   put-other = putPage-other f s p (pageImage f C rs) ok low high put-length
 
-  take-capacity : headOf (takeItems f C s p rs) .capacity ≡ headOf s .capacity
+  pub take-capacity : headOf (takeItems f C s p rs) .capacity ≡ headOf s .capacity
   take-capacity = putFilled-sizes (putItems f C s p rs) p .capacity ∙ ap (λ (h : Head). h .capacity) put-head
 
-  take-filled : headOf (takeItems f C s p rs) .filled ≡ p
+  pub take-filled : headOf (takeItems f C s p rs) .filled ≡ p
   take-filled = putFilled-filled (putItems f C s p rs) p (omega (arith, sized-long f (putItems f C s p rs) put-sized))
 
   take-same : pageOf f (takeItems f C s p rs) p ≡ pageImage f C rs
   take-same = putFilled-pages (putItems f C s p rs) p f p ∙ put-same
 
-  take-other : (x : ℕ) → 1 ≤ x → (x ≡ p → ⊥) → pageOf f (takeItems f C s p rs) x ≡ pageOf f s x
+  pub take-other : (x : ℕ) → 1 ≤ x → (x ≡ p → ⊥) → pageOf f (takeItems f C s p rs) x ≡ pageOf f s x
   take-other x q ne = putFilled-pages (putItems f C s p rs) p f x ∙ put-other x q ne
 
 module _ (f : Format) (s : List ℕ) (b0 : Trie Stretch) (key : ℕ) (ok : Sized f s) (pg : PagesOf f s b0) (inside : key < 2 ^ width f) where
@@ -395,14 +404,8 @@ module _ (f : Format) (s : List ℕ) (b0 : Trie Stretch) (key : ℕ) (ok : Sized
       s′ : List ℕ
       s′ = takeItems f C s₁ m o
 
-      lawful : Lawful f s (headOf s) (stretchAt f b0 key)
-      lawful = lawful-at f s (headOf s) b0 key pg inside
-
-      sides : length z + length o ≡ length (stretchAt f b0 key .1)
-      sides = length-sides keyOf (nextBit f b0 key) (stretchAt f b0 key .1)
-
       low : 1 ≤ n
-      low = number-low f s (headOf s) (stretchAt f b0 key) (lawful .page) (omega (arith, sides))
+      low = own-low f s (headOf s) b0 key pg inside false some₀
 
       known : n ≤ headOf s .filled
       known = number-high f s (headOf s) b0 key pg inside
@@ -411,7 +414,7 @@ module _ (f : Format) (s : List ℕ) (b0 : Trie Stretch) (key : ℕ) (ok : Sized
       high = omega (arith, known)
 
       fits : length z ≤ C
-      fits = omega (arith, sides, lawful .fits)
+      fits = half-fits f s (headOf s) b0 key pg inside false
 
       head : headOf s₁ ≡ headOf s
       head = put-head f C s n z ok low high refl fits
@@ -429,4 +432,4 @@ module _ (f : Format) (s : List ℕ) (b0 : Trie Stretch) (key : ℕ) (ok : Sized
       full = ap (λ (h : Head). h .capacity) head
 
       fits₁ : length o ≤ C
-      fits₁ = omega (arith, sides, lawful .fits)
+      fits₁ = half-fits f s (headOf s) b0 key pg inside true

@@ -14,7 +14,8 @@ use Rattle.store.specs.declared.Head.{Head}
 use Rattle.store.specs.Head.{headOf, nodeWords, pageWords, size, pageStart, pageAt}
 use Rattle.store.specs.Node.{backWord, forwardWord}
 use Rattle.represent.specs.Image.{NodeIs}
-use Rattle.represent.specs.Insertion.{Others, nodesEnd, others, Ok}
+use Rattle.represent.specs.Round.{StoreLaws}
+use Rattle.represent.specs.Insertion.{Others, nodesEnd, others, Ok, wordStore}
 use Rattle.represent.specs.Frame.{nodeOf, pageOf, sizeOf, putNode, putHead}
 use Rattle.represent.proofs.Frame.{SameSizes, sized-long, putNode-head, putNode-sized, putNode-same, putNode-other, putNode-drop}
 use Rattle.represent.proofs.Frame.{putHead-sizes, putHead-filled, putHead-root, putHead-levels, putHead-taken}
@@ -134,3 +135,29 @@ module _ (s : List ℕ) (root levels taken : ℕ) where
         putHead-filled s root levels taken,
         putHead-drop s root levels taken (nodesEnd (headOf s)) (omega arith),
       )
+
+pub store-laws : (f : Format) (θ : ℕ) → StoreLaws θ (wordStore f θ)
+store-laws f θ =
+    record {
+      put-is = λ s n ws level v ok low high is.
+          record {
+            ok = put-ok f θ s n ws level v ok low high is;
+            here = put-same f θ s n ws level v ok low high is;
+            elsewhere = λ x p q ne. put-other f θ s n ws level v x ok low high is p q ne;
+            root-same = put-root f θ s n ws ok;
+            levels-same = put-levels f θ s n ws ok;
+            taken-same = put-taken f θ s n ws ok;
+            cap-same = put-cap f θ s n ws ok;
+            others-same = put-others f θ s n ws level v ok low high is;
+          };
+      head-is = λ s root levels taken ok fits.
+          record {
+            ok = head-ok f θ s root levels taken ok;
+            root-is = head-root f θ s root levels taken ok;
+            levels-is = head-levels f θ s root levels taken ok;
+            taken-is = head-taken f θ s root levels taken ok;
+            nodes-same = λ x p q. head-node s root levels taken x p;
+            cap-same = head-cap s root levels taken;
+            others-same = head-others s root levels taken;
+          };
+    }

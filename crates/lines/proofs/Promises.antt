@@ -1,0 +1,21 @@
+-- The promises hold, by the laws of columns and of lines.
+-- Assumes nothing.
+use Rattle.lines.specs.Promises.{ColumnFits, ColumnPlain, FormatThenParse, ParseThenFormat, ReplyFits}
+use Rattle.lines.proofs.ColumnLaws as columns
+use Rattle.lines.proofs.RequestLaws.{line-parsed, line-kept}
+use Rattle.lines.proofs.ReplyLaws.{length-reply}
+
+pub column-fits : ColumnFits
+column-fits = columns.length-column
+
+pub column-plain : ColumnPlain
+column-plain = columns.column-plain
+
+pub format-then-parse : FormatThenParse
+format-then-parse = line-parsed
+
+pub parse-then-format : ParseThenFormat
+parse-then-format = line-kept
+
+pub reply-fits : ReplyFits
+reply-fits = length-reply

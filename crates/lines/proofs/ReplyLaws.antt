@@ -1,0 +1,29 @@
+-- A reply line has 45 bytes: its columns have as many bytes as they are wide.
+-- Assumes nothing.
+use mathlib.Core.Path.{_≡_}
+use Prim.Native.Nat.{ℕ}
+use lib.ListN.{length, length-append}
+use Rattle.lines.specs.declared.Reply.{Reply}
+use Rattle.lines.specs.declared.Reply.the-variants.{SetUpDone, Entered, Found, NextIs, Listed, RangeEnd, Totals, Refused, WrongLine}
+use Rattle.lines.specs.Reply.{fourFields, summaryFields, replyLine}
+use Rattle.lines.proofs.ColumnLaws.{length-column}
+
+length-fields : (kind answer a b c d : ℕ) → length (fourFields kind answer a b c d) ≡ 45
+unfolding fourFields
+length-fields kind answer a b c d = simp (length-append, length-column)
+
+length-summary : (count total key : ℕ) → length (summaryFields count total key) ≡ 45
+unfolding summaryFields
+length-summary count total key = simp (length-append, length-column)
+
+pub length-reply : (r : Reply) → length (replyLine r) ≡ 45
+unfolding replyLine
+length-reply (SetUpDone size) = length-fields 0 0 size 0 0 0
+length-reply (Entered key levels nodes pages) = length-fields 1 0 key levels nodes pages
+length-reply (Found key price lease last) = length-fields 2 0 key price lease last
+length-reply (NextIs key price lease last) = length-fields 3 0 key price lease last
+length-reply (Listed key price lease last) = length-fields 4 0 key price lease last
+length-reply (RangeEnd count) = length-fields 4 1 count 0 0 0
+length-reply (Totals count total key) = length-summary count total key
+length-reply (Refused kind answer) = length-fields kind answer 0 0 0 0
+length-reply WrongLine = length-fields 99 2 0 0 0 0

@@ -1,0 +1,41 @@
+-- The line is filled from the front, part by part.
+use borrow.Author.Needs.{needs}
+use mathlib.Core.Path.{refl}
+use native.Mathlib.Omega.{arith}
+use lib.ListN.{length-set}
+use Rattle.lines.proofs.WriteLaws.{fields-put}
+use Rattle.lines.proofs.put_fields.Statement.{statement}
+use Rattle.lines.proofs.put_fields.Tie as tie
+
+put-two-requires : tie.Need-put-two-requires
+put-two-requires c κs = search needs
+
+put-two-requires-2 : tie.Need-put-two-requires-2
+put-two-requires-2 c κs = search needs
+
+put-two-requires-3 : tie.Need-put-two-requires-3
+put-two-requires-3 c κs = search needs
+
+slice-write-out : tie.Need-slice-write-out
+slice-write-out c = search needs
+
+same-length : tie.Need-same-length
+same-length c = simp length-set (omega arith)
+
+returns : tie.Need-returns
+returns c = (
+  refl,
+  fields-put (c .before .before .before .before .before .before .before .before .before .before .before .before .before .args .out .now) _ _ _ _ _ _ _ _ _ (search needs) (c .before .before .before .before .before .before .before .before .before .before .put-two .ensures) (c .before .before .before .before .before .before .put-two2 .ensures)
+      (c .before .before .put-two3 .ensures),
+)
+
+pub put-fields-spec : {M : Type 1} → statement M
+put-fields-spec =
+    tie.close
+    (tie.spec
+    put-two-requires
+    put-two-requires-2
+    put-two-requires-3
+    slice-write-out
+    same-length
+    returns)

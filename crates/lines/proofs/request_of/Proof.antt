@@ -1,0 +1,83 @@
+-- Each arm is one clause of the definition; the last two are the kinds from 6 on.
+use borrow.Author.Needs.{needs}
+use mathlib.Core.Path.{sym}
+use native.Mathlib.Omega.{arith}
+use Rattle.lines.specs.Request.{requestOf}
+use Rattle.lines.proofs.RequestLaws.{wrong-kind}
+use Rattle.lines.proofs.request_of.Statement.{statement}
+use Rattle.lines.proofs.request_of.Tie as tie
+
+zeros-requires : tie.Need-zeros-requires
+zeros-requires c κs = search needs
+
+unless-used-requires : tie.Need-unless-used-requires
+unless-used-requires c κs = search needs
+
+zeros-requires-2 : tie.Need-zeros-requires-2
+zeros-requires-2 c κs = search needs
+
+unless-used-requires-2 : tie.Need-unless-used-requires-2
+unless-used-requires-2 c κs = search needs
+
+zeros-requires-3 : tie.Need-zeros-requires-3
+zeros-requires-3 c κs = search needs
+
+unless-used-requires-3 : tie.Need-unless-used-requires-3
+unless-used-requires-3 c κs = search needs
+
+zeros-requires-4 : tie.Need-zeros-requires-4
+zeros-requires-4 c κs = search needs
+
+unless-used-requires-4 : tie.Need-unless-used-requires-4
+unless-used-requires-4 c κs = search needs
+
+returns : tie.Need-returns
+unfolding requestOf
+returns c = rw (c .match .keys1)
+
+returns-2 : tie.Need-returns-2
+unfolding requestOf
+returns-2 c = rw (c .match .keys2)
+
+returns-3 : tie.Need-returns-3
+unfolding requestOf
+returns-3 c = rw (c .before .before .match .keys3, c .unless-used .ensures, c .before .zeros .ensures)
+
+returns-4 : tie.Need-returns-4
+unfolding requestOf
+returns-4 c = rw (c .before .before .match .keys4, c .unless-used2 .ensures, c .before .zeros2 .ensures)
+
+returns-5 : tie.Need-returns-5
+unfolding requestOf
+returns-5 c = rw (c .before .before .match .keys5, c .unless-used3 .ensures, c .before .zeros3 .ensures)
+
+returns-6 : tie.Need-returns-6
+unfolding requestOf
+returns-6 c = rw (c .before .before .match .keys6, c .unless-used4 .ensures, c .before .zeros4 .ensures)
+
+returns-7 : tie.Need-returns-7
+returns-7 c = sym (wrong-kind _ _ _ _ _ (omega arith))
+
+returns-8 : tie.Need-returns-8
+returns-8 c = sym (wrong-kind _ _ _ _ _ (omega arith))
+
+pub request-of-spec : {M : Type 1} → statement M
+request-of-spec =
+    tie.close
+    (tie.spec
+    zeros-requires
+    unless-used-requires
+    zeros-requires-2
+    unless-used-requires-2
+    zeros-requires-3
+    unless-used-requires-3
+    zeros-requires-4
+    unless-used-requires-4
+    returns
+    returns-2
+    returns-3
+    returns-4
+    returns-5
+    returns-6
+    returns-7
+    returns-8)
