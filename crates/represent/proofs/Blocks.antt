@@ -46,12 +46,12 @@ module _ {θ : ℕ} {I : NodeOps} (A : NodeLaws θ I) where
     pub grow-written : (k : Key) (a c : ℕ) → depth v k < θ → Written θ (I .grow ws k a c) level back forward (graft v k (pair a c))
     grow-written k a c d =
         image-written θ _ level back forward _ (omega (arith, h .low, height-split v k a c))
-          (ap (λ (w : List ℕ). I .grow w k a c) (h .image) ∙ A .grow-is level back forward v k a c (h .low) d)
+        (ap (λ (w : List ℕ). I .grow w k a c) (h .image) ∙ A .grow-is level back forward v k a c (h .low) d)
 
     pub aim-written : (k : Key) (q : ℕ) → Written θ (I .aim ws k q) level back forward (graft v k (leaf q))
     aim-written k q =
         image-written θ _ level back forward _ (omega (arith, h .low, height-graft v k (leaf q), depth-le-height v k))
-          (ap (λ (w : List ℕ). I .aim w k q) (h .image) ∙ A .aim-is level back forward v k q (h .low))
+        (ap (λ (w : List ℕ). I .aim w k q) (h .image) ∙ A .aim-is level back forward v k q (h .low))
 
     pub linked-written : (p q : ℕ) → Written θ (I .linked ws p q) level p q v
     linked-written p q =
@@ -67,9 +67,9 @@ module _ {θ : ℕ} {I : NodeOps} (A : NodeLaws θ I) where
       pub lower-written : Written θ (I .lower ws k a c) level back forward l
       lower-written =
           image-written θ _ level back forward l (omega (arith, halves-low))
-            (ap (λ (w : List ℕ). I .lower w k a c) (h .image) ∙ A .lower-is level back forward v l r k a c (h .low) d e)
+          (ap (λ (w : List ℕ). I .lower w k a c) (h .image) ∙ A .lower-is level back forward v l r k a c (h .low) d e)
 
       pub upper-written : Written θ (I .upper ws k a c) level back forward r
       upper-written =
           image-written θ _ level back forward r (omega (arith, halves-low))
-            (ap (λ (w : List ℕ). I .upper w k a c) (h .image) ∙ A .upper-is level back forward v l r k a c (h .low) d e)
+          (ap (λ (w : List ℕ). I .upper w k a c) (h .image) ∙ A .upper-is level back forward v l r k a c (h .low) d e)

@@ -37,7 +37,7 @@ shape-carried θ m u (b ∷ bs) k =
       | yes h ↦ rw (carried-slack θ m u b bs k h, carry-slack θ (shape u) (shape b) (map shape bs) k (omega (arith, d)))
       | no h ↦
           rw (carried-full θ m u b bs k (omega arith), carry-full θ (shape u) (shape b) (map shape bs) k (omega (arith, d)))
-            (ap₂ (λ (t : Shape) (ts : List Shape). t ∷ ts) (shape-graft b k (pair (leafAt b k) (suc m))) (shape-carried θ (suc m) b bs k))
+          (ap₂ (λ (t : Shape) (ts : List Shape). t ∷ ts) (shape-graft b k (pair (leafAt b k) (suc m))) (shape-carried θ (suc m) b bs k))
     ]
 
 -- the carried levels are the levels over the halved stretches
@@ -72,9 +72,9 @@ carried-beside θ m u (b ∷ bs) k g h =
           (one-same m _ (λ x. g x + occs x (b ∷ bs)) _ (omega arith) (λ x. refl) h)
       | no s ↦ rw (carried-full θ m u b bs k (omega arith), bump-full θ (depth u k - depth b k) (locals b bs k) (omega arith) .1)
           (one-same (suc m + bumpCost θ (locals b bs k)) _ (λ x. g x + occ x b′ + occs x (carried θ (suc m) b bs k)) _
-            (omega arith) (λ x. omega arith)
-            (carried-beside θ (suc m) b bs k (λ x. g x + occ x b′)
-              (one-more m (λ x. g x + occs x (b ∷ bs)) _ (λ x. omega (arith, occ-split x b k (suc m))) h)))
+          (omega arith) (λ x. omega arith)
+          (carried-beside θ (suc m) b bs k (λ x. g x + occ x b′)
+          (one-more m (λ x. g x + occs x (b ∷ bs)) _ (λ x. omega (arith, occ-split x b k (suc m))) h)))
     ]
   where
     b′ : Trie ℕ

@@ -84,11 +84,13 @@ module _ (back forward back′ forward′ : ℕ → ℕ) where
       → ((x : ℕ) → count x (n ∷ ms) ≤ 1) → count 0 ms ≡ 0 → Linked back forward n ms → Linked back′ forward′ m ms
   behind n m [] w f once pos h = tt
   behind n m (z ∷ zs) w f once pos h =
-      let z≢0 : z ≡ 0 → ⊥ = λ e. omega (arith, ind-eq 0 z (sym e)) in
-      (w .q-back z≢0, w .q-forward z≢0 ∙ h .1,
-      linked-frame z zs
-        (λ x o. f x (omega arith) (λ e. omega (arith, ind-eq x n e, once x)) (λ e. omega (arith, ind-eq x z e, once x)))
-        (h .2))
+      let z≢0 : z ≡ 0 → ⊥ = λ e. omega (arith, ind-eq 0 z (sym e)) in (
+        w .q-back z≢0,
+        w .q-forward z≢0 ∙ h .1,
+        linked-frame z zs
+            (λ x o. f x (omega arith) (λ e. omega (arith, ind-eq x n e, once x)) (λ e. omega (arith, ind-eq x z e, once x)))
+            (h .2),
+      )
 
   module _ (n m : ℕ) (ms : List ℕ) (w : Mended n m (first ms)) where
     -- m put behind n
@@ -101,7 +103,9 @@ module _ (back forward back′ forward′ : ℕ → ℕ) where
     linked-split (a ∷ ns) p f once pos h =
         let none : count a ns + (ind a n + count a ms) ≡ 0 = omega (arith, once a, ind-self a, count-append a ns (n ∷ ms)) in
         let same : Same a =
-              f a (omega (arith, ind-self a)) (λ e. omega (arith, none, ind-eq a n e))
-                (first-not a ms (omega (arith, none)) (λ e. omega (arith, ind-eq 0 a (sym e)))) in
-        (same .same-back ∙ h .0, same .same-forward ∙ h .1 ∙ first-append ns n ms (m ∷ ms),
-        linked-split ns a (λ x o. f x (omega arith)) (λ x. omega (arith, once x)) (omega arith) (h .2))
+        f a (omega (arith, ind-self a)) (λ e. omega (arith, none, ind-eq a n e))
+        (first-not a ms (omega (arith, none)) (λ e. omega (arith, ind-eq 0 a (sym e)))) in (
+          same .same-back ∙ h .0,
+          same .same-forward ∙ h .1 ∙ first-append ns n ms (m ∷ ms),
+          linked-split ns a (λ x o. f x (omega arith)) (λ x. omega (arith, once x)) (omega arith) (h .2),
+        )

@@ -51,8 +51,8 @@ module _ (θ : ℕ) (node : ℕ → List ℕ) (Q : ℕ → ℕ → Type 0) where
             (k, w .0, w .1 .0, λ x q. below x (omega (arith, w .1 .1 x)))
         | no p ↦
             stands root levels (suc k) b bs (h .1)
-              (λ x q. let w = over-in (Shows k) b u x q (h .0) in up x k (w .0) (omega arith) (w .1))
-              (λ x j v q. up x j v (omega arith)) n (omega arith)
+            (λ x q. let w = over-in (Shows k) b u x q (h .0) in up x k (w .0) (omega arith) (w .1))
+            (λ x j v q. up x j v (omega arith)) n (omega arith)
       ]
 
 -- entry i of an array that a trie gives
@@ -136,8 +136,8 @@ module _ (f : Format) (s : List ℕ) (b0 : Trie Stretch) (b : Trie ℕ) (bs : Li
   at : (n : ℕ) → Taken s n → At n
   at n t =
       let w =
-        stands (headOf s .theta) node Below (headOf s .root) (headOf s .levels) 0 (numbers b0) (b ∷ bs) (r .directory .nodes)
-          (λ x o. inl (refl, o)) (λ x j v o is. inr (v, is, o, omega arith)) n (label n t) in
+      stands (headOf s .theta) node Below (headOf s .root) (headOf s .levels) 0 (numbers b0) (b ∷ bs) (r .directory .nodes)
+      (λ x o. inl (refl, o)) (λ x j v o is. inr (v, is, o, omega arith)) n (label n t) in
       (w .0, w .1, rep-shown f s b0 (b ∷ bs) r n (suc (w .0)) (w .1) (label n t) (w .2), w .3)
 
   -- entry i of a node in use points to a label of the level below
@@ -163,12 +163,16 @@ module _ (f : Format) (s : List ℕ) (b0 : Trie Stretch) (b : Trie ℕ) (bs : Li
     down =
         elim below [
           | inl z ↦
-              inl (at n t .2 .level-is ∙ ap suc (z .0),
-              label-high (headOf s .filled) (λ p. occ p (numbers b0)) (entryPointer s (start s n) i) (r .pages .oneForOne .none) (z .1))
+              inl (
+                at n t .2 .level-is ∙ ap suc (z .0),
+                label-high (headOf s .filled) (λ p. occ p (numbers b0)) (entryPointer s (start s n) i) (r .pages .oneForOne .none) (z .1),
+              )
           | inr z ↦
-              inr (taken (entryPointer s (start s n) i) (z .2),
-              ap suc (rep-shown f s b0 (b ∷ bs) r (entryPointer s (start s n) i) (at n t .0) (z .0) (z .2) (z .1) .level-is)
-              ∙ sym (at n t .2 .level-is))
+              inr (
+                taken (entryPointer s (start s n) i) (z .2),
+                ap suc (rep-shown f s b0 (b ∷ bs) r (entryPointer s (start s n) i) (at n t .0) (z .0) (z .2) (z .1) .level-is)
+                    ∙ sym (at n t .2 .level-is),
+              )
         ]
 
     page : levelWord s (start s n) ≡ 1
@@ -180,13 +184,16 @@ module _ (f : Format) (s : List ℕ) (b0 : Trie Stretch) (b : Trie ℕ) (bs : Li
           | yes e ↦ inl e
           | no e ↦
               let o : 1 ≤ occ (entryPointer s (start s n) i) (numbers b0) =
-                elim below [
-                  | inl z ↦ z .1
-                  | inr z ↦ absurd (omega (arith, z .3, at n t .2 .level-is))
-                ] in
+              elim below [
+                | inl z ↦ z .1
+                | inr z ↦ absurd (omega (arith, z .3, at n t .2 .level-is))
+              ] in
               let w = each-label _ (numbers b0) (entryPointer s (start s n) i) (each-relabel (λ x. x .0) _ b0 pass) o in
-              inr (omega arith, label-high (headOf s .filled) (λ p. occ p (numbers b0)) (entryPointer s (start s n) i) (r .pages .oneForOne .none) o,
-              subst (λ p. pageRule f (headOf s .capacity) (pageAt f s (headOf s) p) ≡ true) (w .1) (w .2 (λ q. e (sym (w .1) ∙ q))))
+              inr (
+                omega arith,
+                label-high (headOf s .filled) (λ p. occ p (numbers b0)) (entryPointer s (start s n) i) (r .pages .oneForOne .none) o,
+                subst (λ p. pageRule f (headOf s .capacity) (pageAt f s (headOf s) p) ≡ true) (w .1) (w .2 (λ q. e (sym (w .1) ∙ q))),
+              )
         ]
 
   key-order : InKeyOrder f s (labels b)
@@ -197,34 +204,43 @@ module _ (f : Format) (s : List ℕ) (b0 : Trie Stretch) (b : Trie ℕ) (bs : Li
         linked = rep-linked f s b0 b bs r;
         ordered = λ k k′ le lt.
             subst (λ n. NotBefore n (terminal f s k′) (labels b)) (sym (visits k (omega arith)))
-            (subst (λ m. NotBefore (leafAt b (bits (width f) k)) m (labels b)) (sym (visits k′ lt))
-            (before b (bits (width f) k), after b (bits (width f) k), labels-at b (bits (width f) k),
-            later b (width f) k k′ (omega (arith, index-own (width f) k (omega arith), index-own (width f) k′ lt))));
+            (subst (λ m. NotBefore (leafAt b (bits (width f) k)) m (labels b)) (sym (visits k′ lt)) (
+              before b (bits (width f) k),
+              after b (bits (width f) k),
+              labels-at b (bits (width f) k),
+              later b (width f) k k′ (omega (arith, index-own (width f) k (omega arith), index-own (width f) k′ lt)),
+            ));
       }
     where
       level-1 : (n : ℕ) → 1 ≤ occ n b → levelWord s (start s n) ≡ 1
       level-1 n o =
           let w = over-in (λ n v. NodeIs (headOf s .theta) (node n) 1 v) b (numbers b0) n o (r .directory .nodes .0) in
           rep-shown f s b0 (b ∷ bs) r n 1 (w .0) (omega arith) (w .1) .level-is
+
       first-level : (n : ℕ) → Taken s n → levelWord s (start s n) ≡ 1 → 1 ≤ occ n b
       first-level n t one =
           elim (decLe 1 (occ n b)) [
             | yes o ↦ o
             | no o ↦
                 let w =
-                  stands (headOf s .theta) node (λ j x. 1 ≤ j) (headOf s .root) (headOf s .levels) 1 b bs (r .directory .nodes .1)
-                    (λ x q. omega arith) (λ x j v q is. omega arith) n (omega (arith, label n t)) in
-                absurd (omega (arith, one, w .3 (leafAt (w .1) []) (occ-at (w .1) []),
-                rep-shown f s b0 (b ∷ bs) r n (suc (w .0)) (w .1) (label n t) (w .2) .level-is))
+                stands (headOf s .theta) node (λ j x. 1 ≤ j) (headOf s .root) (headOf s .levels) 1 b bs (r .directory .nodes .1)
+                (λ x q. omega arith) (λ x j v q is. omega arith) n (omega (arith, label n t)) in
+                absurd (omega (
+                  arith,
+                  one,
+                  w .3 (leafAt (w .1) []) (occ-at (w .1) []),
+                  rep-shown f s b0 (b ∷ bs) r n (suc (w .0)) (w .1) (label n t) (w .2) .level-is,
+                ))
           ]
 
   pub rep-clauses : Clauses f s
   rep-clauses =
       record {
         one = (labels b, key-order);
-        two = λ n t.
-            (omega (arith, at n t .2 .depth, at n t .2 .low),
-            subst (λ H. zeros s (start s n + 4 + 2 * 2 ^ H) (2 * (2 ^ headOf s .theta - 2 ^ H)) ≡ true) (sym (at n t .2 .depth)) (at n t .2 .blank));
+        two = λ n t. (
+          omega (arith, at n t .2 .depth, at n t .2 .low),
+          subst (λ H. zeros s (start s n + 4 + 2 * 2 ^ H) (2 * (2 ^ headOf s .theta - 2 ^ H)) ≡ true) (sym (at n t .2 .depth)) (at n t .2 .blank),
+        );
         three = λ n i t l. (down n i t l, runs n i t l .0);
         four = λ n i j t l q. runs n i t l .1 j q;
         five = λ n i t one l. page n i t l one;

@@ -42,46 +42,45 @@ module _ {θ : ℕ} {I : NodeOps} {O : StoreOps} (A : NodeLaws θ I) (B : StoreL
   module _ {s : S} {k : ℕ} {u b : Trie ℕ} {bs : List (Trie ℕ)} (y : Ready θ O s k u (b ∷ bs)) (key : Key) (a c : ℕ)
       {l r : Trie ℕ} (e : graft (under b u key) (rest b key) (pair a c) ≡ fork l r)
       (full : θ ≤ depth u key - depth b key) (more : taken s < cap s)
-      where
+    where
+      abbrev n : ℕ
+      n = leafAt b key
 
-    abbrev n : ℕ
-    n = leafAt b key
+      abbrev s₁ : S
+      s₁ = halve I O s (stepAt b key) a c
 
-    abbrev s₁ : S
-    s₁ = halve I O s (stepAt b key) a c
+      low : Written θ (I .lower (node s n) (rest b key) a c) (suc k) (backOf θ (node s) n) (forwardOf θ (node s) n) l
+      low = lower-here A B y key a c e full
 
-    low : Written θ (I .lower (node s n) (rest b key) a c) (suc k) (backOf θ (node s) n) (forwardOf θ (node s) n) l
-    low = lower-here A B y key a c e full
+      high : Written θ (I .upper (node s n) (rest b key) a c) (suc k) (backOf θ (node s) n) (forwardOf θ (node s) n) r
+      high = upper-here A B y key a c e full
 
-    high : Written θ (I .upper (node s n) (rest b key) a c) (suc k) (backOf θ (node s) n) (forwardOf θ (node s) n) r
-    high = upper-here A B y key a c e full
+      not-null : n ≡ 0 → ⊥
+      not-null i = omega (arith, key-low y key)
 
-    not-null : n ≡ 0 → ⊥
-    not-null i = omega (arith, key-low y key)
-
-    halve-parted : Parted I O s s₁ n (I .lower (node s n) (rest b key) a c) (I .upper (node s n) (rest b key) a c) 0
-    halve-parted =
-        rw (halve-parts I O s (stepAt b key) a c)
+      halve-parted : Parted I O s s₁ n (I .lower (node s n) (rest b key) a c) (I .upper (node s n) (rest b key) a c) 0
+      halve-parted =
+          rw (halve-parts I O s (stepAt b key) a c)
           (parted A B y key (low .is) (high .is) 0 not-null (λ i. absurd (i refl)) more)
 
-    halve-split : Split θ O s s₁ (suc k) b n l r
-    halve-split = parted-split A B y key (low .is) (high .is) 0 not-null (λ i. absurd (i refl)) halve-parted
+      halve-split : Split θ O s s₁ (suc k) b n l r
+      halve-split = parted-split A B y key (low .is) (high .is) 0 not-null (λ i. absurd (i refl)) halve-parted
 
-    halve-plain : Plain θ (node s) (b ∷ bs) → (x : ℕ) → 1 ≤ occ x (graft b key (pair n (suc (taken s)))) → Unlinked θ (node s₁) x
-    halve-plain f x o =
-        let g = f n (here-in y key) in
-        elim (ℕ-discrete x (suc (taken s))) [
-          | yes i ↦ subst (Unlinked θ (node s₁)) (sym i)
-              (written-unlinked θ _ _ (halve-parted .at-m) high (g .no-back) (g .no-forward))
-          | no i ↦ elim (ℕ-discrete x n) [
-            | yes j ↦ subst (Unlinked θ (node s₁)) (sym j)
-                (written-unlinked θ _ _ (halve-parted .at-n) low (g .no-back) (g .no-forward))
-            | no j ↦
-                let p : 1 ≤ occs x (b ∷ bs) = omega (arith, occ-split x b key (suc (taken s)), ind-other x (suc (taken s)) i) in
-                let x≥1 = label-low y x p in
-                unlinked-moved θ (node s) (node s₁) x (halve-parted .off x x≥1 (label-high y x p) j (λ z. omega (arith, x≥1))) (f x p)
+      halve-plain : Plain θ (node s) (b ∷ bs) → (x : ℕ) → 1 ≤ occ x (graft b key (pair n (suc (taken s)))) → Unlinked θ (node s₁) x
+      halve-plain f x o =
+          let g = f n (here-in y key) in
+          elim (ℕ-discrete x (suc (taken s))) [
+            | yes i ↦ subst (Unlinked θ (node s₁)) (sym i)
+                (written-unlinked θ _ _ (halve-parted .at-m) high (g .no-back) (g .no-forward))
+            | no i ↦ elim (ℕ-discrete x n) [
+              | yes j ↦ subst (Unlinked θ (node s₁)) (sym j)
+                  (written-unlinked θ _ _ (halve-parted .at-n) low (g .no-back) (g .no-forward))
+              | no j ↦
+                  let p : 1 ≤ occs x (b ∷ bs) = omega (arith, occ-split x b key (suc (taken s)), ind-other x (suc (taken s)) i) in
+                  let x≥1 = label-low y x p in
+                  unlinked-moved θ (node s) (node s₁) x (halve-parted .off x x≥1 (label-high y x p) j (λ z. omega (arith, x≥1))) (f x p)
+            ]
           ]
-        ]
 
   root-climbed : 1 ≤ θ → ClimbKeeps A B []
   unfolding climb newRoot carried bumpCost
@@ -89,11 +88,10 @@ module _ {θ : ℕ} {I : NodeOps} {O : StoreOps} (A : NodeLaws θ I) (B : StoreL
       let w = top-written A (suc (levels s)) a c h in
       let p = B .put-is s (suc (taken s)) _ (suc (levels s)) (pair a c) (y .ok) (omega arith) (omega arith) (w .is) in
       let g =
-            advanced B s _ (suc (taken s)) (suc (levels s)) (omega arith)
-              (put-kept (omega arith) (kept-refl s (y .ok)) p) in
+      advanced B s _ (suc (taken s)) (suc (levels s)) (omega arith)
+      (put-kept (omega arith) (kept-refl s (y .ok)) p) in
       let at-m : node (newRoot I O s a c) (suc (taken s)) ≡ I .top (suc (levels s)) a c =
-            g .nodes-same (suc (taken s)) (omega arith) (omega arith) ∙ p .here in
-      (
+      g .nodes-same (suc (taken s)) (omega arith) (omega arith) ∙ p .here in (
         record {
           nodes = (
             is-moved at-m (rw (y .nodes .0, ← (y .nodes .1)) (w .is)),
@@ -113,9 +111,12 @@ module _ {θ : ℕ} {I : NodeOps} {O : StoreOps} (A : NodeLaws θ I) (B : StoreL
   climb-keeps h (b ∷ bs) s k u key a c y fits f =
       elim (decLt (depth u key - depth b key) θ) [
         | yes small ↦
-            rw (climb-room I O s (stepAt b key) a c (pathOf bs key) (room-here A B y key ∙ lt-ltb (depth u key - depth b key) θ small),
-                carried-slack θ (taken s) u b bs key small, bump-slack θ (depth u key - depth b key) (locals b bs key) small .1)
-              (grown-climbed A B y key a c small, λ x o. unlinked-same θ (node s) _ x (grown-links A B y key a c small x o) (f x o))
+            rw (
+              climb-room I O s (stepAt b key) a c (pathOf bs key) (room-here A B y key ∙ lt-ltb (depth u key - depth b key) θ small),
+              carried-slack θ (taken s) u b bs key small,
+              bump-slack θ (depth u key - depth b key) (locals b bs key) small .1,
+            )
+            (grown-climbed A B y key a c small, λ x o. unlinked-same θ (node s) _ x (grown-links A B y key a c small x o) (f x o))
         | no large ↦
             let full : θ ≤ depth u key - depth b key = omega arith in
             let cost = bump-full θ (depth u key - depth b key) (locals b bs key) full .1 in
@@ -125,10 +126,14 @@ module _ {θ : ℕ} {I : NodeOps} {O : StoreOps} (A : NodeLaws θ I) (B : StoreL
             let s′ : S = climb I O s₁ (pathOf bs key) (leafAt b key) (suc (taken s)) in
             let w = halve-split y key a c (t .2) full more in
             let z = rise A B y key a c (t .2) w (climb-keeps h bs) (omega (arith, cost)) (λ x o. f x (omega arith)) in
-            rw (climb-full I O s (stepAt b key) a c (pathOf bs key) (room-here A B y key ∙ le-ltb (depth u key - depth b key) θ full),
-                carried-full θ (taken s) u b bs key full, cost)
-              (z .climbed,
+            rw (
+              climb-full I O s (stepAt b key) a c (pathOf bs key) (room-here A B y key ∙ le-ltb (depth u key - depth b key) θ full),
+              carried-full θ (taken s) u b bs key full,
+              cost,
+            ) (
+              z .climbed,
               plain-cons θ (node s′) (graft b key (pair (leafAt b key) (suc (taken s)))) (carried θ (suc (taken s)) b bs key)
-                (λ x o. unlinked-moved θ (node s₁) (node s′) x (z .kept x o) (halve-plain y key a c (t .2) full more f x o))
-                (z .plain))
+                  (λ x o. unlinked-moved θ (node s₁) (node s′) x (z .kept x o) (halve-plain y key a c (t .2) full more f x o))
+                  (z .plain),
+            )
       ]

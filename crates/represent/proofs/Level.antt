@@ -56,7 +56,7 @@ module _ (θ : ℕ) (node node′ : ℕ → List ℕ) where
       → Links θ node (b ∷ bs) → Links θ node′ (b ∷ bs)
   links-frame b bs f h = (
     linked-frame (backOf θ node) (forwardOf θ node) (backOf θ node′) (forwardOf θ node′) 0 (labels b)
-      (λ x o. f x (omega (arith, count-labels x b))) (h .0),
+        (λ x o. f x (omega (arith, count-labels x b))) (h .0),
     λ x o. unlinked-same x (f x (omega arith)) (h .1 x o),
   )
 
@@ -118,40 +118,39 @@ module _ {θ : ℕ} {O : StoreOps} {s : O .S} {k : ℕ} {u b : Trie ℕ} {bs : L
     -- its block rewritten, with the same links
     module _ (B : StoreLaws θ O) (d : Trie ℕ) {ws : List ℕ}
         (w : Written θ ws (suc k) (backOf θ (node s) (leafAt b key)) (forwardOf θ (node s) (leafAt b key)) (graft (under b u key) (rest b key) d))
-        where
+      where
+        abbrev n : ℕ
+        n = leafAt b key
 
-      abbrev n : ℕ
-      n = leafAt b key
+        put-here : Put O s (put s n ws) n ws
+        put-here = B .put-is s n ws (suc k) _ (y .ok) key-low (omega (arith, key-high, y .fits)) (w .is)
 
-      put-here : Put O s (put s n ws) n ws
-      put-here = B .put-is s n ws (suc k) _ (y .ok) key-low (omega (arith, key-high, y .fits)) (w .is)
+        elsewhere : (x : ℕ) → 1 ≤ occs x (b ∷ bs) → (x ≡ n → ⊥) → node (put s n ws) x ≡ node s x
+        elsewhere x o ne = put-here .elsewhere x (label-low x o) (omega (arith, label-high x o, y .fits)) ne
 
-      elsewhere : (x : ℕ) → 1 ≤ occs x (b ∷ bs) → (x ≡ n → ⊥) → node (put s n ws) x ≡ node s x
-      elsewhere x o ne = put-here .elsewhere x (label-low x o) (omega (arith, label-high x o, y .fits)) ne
+        pub rewritten : Climbed θ O s (put s n ws) k (graft u key d) (b ∷ bs) (b ∷ bs) 0
+        rewritten =
+            record {
+              nodes = (
+                subst (λ (t : Trie ℕ). Over (At θ (node (put s n ws)) (suc k)) t (graft u key d)) (graft-leafAt b key)
+                    (over-graft (At θ (node s) (suc k)) (At θ (node (put s n ws)) (suc k)) b u key (leaf n) d (λ x. omega (arith, y .numbered .once x))
+                    (λ x v o ne p. is-moved (elsewhere x (omega arith) ne) p)
+                    (y .nodes .0)
+                    (is-moved (put-here .here) (w .is))),
+                nodes-frame θ (node s) _ _ _ _ _ (suc k) b bs (put-here .root-same) (put-here .levels-same)
+                    (λ x o. elsewhere x (omega arith) (off-key x b key (omega (arith, y .numbered .once x)))) (y .nodes .1),
+              );
+              frame = λ x p t o. put-here .elsewhere x p (omega (arith, y .fits)) (off-key x b key (omega arith));
+              changed = put-changed key-high put-here;
+            }
 
-      pub rewritten : Climbed θ O s (put s n ws) k (graft u key d) (b ∷ bs) (b ∷ bs) 0
-      rewritten =
-          record {
-            nodes = (
-              subst (λ (t : Trie ℕ). Over (At θ (node (put s n ws)) (suc k)) t (graft u key d)) (graft-leafAt b key)
-                (over-graft (At θ (node s) (suc k)) (At θ (node (put s n ws)) (suc k)) b u key (leaf n) d (λ x. omega (arith, y .numbered .once x))
-                  (λ x v o ne p. is-moved (elsewhere x (omega arith) ne) p)
-                  (y .nodes .0)
-                  (is-moved (put-here .here) (w .is))),
-              nodes-frame θ (node s) _ _ _ _ _ (suc k) b bs (put-here .root-same) (put-here .levels-same)
-                (λ x o. elsewhere x (omega arith) (off-key x b key (omega (arith, y .numbered .once x)))) (y .nodes .1),
-            );
-            frame = λ x p t o. put-here .elsewhere x p (omega (arith, y .fits)) (off-key x b key (omega arith));
-            changed = put-changed key-high put-here;
-          }
-
-      pub rewritten-links : (x : ℕ) → 1 ≤ occs x (b ∷ bs) → SameLinks θ (node s) (node (put s n ws)) x
-      rewritten-links x o =
-          elim (ℕ-discrete x n) [
-            | yes e ↦ subst (SameLinks θ (node s) (node (put s n ws))) (sym e)
-                (record {
-                  same-back = ap (λ (v : List ℕ). backWord v 0) (put-here .here) ∙ w .back-is;
-                  same-forward = ap (λ (v : List ℕ). forwardWord v 0) (put-here .here) ∙ w .forward-is;
-                })
-            | no ne ↦ moved-links θ (node s) (node (put s n ws)) x (elsewhere x o ne)
-          ]
+        pub rewritten-links : (x : ℕ) → 1 ≤ occs x (b ∷ bs) → SameLinks θ (node s) (node (put s n ws)) x
+        rewritten-links x o =
+            elim (ℕ-discrete x n) [
+              | yes e ↦ subst (SameLinks θ (node s) (node (put s n ws))) (sym e)
+                  (record {
+                    same-back = ap (λ (v : List ℕ). backWord v 0) (put-here .here) ∙ w .back-is;
+                    same-forward = ap (λ (v : List ℕ). forwardWord v 0) (put-here .here) ∙ w .forward-is;
+                  })
+              | no ne ↦ moved-links θ (node s) (node (put s n ws)) x (elsewhere x o ne)
+            ]

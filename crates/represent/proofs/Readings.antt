@@ -47,9 +47,12 @@ module _ (f : Format) (s : List ℕ) (h : Head) (k : ℕ) where
   unfolding visitAfter
   visit-is strict p it its l a =
       let is = l .page .1 in
-      rw (page-passes f (h .capacity) (pageAt f s h p) (it ∷ its) is (l .lawful) (omega arith) (l .fits) (l .sorted),
-      page-all-above f (h .capacity) (pageAt f s h p) (it ∷ its) is (l .lawful) strict k
-      (all-map (λ x. k < x .key) (λ x. above strict k (x .key) ≡ true) (it ∷ its) (λ x q. above-true strict k (x .key) q) a), visitAfter)
+      rw (
+        page-passes f (h .capacity) (pageAt f s h p) (it ∷ its) is (l .lawful) (omega arith) (l .fits) (l .sorted),
+        page-all-above f (h .capacity) (pageAt f s h p) (it ∷ its) is (l .lawful) strict k
+            (all-map (λ x. k < x .key) (λ x. above strict k (x .key) ≡ true) (it ∷ its) (λ x q. above-true strict k (x .key) q) a),
+        visitAfter,
+      )
       (ap Record (page-head f (h .capacity) (pageAt f s h p) (it ∷ its) is (l .lawful) it its refl))
 
   -- the key's own page p, after the used bits
@@ -83,8 +86,10 @@ module _ (f : Format) (s : List ℕ) (h : Head) (k : ℕ) where
   unfolding soundPage
   sound p used it its l a =
       let is = l .page .1 in
-      rw (page-passes f (h .capacity) (pageAt f s h p) (it ∷ its) is (l .lawful) (omega arith) (l .fits) (l .sorted),
-      page-agrees f (h .capacity) (pageAt f s h p) (it ∷ its) is (l .lawful) k used a)
+      rw (
+        page-passes f (h .capacity) (pageAt f s h p) (it ∷ its) is (l .lawful) (omega arith) (l .fits) (l .sorted),
+        page-agrees f (h .capacity) (pageAt f s h p) (it ∷ its) is (l .lawful) k used a,
+      )
 
   found-is : (x : Stretch) (used : ℕ) → Lawful f s h x → Agree used (x .1) → found (x .0) used ≡ firstWhere (λ it. eqb (it .key) k) (x .1)
   unfolding firstWhere

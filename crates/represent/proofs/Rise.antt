@@ -97,19 +97,19 @@ module _ {θ : ℕ} {I : NodeOps} {O : StoreOps} (A : NodeLaws θ I) (B : StoreL
                 | no i ↦
                     let p : 1 ≤ occ x b = omega (arith, occ-split x b key m, ind-other x m i) in
                     z .frame x (label-low y x (omega arith)) (omega (arith, w .changed .now, label-high y x (omega arith)))
-                      (omega (arith, y .numbered .once x))
+                    (omega (arith, y .numbered .once x))
               ]
 
           split-climbed : Climbed θ O s s′ k (graft u key (pair a c)) (b ∷ bs) (b′ ∷ bs′) (suc more)
           split-climbed =
               let halves : Over (At θ (node s₁) (suc k)) b′ (graft u key (pair a c)) =
-                    over-graft (At θ (node s) (suc k)) (At θ (node s₁) (suc k)) b u key (pair n m) (pair a c) (λ x. omega (arith, y .numbered .once x))
-                      (w .same) (y .nodes .0)
-                      (subst (Over (At θ (node s₁) (suc k)) (pair n m)) (sym e) (w .left-is, w .right-is)) in
+              over-graft (At θ (node s) (suc k)) (At θ (node s₁) (suc k)) b u key (pair n m) (pair a c) (λ x. omega (arith, y .numbered .once x))
+              (w .same) (y .nodes .0)
+              (subst (Over (At θ (node s₁) (suc k)) (pair n m)) (sym e) (w .left-is, w .right-is)) in
               record {
                 nodes = (
                   over-map (At θ (node s₁) (suc k)) (At θ (node s′) (suc k)) b′ (graft u key (pair a c))
-                    (λ x t o p. is-moved (left-alone x o) p) halves,
+                      (λ x t o p. is-moved (left-alone x o) p) halves,
                   z .nodes,
                 );
                 frame = λ x p t o. z .frame x p (omega (arith, w .changed .now)) (omega arith) ∙ w .frame x p t (omega arith);
@@ -121,8 +121,8 @@ module _ {θ : ℕ} {I : NodeOps} {O : StoreOps} (A : NodeLaws θ I) (B : StoreL
         rise up fits f =
             let t : taken s₁ ≡ m = omega (arith, w .changed .now) in
             let z =
-                  up s₁ (suc k) b key n m (above (omega arith)) (omega (arith, t, w .changed .cap-same))
-                    (λ x o. unlinked-moved θ (node s) (node s₁) x (untouched x o) (f x o)) in
+            up s₁ (suc k) b key n m (above (omega arith)) (omega (arith, t, w .changed .cap-same))
+            (λ x o. unlinked-moved θ (node s) (node s₁) x (untouched x o) (f x o)) in
             let climbed = rw t at (z .0) in
             record {
               climbed = split-climbed climbed;

@@ -46,14 +46,17 @@ module _ {θ : ℕ} {I : NodeOps} {O : StoreOps} (A : NodeLaws θ I) (B : StoreL
   round-climbed : (s : S) (u b : Trie ℕ) (bs : List (Trie ℕ)) (key : Key) (a c : ℕ)
       → Ready θ O s 0 u (b ∷ bs) → Links θ (node s) (b ∷ bs) → taken s + bumpCost θ (locals u (b ∷ bs) key) ≤ cap s
       → Climbed θ O s (round I O s (pathOf (b ∷ bs) key) a c) 0 (graft u key (pair a c))
-          (b ∷ bs) (carried θ (taken s) u (b ∷ bs) key) (bumpCost θ (locals u (b ∷ bs) key))
+      (b ∷ bs) (carried θ (taken s) u (b ∷ bs) key) (bumpCost θ (locals u (b ∷ bs) key))
       × Links θ (node (round I O s (pathOf (b ∷ bs) key) a c)) (carried θ (taken s) u (b ∷ bs) key)
   round-climbed s u b bs key a c y links fits =
       elim (decLt (depth u key - depth b key) θ) [
         | yes small ↦
-            rw (round-room I O s (stepAt b key) (pathOf bs key) a c (room-here A B y key ∙ lt-ltb (depth u key - depth b key) θ small),
-                carried-slack θ (taken s) u b bs key small, bump-slack θ (depth u key - depth b key) (locals b bs key) small .1)
-              (grown-climbed A B y key a c small, links-frame θ (node s) _ b bs (grown-links A B y key a c small) links)
+            rw (
+              round-room I O s (stepAt b key) (pathOf bs key) a c (room-here A B y key ∙ lt-ltb (depth u key - depth b key) θ small),
+              carried-slack θ (taken s) u b bs key small,
+              bump-slack θ (depth u key - depth b key) (locals b bs key) small .1,
+            )
+            (grown-climbed A B y key a c small, links-frame θ (node s) _ b bs (grown-links A B y key a c small) links)
         | no large ↦
             let full : θ ≤ depth u key - depth b key = omega arith in
             let cost = bump-full θ (depth u key - depth b key) (locals b bs key) full .1 in
@@ -64,13 +67,19 @@ module _ {θ : ℕ} {I : NodeOps} {O : StoreOps} (A : NodeLaws θ I) (B : StoreL
             let b′ : Trie ℕ = graft b key (pair (leafAt b key) (suc (taken s))) in
             let w = first-split A B y key a c (links .0) (t .2) full more in
             let z = rise A B y key a c (t .2) w (climb-keeps A B pos bs) (omega (arith, cost)) (links .1) in
-            rw (round-full I O s (stepAt b key) (pathOf bs key) a c (room-here A B y key ∙ le-ltb (depth u key - depth b key) θ full),
-                carried-full θ (taken s) u b bs key full, cost)
-              (z .climbed,
-              (linked-frame (backOf θ (node s₁)) (forwardOf θ (node s₁)) (backOf θ (node s′)) (forwardOf θ (node s′)) 0 (labels b′)
-                (λ x o. moved-links θ (node s₁) (node s′) x (z .kept x (omega (arith, count-labels x b′))))
-                (first-linked A B y key a c (links .0) (t .2) full more),
-              z .plain))
+            rw (
+              round-full I O s (stepAt b key) (pathOf bs key) a c (room-here A B y key ∙ le-ltb (depth u key - depth b key) θ full),
+              carried-full θ (taken s) u b bs key full,
+              cost,
+            ) (
+              z .climbed,
+              (
+                linked-frame (backOf θ (node s₁)) (forwardOf θ (node s₁)) (backOf θ (node s′)) (forwardOf θ (node s′)) 0 (labels b′)
+                    (λ x o. moved-links θ (node s₁) (node s′) x (z .kept x (omega (arith, count-labels x b′))))
+                    (first-linked A B y key a c (links .0) (t .2) full more),
+                z .plain,
+              ),
+            )
       ]
 
 pub round-keeps : (θ : ℕ) (I : NodeOps) (O : StoreOps) → RoundKeeps θ I O

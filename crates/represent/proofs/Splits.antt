@@ -49,62 +49,62 @@ module _ {θ : ℕ} {I : NodeOps} {O : StoreOps} (A : NodeLaws θ I) (B : StoreL
     {s : O .S} {k : ℕ} {u b : Trie ℕ} {bs : List (Trie ℕ)} (y : Ready θ O s k u (b ∷ bs)) (key : Key)
     {ws ws′ : List ℕ} {l r : Trie ℕ} (is : NodeIs θ ws (suc k) l) (is′ : NodeIs θ ws′ (suc k) r)
     (q : ℕ) (apart : leafAt b key ≡ q → ⊥) (known : (q ≡ 0 → ⊥) → 1 ≤ occ q b)
-    where
-  open StoreOps O using (node, root, levels, taken, cap)
+  where
+    open StoreOps O using (node, root, levels, taken, cap)
 
-  abbrev n : ℕ
-  n = leafAt b key
+    abbrev n : ℕ
+    n = leafAt b key
 
-  q-low : (q ≡ 0 → ⊥) → 1 ≤ q
-  q-low ne = label-low y q (omega (arith, known ne))
+    q-low : (q ≡ 0 → ⊥) → 1 ≤ q
+    q-low ne = label-low y q (omega (arith, known ne))
 
-  q-high : q ≤ taken s
-  q-high = elim (ℕ-discrete q 0) [ yes e ↦ omega arith | no ne ↦ label-high y q (omega (arith, known ne)) ]
+    q-high : q ≤ taken s
+    q-high = elim (ℕ-discrete q 0) [ yes e ↦ omega arith | no ne ↦ label-high y q (omega (arith, known ne)) ]
 
-  pub parted : taken s < cap s → Parted I O s (parts I O s n ws ws′ q) n ws ws′ q
-  parted more =
-      let t = two-nodes B s n (y .ok) (key-low y key) (key-high y key) more is is′ in
-      let z =
-            relink-nodes A B q (suc (taken s)) (suc k) (t .kept) (y .fits) q-high
-              (λ ne.
-                let v = over-in (At θ (node s) (suc k)) b u q (known ne) (y .nodes .0) in
-                (v .0, is-moved (t .off q (q-low ne) q-high (λ e. apart (sym e))) (v .1))) in
-      let g = advanced B s (relink I O (two O s n ws ws′) q (suc (taken s))) (root s) (levels s) more (z .1) in
-      let cap₂ = t .kept .cap-same in
-      record {
-        at-n =
-            g .nodes-same n (key-low y key) (omega (arith, key-high y key))
-            ∙ z .0 .off n (key-low y key) (omega (arith, cap₂, key-high y key)) apart ∙ t .at-n;
-        at-m = g .nodes-same _ (omega arith) (omega arith) ∙ z .0 .off _ (omega arith) (omega (arith, cap₂)) (λ e. omega (arith, q-high)) ∙ t .at-m;
-        at-q = λ ne.
-            g .nodes-same q (q-low ne) (omega (arith, q-high)) ∙ z .0 .at-q ne
-            ∙ ap (λ (w : List ℕ). I .linked w (suc (taken s)) (forwardWord w 0)) (t .off q (q-low ne) q-high (λ e. apart (sym e)));
-        off = λ x p h ne ne′. g .nodes-same x p (omega arith) ∙ z .0 .off x p (omega (arith, cap₂)) ne′ ∙ t .off x p h ne;
-        root-same = g .root-is;
-        levels-same = g .levels-is;
-        changed = g .changed;
-      }
+    pub parted : taken s < cap s → Parted I O s (parts I O s n ws ws′ q) n ws ws′ q
+    parted more =
+        let t = two-nodes B s n (y .ok) (key-low y key) (key-high y key) more is is′ in
+        let z =
+        relink-nodes A B q (suc (taken s)) (suc k) (t .kept) (y .fits) q-high
+        (λ ne.
+        let v = over-in (At θ (node s) (suc k)) b u q (known ne) (y .nodes .0) in
+        (v .0, is-moved (t .off q (q-low ne) q-high (λ e. apart (sym e))) (v .1))) in
+        let g = advanced B s (relink I O (two O s n ws ws′) q (suc (taken s))) (root s) (levels s) more (z .1) in
+        let cap₂ = t .kept .cap-same in
+        record {
+          at-n =
+              g .nodes-same n (key-low y key) (omega (arith, key-high y key))
+              ∙ z .0 .off n (key-low y key) (omega (arith, cap₂, key-high y key)) apart ∙ t .at-n;
+          at-m = g .nodes-same _ (omega arith) (omega arith) ∙ z .0 .off _ (omega arith) (omega (arith, cap₂)) (λ e. omega (arith, q-high)) ∙ t .at-m;
+          at-q = λ ne.
+              g .nodes-same q (q-low ne) (omega (arith, q-high)) ∙ z .0 .at-q ne
+              ∙ ap (λ (w : List ℕ). I .linked w (suc (taken s)) (forwardWord w 0)) (t .off q (q-low ne) q-high (λ e. apart (sym e)));
+          off = λ x p h ne ne′. g .nodes-same x p (omega arith) ∙ z .0 .off x p (omega (arith, cap₂)) ne′ ∙ t .off x p h ne;
+          root-same = g .root-is;
+          levels-same = g .levels-is;
+          changed = g .changed;
+        }
 
-  pub parted-split : {s₁ : O .S} → Parted I O s s₁ n ws ws′ q → Split θ O s s₁ (suc k) b n l r
-  parted-split {s₁} p =
-      record {
-        left-is = is-moved (p .at-n) is;
-        right-is = is-moved (p .at-m) is′;
-        same = λ x v o ne h.
-            let low = label-low y x (omega arith) in
-            elim (ℕ-discrete x q) [
-              | yes e ↦
-                  is-moved
+    pub parted-split : {s₁ : O .S} → Parted I O s s₁ n ws ws′ q → Split θ O s s₁ (suc k) b n l r
+    parted-split {s₁} p =
+        record {
+          left-is = is-moved (p .at-n) is;
+          right-is = is-moved (p .at-m) is′;
+          same = λ x v o ne h.
+              let low = label-low y x (omega arith) in
+              elim (ℕ-discrete x q) [
+                | yes e ↦
+                    is-moved
                     (subst (λ (z : ℕ). node s₁ z ≡ I .linked (node s z) (suc (taken s)) (forwardWord (node s z) 0)) (sym e)
-                      (p .at-q (λ z. omega (arith, low))))
+                    (p .at-q (λ z. omega (arith, low))))
                     (linked-written A h (suc (taken s)) (forwardWord (node s x) 0) .is)
-              | no ne′ ↦ is-moved (p .off x low (label-high y x (omega arith)) ne ne′) h
-            ];
-        frame = λ x a t o. p .off x a t (off-key x b key o) (λ e. not-q x a o e);
-        root-same = p .root-same;
-        levels-same = p .levels-same;
-        changed = p .changed;
-      }
-    where
-      not-q : (x : ℕ) → 1 ≤ x → occ x b ≡ 0 → x ≡ q → ⊥
-      not-q x a o e = omega (arith, subst (λ (z : ℕ). 1 ≤ occ z b) (sym e) (known (λ z. omega arith)))
+                | no ne′ ↦ is-moved (p .off x low (label-high y x (omega arith)) ne ne′) h
+              ];
+          frame = λ x a t o. p .off x a t (off-key x b key o) (λ e. not-q x a o e);
+          root-same = p .root-same;
+          levels-same = p .levels-same;
+          changed = p .changed;
+        }
+      where
+        not-q : (x : ℕ) → 1 ≤ x → occ x b ≡ 0 → x ≡ q → ⊥
+        not-q x a o e = omega (arith, subst (λ (z : ℕ). 1 ≤ occ z b) (sym e) (known (λ z. omega arith)))

@@ -5,31 +5,31 @@
 use mathlib.Core.Path.{_≡_, refl, sym, ap, _∙_, subst}
 use mathlib.Core.Bool.{false, true}
 use mathlib.Core.List.{List, [], _∷_}
-use Prim.Native.Nat.{ℕ, suc, _+_, _*_, _^_, _≤_, _<_}
+use Prim.Native.Nat.{ℕ, suc, _+_, _^_, _≤_, _<_}
 use native.Mathlib.Omega.{arith}
 use lib.ListN.{length, drop, replicate}
 use Rattle.lists.specs.Bits.{bits}
-use Rattle.tree.specs.Trie.{Trie, leaf, Key, leafAt, depth, graft, pair}
+use Rattle.tree.specs.Trie.{Trie, leaf, Key, depth, graft, pair}
 use Rattle.tree.specs.Carry.{locals, bumpCost}
 use Rattle.tree.proofs.TrieLaws.{graft-leafAt}
 use Rattle.store.specs.declared.Format.{Format}
 use Rattle.store.specs.declared.Head.{Head}
 use Rattle.store.specs.declared.Item.{Item}
 use Rattle.store.specs.Format.{width}
-use Rattle.store.specs.Head.{headOf, nodeWords, pageWords, size}
+use Rattle.store.specs.Head.{headOf, nodeWords, pageWords}
 use Rattle.store.proofs.HeadLaws.{sizes-limits}
-use Rattle.represent.specs.Labelled.{relabel, occs}
+use Rattle.represent.specs.Labelled.{occs}
 use Rattle.represent.specs.Image.{pageImage}
 use Rattle.represent.specs.Rep.{Stretch, numbers, Directory, Pages, Rep}
-use Rattle.represent.specs.Round.{NodeOps, StoreOps, Changed, Rounded, stepAt, pathOf, round, aimAt, carried}
-use Rattle.represent.specs.Frame.{nodeOf, pageOf, sizeOf, Sized, putPage, putFilled}
+use Rattle.represent.specs.Round.{NodeOps, StoreOps, Rounded, pathOf, round, carried}
+use Rattle.represent.specs.Frame.{nodeOf, pageOf, sizeOf, Sized, putFilled}
 use Rattle.represent.specs.Insertion.{Ok, wordStore, stretchAt, leftAt, prefixAt, halfAt, replacedAt, Fit, putItems, takeItems, Stepped, Roomy, UpperKeeps, LowerKeeps, BothKeep, PutKeeps, TakeKeeps}
 use Rattle.represent.proofs.LabelLaws.{label-low, label-high, leafAt-relabel}
 use Rattle.represent.proofs.Level.{moved-links, nodes-frame, links-frame}
 use Rattle.represent.proofs.Frame.{SameSizes, putPage-nodes, putPage-beyond}
 use Rattle.represent.proofs.Frame.{putFilled-sizes, putFilled-root, putFilled-levels, putFilled-taken, putFilled-sized, putFilled-nodes, putFilled-beyond}
 use Rattle.represent.proofs.WordStore.{others-sizes, others-filled, others-pages, others-beyond, store-laws}
-use Rattle.represent.proofs.PageLaws.{relabel-graft, number-high, half-fits, own-low, put-head, put-length, put-sized, put-other, take-capacity, take-filled, take-other, pages-frame, pages-upper, pages-lower, pages-both, pages-put, pages-take}
+use Rattle.represent.proofs.PageLaws.{relabel-graft, number-high, half-fits, own-low, put-head, put-length, put-sized, put-other, take-filled, take-other, pages-frame, pages-upper, pages-lower, pages-both, pages-put, pages-take}
 use Rattle.represent.proofs.RoundLaws.{round-keeps, aim-keeps}
 
 -- a directory goes by the node blocks in use alone
@@ -356,7 +356,7 @@ module _ (f : Format) (I : NodeOps) (s : List ℕ) (b0 : Trie Stretch) (bs : Lis
       let p = put-step f s b0 bs r key narrow rs low fit in
       let k : Key = bits (width f) key in
       let same : numbers b0 ≡ numbers (replacedAt f b0 key (leaf (stretchAt f b0 key .0, rs))) =
-            sym (numbers-graft b0 k (leaf (stretchAt f b0 key .0, rs)) ∙ ap (λ n. graft (numbers b0) k (leaf n)) (sym (leafAt-relabel (λ x. x .0) b0 k)) ∙ graft-leafAt (numbers b0) k) in
+      sym (numbers-graft b0 k (leaf (stretchAt f b0 key .0, rs)) ∙ ap (λ n. graft (numbers b0) k (leaf n)) (sym (leafAt-relabel (λ x. x .0) b0 k)) ∙ graft-leafAt (numbers b0) k) in
       stepped f s b0 _ bs r _ p _ 0 bs
       (rounded-same (headOf s .theta) (wordStore f (headOf s .theta)) same refl
       (record {

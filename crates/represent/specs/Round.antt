@@ -158,10 +158,10 @@ module _ (I : NodeOps) (O : StoreOps) where
       let ws : List ℕ = node s (p .at) in
       let m : ℕ = suc (taken s) in
       advance O s
-        (relink
-          (two O s (p .at) (linked (lower ws (p .bits) a c) (backWord ws 0) m) (linked (upper ws (p .bits) a c) (p .at) (forwardWord ws 0)))
-          (forwardWord ws 0)
-          m)
+      (relink
+      (two O s (p .at) (linked (lower ws (p .bits) a c) (backWord ws 0) m) (linked (upper ws (p .bits) a c) (p .at) (forwardWord ws 0)))
+      (forwardWord ws 0)
+      m)
 
   -- "A split root gets a new root with two entries of h = 1."
   unfoldable pub newRoot : S → ℕ → ℕ → S
