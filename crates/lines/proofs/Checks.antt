@@ -1,5 +1,4 @@
 -- The sample holds: antt computes each row.
--- Assumes nothing.
 use mathlib.Core.Bool.{true}
 use mathlib.Core.Path.{_≡_, refl}
 use Rattle.lists.specs.Lists.{all, part, tab}

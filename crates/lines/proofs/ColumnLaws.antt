@@ -1,7 +1,6 @@
 -- Numbers in columns. The columns before the last are grown from the right, one digit a column (`padded`): reading takes a digit
 -- in where writing puts one out, so the laws of the two go by the same steps.
 --   padded w n == the number n in w columns, all blank if n is 0
--- Assumes nothing.
 use mathlib.Core.Path.{_≡_, refl, sym, ap, _∙_}
 use mathlib.Core.Bool.{or-true, Bool, true, false, not, _&&_, _||_, false≢true}
 use mathlib.Core.List.{List, [], _∷_, _++_, append-assoc, append-nil}

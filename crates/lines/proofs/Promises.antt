@@ -1,5 +1,4 @@
 -- The promises hold, by the laws of columns and of lines.
--- Assumes nothing.
 use Rattle.lines.specs.Promises.{ColumnFits, ColumnPlain, FormatThenParse, ParseThenFormat, ReplyFits}
 use Rattle.lines.proofs.ColumnLaws as columns
 use Rattle.lines.proofs.RequestLaws.{line-parsed, line-kept}

@@ -1,5 +1,4 @@
 -- Reading columns byte by byte: what is left of the columns decides the answer, so each step keeps it.
--- Assumes nothing.
 use mathlib.Core.Path.{_≡_, refl, sym, ap, _∙_}
 use mathlib.Core.Bool.{Bool, true, false, _&&_, false≢true, and-true as and-id}
 use mathlib.Core.List.{List, [], _∷_}

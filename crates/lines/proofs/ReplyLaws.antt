@@ -1,5 +1,4 @@
 -- A reply line has 45 bytes: its columns have as many bytes as they are wide.
--- Assumes nothing.
 use mathlib.Core.Path.{_≡_}
 use Prim.Native.Nat.{ℕ}
 use lib.ListN.{length, length-append}

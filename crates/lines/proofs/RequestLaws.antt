@@ -1,5 +1,4 @@
 -- Request lines. A line is its five parts, each a number in columns, so the laws of columns carry over part by part.
--- Assumes nothing.
 use mathlib.Core.Path.{_≡_, refl, sym, ap, _∙_}
 use mathlib.Core.Bool.{Bool, true, false, _&&_, false≢true}
 use mathlib.Core.List.{List, [], _∷_, _++_}

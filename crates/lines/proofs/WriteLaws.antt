@@ -1,6 +1,5 @@
 -- Writing columns: each store of a digit moves it from what is still to be written to the bytes, so the two together stay the same; a
 -- line is filled from the front, part by part.
--- Assumes nothing.
 use mathlib.Core.Path.{_≡_, refl, sym, ap, _∙_}
 use mathlib.Core.List.{List, [], _∷_, _++_, append-assoc}
 use Prim.Native.Nat.{ℕ, zero, suc, _+_, _-_, _/_, _%_, _≤_, _<_}

@@ -1,5 +1,4 @@
 -- The desk checks hold: every row computes.
--- Assumes nothing.
 use mathlib.Core.Bool.{true}
 use mathlib.Core.Path.{_≡_, refl}
 use Rattle.lists.specs.Lists.{all}

@@ -1,5 +1,4 @@
 -- What the functions' proofs and the promises share: bounds on products and quotients, days left and balances, and the limits of labels and keys.
--- Assumes nothing.
 use mathlib.Core.Bool.{true, false, _&&_, and-false, and-eq-true-iff, not-eq-not}
 use mathlib.Core.Path.{_≡_, sym, subst⁻¹, _∙_}
 use Prim.Native.Nat.{ℕ, _+_, _*_, _/_, _^_, _≤_, _<_}

@@ -1,5 +1,4 @@
 -- The promises hold, by the laws on money and labels.
--- Assumes nothing.
 use mathlib.Core.Bool.{not, _&&_, and-eq-true-iff}
 use Prim.Native.Nat.{_^_}
 use native.Mathlib.Nat.{mul-zero, zero-div}

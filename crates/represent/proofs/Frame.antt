@@ -162,12 +162,6 @@ module _ (f : Format) (s : List ℕ) (n : ℕ) (ws : List ℕ) (ok : Sized f s) 
   behind : 16 ≤ nodeStart (headOf s) n
   behind = node-start (headOf s) n
 
-  pub putNode-length : length (putNode s n ws) ≡ length s
-  putNode-length = node-write .long
-
-  pub putNode-spare : zeros (putNode s n ws) 8 8 ≡ zeros s 8 8
-  putNode-spare = spare-kept node-write (inr behind)
-
   pub putNode-sized : Sized f (putNode s n ws)
   putNode-sized = sized-kept node-write (omega (arith, behind)) (inr behind) f ok
 
@@ -180,16 +174,9 @@ module _ (f : Format) (s : List ℕ) (n : ℕ) (ws : List ℕ) (ok : Sized f s) 
   pub putNode-other : (x : ℕ) → 1 ≤ x → (x ≡ n → ⊥) → nodeOf (putNode s n ws) x ≡ nodeOf s x
   putNode-other x p ne = node-kept node-write (omega (arith, behind)) x (nodes-apart (headOf s) x n p low ne)
 
-  pub putNode-pages : (p : ℕ) → pageOf f (putNode s n ws) p ≡ pageOf f s p
-  putNode-pages p =
-      page-kept node-write (omega (arith, behind)) f p (inr (omega (arith, node-end (headOf s) n low high, page-start (headOf s) f p)))
-
   -- all words behind the node blocks
   pub putNode-drop : (m : ℕ) → 16 + headOf s .nodes * nodeWords (headOf s .theta) ≤ m → drop m (putNode s n ws) ≡ drop m s
   putNode-drop m h = drop-beside 0 node-write m (omega (arith, node-end (headOf s) n low high))
-
-  pub putNode-beyond : drop (sizeOf f s) (putNode s n ws) ≡ drop (sizeOf f s) s
-  putNode-beyond = putNode-drop (sizeOf f s) (nodes-end (headOf s) f)
 
 module _ (f : Format) (s : List ℕ) (p : ℕ) (ws : List ℕ) (ok : Sized f s) (low : 1 ≤ p) (high : p ≤ headOf s .pages)
     (same : length ws ≡ pageWords f (headOf s .capacity)) where
@@ -202,12 +189,6 @@ module _ (f : Format) (s : List ℕ) (p : ℕ) (ws : List ℕ) (ok : Sized f s) 
 
   behind-nodes : 16 + headOf s .nodes * nodeWords (headOf s .theta) ≤ pageStart f (headOf s) p
   behind-nodes = page-start (headOf s) f p
-
-  pub putPage-length : length (putPage f s p ws) ≡ length s
-  putPage-length = page-write .long
-
-  pub putPage-spare : zeros (putPage f s p ws) 8 8 ≡ zeros s 8 8
-  putPage-spare = spare-kept page-write (inr (omega (arith, behind-nodes)))
 
   pub putPage-sized : Sized f (putPage f s p ws)
   putPage-sized = sized-kept page-write (omega (arith, behind-nodes)) (inr (omega (arith, behind-nodes))) f ok
@@ -267,26 +248,14 @@ module _ (s : List ℕ) (root levels taken : ℕ) where
       ∙ getD-set-other (set s 4 taken) 6 4 root 0 (λ e. omega arith)
       ∙ getD-set-same s 4 taken 0 (omega arith)
 
-  pub putHead-length : length (putHead s root levels taken) ≡ length s
-  putHead-length = head-write .long
-
-  pub putHead-spare : zeros (putHead s root levels taken) 8 8 ≡ zeros s 8 8
-  putHead-spare = spare-kept head-write (inl (omega arith))
-
   pub putHead-sized : (f : Format) → Sized f s → Sized f (putHead s root levels taken)
   putHead-sized = sized-kept head-write (omega arith) (inl (omega arith))
 
   pub putHead-nodes : (x : ℕ) → nodeOf (putHead s root levels taken) x ≡ nodeOf s x
   putHead-nodes x = node-kept head-write (omega arith) x (inr (omega (arith, node-start (headOf s) x)))
 
-  pub putHead-pages : (f : Format) (p : ℕ) → pageOf f (putHead s root levels taken) p ≡ pageOf f s p
-  putHead-pages f p = page-kept head-write (omega arith) f p (inr (omega (arith, page-start (headOf s) f p)))
-
   pub putHead-drop : (m : ℕ) → 8 ≤ m → drop m (putHead s root levels taken) ≡ drop m s
   putHead-drop m h = drop-beside 0 head-write m (omega arith)
-
-  pub putHead-beyond : (f : Format) → drop (sizeOf f s) (putHead s root levels taken) ≡ drop (sizeOf f s) s
-  putHead-beyond f = putHead-drop (sizeOf f s) (omega (arith, nodes-end (headOf s) f))
 
 module _ (s : List ℕ) (filled : ℕ) where
   filled-write : Elsewhere 0 5 1 s (putFilled s filled)
@@ -311,12 +280,6 @@ module _ (s : List ℕ) (filled : ℕ) where
   pub putFilled-levels : headOf (putFilled s filled) .levels ≡ headOf s .levels
   unfolding headOf
   putFilled-levels = filled-write .above 7 (omega arith)
-
-  pub putFilled-length : length (putFilled s filled) ≡ length s
-  putFilled-length = filled-write .long
-
-  pub putFilled-spare : zeros (putFilled s filled) 8 8 ≡ zeros s 8 8
-  putFilled-spare = spare-kept filled-write (inl (omega arith))
 
   pub putFilled-sized : (f : Format) → Sized f s → Sized f (putFilled s filled)
   putFilled-sized = sized-kept filled-write (omega arith) (inl (omega arith))

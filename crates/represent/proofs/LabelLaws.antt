@@ -1,12 +1,11 @@
 -- Labelled tries: what stands at a key, how a graft changes the labels, and one trie over another. Each by recursion along the key.
 -- Labels are counted: distinct is `occ` at most 1, a label is `occ` at least 1.
 use mathlib.Core.Path.{_≡_, refl, sym, ap, ap₂, _∙_, subst}
-use mathlib.Core.Bool.{Bool, true, false, cond}
+use mathlib.Core.Bool.{true, false}
 use mathlib.Core.List.{List, [], _∷_, _++_, map, map-append, append-assoc, append-nil}
 use Prim.Native.Nat.{ℕ, suc, _+_, _≤_, _<_}
 use native.Mathlib.Omega.{arith}
 use native.Mathlib.Decide.{ℕ-discrete, decLe}
-use lib.Dec.{eqb}
 use borrow.Author.Tests.{eq-eqb, ne-eqb}
 use Rattle.lists.specs.Lists.{All}
 use Rattle.tree.specs.Trie.{Trie, leaf, fork, Key, labels, leafAt, depth, rest, graft}
@@ -22,13 +21,6 @@ ind-self n = ind-eq n n refl
 
 pub ind-other : (x n : ℕ) → (x ≡ n → ⊥) → ind x n ≡ 0
 ind-other x n h = rw (ne-eqb x n h)
-
-pub ind-le : (x n : ℕ) → ind x n ≤ 1
-ind-le x n = go (eqb x n)
-  where
-    go : (b : Bool) → cond b 1 0 ≤ 1
-    go true = omega arith
-    go false = omega arith
 
 pub occ-graft : (x : ℕ) (t : Trie ℕ) (k : Key) (c : Trie ℕ) → occ x (graft t k c) + ind x (leafAt t k) ≡ occ x t + occ x c
 occ-graft x (leaf n) k c = omega arith

@@ -25,7 +25,6 @@ use Rattle.lists.proofs.ListLaws.{filter-true, filter-false, all-map, all-both}
 use Rattle.lists.proofs.KeyedLaws.{bounded-prefix}
 use Rattle.tree.specs.Trie.{Trie, leaf, fork, Key, height, labels, leafAt, depth}
 use Rattle.tree.specs.Build.{same, side, build}
-use Rattle.tree.proofs.TrieLaws.{depth-le-height}
 use Rattle.tree.proofs.BuildLaws.{sorted-side, prefix-low, prefix-high, build-le, build-gt}
 use Rattle.store.specs.declared.Item.{Item}
 use Rattle.page.specs.Page.{above}
@@ -137,9 +136,6 @@ pub height-keyed : (w q : ℕ) (t : Trie Stretch) → Keyed w q t → height t �
 height-keyed w q (leaf x) a = omega arith
 height-keyed zero q (fork l r) a = absurd a
 height-keyed (suc w) q (fork l r) a = omega (arith, height-keyed w (2 * q) l (a .0), height-keyed w (2 * q + 1) r (a .1))
-
-pub depth-keyed : (w q : ℕ) (t : Trie Stretch) (key : Key) → Keyed w q t → depth t key ≤ w
-depth-keyed w q t key a = omega (arith, depth-le-height t key, height-keyed w q t a)
 
 prefix-keyed : (w q : ℕ) (t : Trie Stretch) → Keyed w q t → Prefix keyOf w q (recordsOf (labels t))
 prefix-keyed w q (leaf x) a = all-append (λ it. it .key / 2 ^ w ≡ q) (x .1) [] a tt

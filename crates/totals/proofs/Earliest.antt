@@ -1,6 +1,5 @@
 -- The earliest last day, down a list of records in ascending key order: totals that have a key keep it unless a record ends before their last
 -- day, so among equal last days the first record stays, which has the lowest key.
--- Assumes nothing.
 use mathlib.Core.Bool.{true, false}
 use mathlib.Core.Path.{_≡_, refl, ap, _∙_}
 use mathlib.Core.List.{List, [], _∷_, List·Memᴰ·head, List·Memᴰ·tail}

@@ -1,5 +1,4 @@
 -- The promises hold, by the laws on totals of a list, at the totals of no record.
--- Assumes nothing.
 use mathlib.Core.Path.{refl}
 use native.Mathlib.Omega.{arith}
 use Rattle.totals.specs.Totals.{noTotals}

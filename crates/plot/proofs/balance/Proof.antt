@@ -1,5 +1,4 @@
 -- `plot::balance` meets its contract: a refusal stands where a limit is broken, and elsewhere the quotient is the definition's, at most the price.
--- Assumes nothing.
 use borrow.Author.Needs.{needs}
 use mathlib.Core.Path.{sym}
 use native.Mathlib.Nat.{lt-of-le-of-lt}

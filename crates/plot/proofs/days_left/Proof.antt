@@ -1,5 +1,4 @@
 -- `plot::days_left` meets its contract: each return is the smaller of the days to the last day and the lease days.
--- Assumes nothing.
 use borrow.Author.Needs.{needs}
 use native.Mathlib.Omega.{arith}
 use Rattle.plot.specs.Money.{daysLeft}

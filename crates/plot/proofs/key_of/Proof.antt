@@ -1,5 +1,4 @@
 -- `plot::key_of` meets its contract: a return with no key stands where a limit is broken, and the key is returned where all four hold.
--- Assumes nothing.
 use borrow.Author.Needs.{needs}
 use native.Mathlib.Omega.{arith}
 use Rattle.plot.specs.Label.{pack}

@@ -1,5 +1,4 @@
 -- `plot::lawful_day` meets its contract: its test is the definition's.
--- Assumes nothing.
 use mathlib.Core.Path.{refl}
 use Rattle.plot.specs.Plot.{lawfulDay}
 use Rattle.plot.proofs.lawful_day.Statement.{statement}

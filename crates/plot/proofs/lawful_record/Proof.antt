@@ -1,5 +1,4 @@
 -- `plot::lawful_record` meets its contract: key and price are 32-bit numbers by their type, and the other two parts of the definition are the function's tests.
--- Assumes nothing.
 use borrow.Author.Needs.{needs}
 use borrow.Author.Tests.{eq-eqb, ne-eqb, lt-ltb}
 use mathlib.Core.Bool.{and-false}

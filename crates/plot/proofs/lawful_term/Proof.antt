@@ -1,5 +1,4 @@
 -- `plot::lawful_term` meets its contract: each return is the definition's case at the tests that lead there.
--- Assumes nothing.
 use borrow.Author.Needs.{needs}
 use borrow.Author.Tests.{eq-eqb, ne-eqb, le-leb, lt-leb}
 use native.Mathlib.Omega.{arith}

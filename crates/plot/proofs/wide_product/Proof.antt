@@ -1,5 +1,4 @@
 -- `plot::wide_product` meets its contract: the product of two numbers of 32 bits has at most 64.
--- Assumes nothing.
 use borrow.Author.Needs.{needs}
 use Rattle.plot.proofs.Laws.{product-below}
 use Rattle.plot.proofs.wide_product.Statement.{statement}

@@ -1,6 +1,5 @@
 -- `totals::added` meets its contract: a walk of its MIR, by hand. A local is lent by `&mut` for a lifetime that is made for the call of `add`, and comes back at the last value that `add`'s contract says.
 -- All that the proof knows of `add` is that it meets its contract.
--- Assumes nothing.
 use mathlib.Core.Path.{_≡_, refl, sym, ap, subst}
 use Prim.Native.Nat.{ℕ, _<_, _^_}
 use mathlib.Core.List.{[], _∷_, List}

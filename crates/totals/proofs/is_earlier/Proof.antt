@@ -1,5 +1,4 @@
 -- `totals::is_earlier` meets its contract: its tests are the definition's, in the definition's order.
--- Assumes nothing.
 use mathlib.Core.Path.{sym}
 use Rattle.totals.proofs.Laws.{earlier-perpetual, earlier-first, earlier-test}
 use Rattle.totals.proofs.is_earlier.Statement.{statement}

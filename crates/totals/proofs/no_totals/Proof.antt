@@ -1,5 +1,4 @@
 -- `totals::no_totals` meets its contract: the struct is the definition's.
--- Assumes nothing.
 use mathlib.Core.Path.{refl}
 use Rattle.totals.specs.Totals.{noTotals}
 use Rattle.totals.proofs.no_totals.Statement.{statement}

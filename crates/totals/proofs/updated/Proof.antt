@@ -1,5 +1,4 @@
 -- `totals::updated` meets its contract: with room no sum overflows, and each return is what the test of `earlier` picks.
--- Assumes nothing.
 use borrow.Author.Needs.{needs}
 use mathlib.Core.Path.{sym, _∙_}
 use Rattle.totals.proofs.Laws.{updated-taken, updated-kept}

@@ -1,5 +1,4 @@
 -- `totals::worth_of` meets its contract: each arm gives the value of the reply that `balance` is to give, which fits 32 bits.
--- Assumes nothing.
 use borrow.Author.Needs.{needs}
 use mathlib.Core.Path.{_∙_}
 use Rattle.totals.proofs.Laws.{worth-replied}
