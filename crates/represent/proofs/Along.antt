@@ -183,7 +183,7 @@ module _ (f : Format) (s : List ℕ) (b0 : Trie Stretch) (b : Trie ℕ) (bs : Li
   over = r .directory .nodes .0
 
   small : headOf s .theta ≤ 6
-  small = sizes-limits _ _ _ _ (r .sizes) .theta
+  small = sizes-limits _ _ _ _ (r .sized .sizes) .theta
 
   tall : height u ≤ width f
   tall = omega (arith, height-relabel (λ (x : Stretch). x .0) b0)

@@ -1,17 +1,20 @@
 -- A trie whose labels are numbers from 1 to m, none twice, has at most m leaves: each leaf is counted once in the sum of how often each of 1, .., m
--- occurs.
+-- occurs. Where each of them occurs once, there are m leaves: so the counts in the head are those of the tree.
 --   upTo m g == g 1 + g 2 + .. + g m
 use mathlib.Core.Path.{_≡_, refl, sym, ap₂, _∙_}
-use mathlib.Core.List.{List, _∷_}
+use mathlib.Core.List.{List, [], _∷_, map}
 use Prim.Native.Nat.{ℕ, zero, suc, _+_, _≤_, _<_}
 use native.Mathlib.Omega.{arith}
 use native.Mathlib.Decide.{ℕ-discrete}
 use lib.ListN.{length, length-append}
-use Rattle.tree.specs.Trie.{Trie, leaf, fork, leaves, labels}
+use Rattle.tree.specs.Trie.{Trie, leaf, fork, shape, leaves, labels}
+use Rattle.tree.specs.Tower.{allLeaves}
+use Rattle.tree.specs.Build.{pages}
 use Rattle.store.specs.declared.Format.{Format}
+use Rattle.store.specs.declared.Head.{Head}
 use Rattle.store.specs.Head.{headOf}
 use Rattle.represent.specs.Labelled.{Each, ind, occ, occs}
-use Rattle.represent.specs.Rep.{Stretch, Rep}
+use Rattle.represent.specs.Rep.{Stretch, numbers, contents, Lawful, Rep}
 use Rattle.represent.proofs.LabelLaws.{label-low, label-high, ind-eq, ind-other, each-of}
 use Rattle.represent.proofs.Links.{rep-once}
 
@@ -39,10 +42,36 @@ upTo-one (suc m) n low high =
       | no e ↦ omega (arith, upTo-one m n low (omega arith), ind-other (suc m) n e)
     ]
 
+upTo-ones : (m : ℕ) (g : ℕ → ℕ) → ((x : ℕ) → 1 ≤ x → x ≤ m → g x ≡ 1) → upTo m g ≡ m
+upTo-ones zero g h = refl
+upTo-ones (suc m) g h = omega (arith, upTo-ones m g (λ x low high. h x low (omega arith)), h (suc m) (omega arith) (omega arith))
+
+upTo-zero : (m : ℕ) (g : ℕ → ℕ) → ((x : ℕ) → 1 ≤ x → g x ≡ 0) → upTo m g ≡ 0
+upTo-zero zero g h = refl
+upTo-zero (suc m) g h = omega (arith, upTo-zero m g h, h (suc m) (omega arith))
+
+leaves-shape : {A : Type 0} (t : Trie A) → leaves (shape t) ≡ leaves t
+leaves-shape (leaf x) = refl
+leaves-shape (fork l r) = ap₂ _+_ (leaves-shape l) (leaves-shape r)
+
 module _ (m : ℕ) where
   counted : (t : Trie ℕ) → Each (λ n. (1 ≤ n) × (n ≤ m)) t → upTo m (λ x. occ x t) ≡ leaves t
   counted (leaf n) h = upTo-one m n (h .0) (h .1)
   counted (fork l r) h = upTo-add m (λ x. occ x l) (λ x. occ x r) ∙ ap₂ _+_ (counted l (h .0)) (counted r (h .1))
+
+  levels-counted : (bs : List (Trie ℕ)) → ((n : ℕ) → 1 ≤ occs n bs → (1 ≤ n) × (n ≤ m)) → upTo m (λ x. occs x bs) ≡ allLeaves (map shape bs)
+  levels-counted [] h = upTo-zero m (λ x. 0) (λ x low. refl)
+  levels-counted (b ∷ bs) h =
+      upTo-add m (λ x. occ x b) (λ x. occs x bs)
+      ∙ ap₂ _+_ (counted b (each-of _ b (λ n o. h n (omega arith))) ∙ sym (leaves-shape b)) (levels-counted bs (λ n o. h n (omega arith)))
+
+  pages-counted : (f : Format) (s : List ℕ) (h : Head) (t : Trie Stretch) → Each (Lawful f s h) t → Each (λ n. n ≤ m) (numbers t)
+      → upTo m (λ x. occ x (numbers t)) ≡ pages (contents t)
+  pages-counted f s h (leaf (p, [])) l high = upTo-zero m (λ x. ind x p) (λ x low. ind-other x p (λ e. omega (arith, l .page)))
+  pages-counted f s h (leaf (p, r ∷ rs)) l high = upTo-one m p (l .page .0) high
+  pages-counted f s h (fork a b) l high =
+      upTo-add m (λ x. occ x (numbers a)) (λ x. occ x (numbers b))
+      ∙ ap₂ _+_ (pages-counted f s h a (l .0) (high .0)) (pages-counted f s h b (l .1) (high .1))
 
   leaves-within : (t : Trie ℕ) → Each (λ n. (1 ≤ n) × (n ≤ m)) t → ((x : ℕ) → occ x t ≤ 1) → leaves t ≤ m
   leaves-within t h once = omega (arith, sym (counted t h), upTo-within m (λ x. occ x t) once)
@@ -60,3 +89,18 @@ rep-leaves f s b0 b bs r =
       label-high (headOf s .taken) (λ x. occs x (b ∷ bs)) n (r .directory .oneForOne .none) (omega arith),
     )))
     (λ x. omega (arith, rep-once f s b0 (b ∷ bs) r x))
+
+module _ (f : Format) (s : List ℕ) (b0 : Trie Stretch) (bs : List (Trie ℕ)) (r : Rep f s b0 bs) where
+  pub rep-nodes : headOf s .taken ≡ allLeaves (map shape bs)
+  rep-nodes =
+      sym (upTo-ones (headOf s .taken) (λ x. occs x bs) (r .directory .oneForOne .once))
+      ∙ levels-counted (headOf s .taken) bs (λ n o. (
+        label-low bs n (r .directory .positive) o,
+        label-high (headOf s .taken) (λ x. occs x bs) n (r .directory .oneForOne .none) o,
+      ))
+
+  pub rep-pages : headOf s .filled ≡ pages (contents b0)
+  rep-pages =
+      sym (upTo-ones (headOf s .filled) (λ p. occ p (numbers b0)) (r .pages .oneForOne .once))
+      ∙ pages-counted (headOf s .filled) f s (headOf s) b0 (r .pages .each)
+      (each-of _ (numbers b0) (λ p o. label-high (headOf s .filled) (λ x. occ x (numbers b0)) p (r .pages .oneForOne .none) o))

@@ -107,7 +107,7 @@ module _ (f : Format) (s : List ℕ) (b0 : Trie Stretch) (bs : List (Trie ℕ)) 
       omega (
         arith,
         sym (length-map bs shape) ∙ ap length (r .directory .levels-are),
-        tower-length (h .theta) (shape (numbers b0)) (sizes-limits _ _ _ _ (r .sizes) .theta-low),
+        tower-length (h .theta) (shape (numbers b0)) (sizes-limits _ _ _ _ (r .sized .sizes) .theta-low),
         height-shape (numbers b0),
         height-relabel (λ (x : Stretch). x .0) b0,
         width-within f,

@@ -48,9 +48,7 @@ example-holds =
       b0 = stretches;
       bs = directory;
       rep = record {
-        sizes = refl;
-        spare = refl;
-        long = omega arith;
+        sized = record { sizes = refl; spare = refl; long = omega arith };
         nodes-fit = omega arith;
         pages-fit = omega arith;
         directory = record {

@@ -18,7 +18,8 @@ use Rattle.store.specs.declared.Format.{Format}
 use Rattle.store.specs.declared.Head.{Head}
 use Rattle.store.specs.Head.{word, zeros, headOf, nodeWords, pageWords, size, nodeStart, pageStart, pageAt}
 use Rattle.represent.specs.Image.{nodeAt}
-use Rattle.represent.specs.Frame.{nodeOf, pageOf, sizeOf, Sized, putNode, putPage, putHead, putFilled}
+use Rattle.represent.specs.Rep.{sizeOf, Sized}
+use Rattle.represent.specs.Frame.{nodeOf, pageOf, putNode, putPage, putHead, putFilled}
 
 -- blocks of one size, counted from 1, lie beside one another
 blocks-apart : (base step x n : ℕ) → 1 ≤ x → 1 ≤ n → (x ≡ n → ⊥)

@@ -1,5 +1,5 @@
 -- A store that holds a set keeps the head rule. The root is the one label of the last level, so a taken node; the levels are those of the tree of the
--- set, which are at most L.
+-- set, which are at most L. Its counts are the tree's, since each number taken labels one leaf.
 use mathlib.Core.Path.{_≡_, refl, sym, ap, _∙_}
 use mathlib.Core.Bool.{true}
 use mathlib.Core.List.{List, [], _∷_}
@@ -10,11 +10,9 @@ use lib.Dec.{leb}
 use lib.ListN.{length, length-map}
 use lib.Pow.{pow-mono}
 use borrow.Author.Tests.{le-leb, lt-leb}
-use Rattle.lists.specs.Keyed.{Bounded}
-use Rattle.lists.proofs.ListLaws.{all-map}
 use Rattle.tree.specs.Trie.{Trie, leaf, fork, shape}
-use Rattle.tree.specs.Tower.{levels}
-use Rattle.tree.specs.Build.{build}
+use Rattle.tree.specs.Tower.{levels, allLeaves, nodes}
+use Rattle.tree.specs.Build.{build, pages}
 use Rattle.tree.specs.Book.{logBelow, log2}
 use Rattle.tree.proofs.Promises.{levels-within}
 use Rattle.store.specs.declared.Format.{Format}
@@ -24,13 +22,13 @@ use Rattle.store.specs.declared.Item.{Item}
 use Rattle.store.specs.Format.{width}
 use Rattle.store.specs.Head.{headOf}
 use Rattle.store.proofs.HeadLaws.{Limits, sizes-limits, Counts, counts-are, rule-is}
-use Rattle.page.specs.Page.{lawfulItem}
-use Rattle.page.proofs.Laws.{lawful-key}
 use Rattle.represent.specs.Labelled.{relabel, occs}
 use Rattle.represent.specs.Image.{nodeAt}
 use Rattle.represent.specs.Rep.{numbers, keyOf, Nodes, Links, Rep, Holds}
-use Rattle.represent.specs.Promises.{HeadPasses}
+use Rattle.represent.specs.Promises.{HeadPasses, CountsAreTheTrees}
 use Rattle.represent.proofs.LabelLaws.{label-low, label-high, ind-self}
+use Rattle.represent.proofs.ListingLaws.{lawful-bounded}
+use Rattle.represent.proofs.Counting.{rep-nodes, rep-pages}
 
 -- the logarithm of the capacity is below the width
 log-lt : (n C m : ℕ) → 1 ≤ m → C < 2 ^ m → logBelow n C < m
@@ -77,17 +75,18 @@ module _ (f : Format) (s : List ℕ) (S : List Item) (w : Holds f s S) where
   r = w .rep
 
   limits : Limits (h .theta) (h .capacity) (h .nodes) (h .pages)
-  limits = sizes-limits _ _ _ _ (r .sizes)
+  limits = sizes-limits _ _ _ _ (r .sized .sizes)
+
+  -- the shape of the levels' lowest is that of the tree
+  shape-is : shape (numbers (w .b0)) ≡ shape (build keyOf (h .capacity) (width f) S)
+  shape-is = shape-relabel (λ x. x .0) (w .b0) ∙ sym (shape-relabel (λ x. x .1) (w .b0)) ∙ ap shape (w .tree)
 
   levels-are : h .levels ≡ levels (h .theta) (shape (build keyOf (h .capacity) (width f) S))
   levels-are =
       top-level (h .theta) (nodeAt s h) (h .root) (h .levels) 0 (numbers (w .b0)) (w .bs) (r .directory .nodes)
       ∙ omega (arith, length-map (w .bs) shape)
       ∙ ap length (r .directory .levels-are)
-      ∙ ap (levels (h .theta)) (shape-relabel (λ x. x .0) (w .b0) ∙ sym (shape-relabel (λ x. x .1) (w .b0)) ∙ ap shape (w .tree))
-
-  bounded : Bounded keyOf (2 ^ width f) S
-  bounded = all-map (λ it. lawfulItem f it ≡ true) (λ it. keyOf it < 2 ^ width f) S (λ it e. lawful-key f it e .1) (w .lawful)
+      ∙ ap (levels (h .theta)) shape-is
 
   log-low : log2 (h .capacity) < width f
   log-low = omega (arith, width-low f, log-lt (h .capacity) (h .capacity) 7 (omega arith) (omega (arith, limits .capacity)))
@@ -105,7 +104,7 @@ module _ (f : Format) (s : List ℕ) (S : List Item) (w : Holds f s S) where
         root = high;
         levels-low = p .1;
         levels = rw levels-are
-            (levels-within keyOf (width f) (h .theta) (h .capacity) (limits .theta-low) (limits .capacity-low) log-low S (w .sorted) bounded);
+            (levels-within keyOf (width f) (h .theta) (h .capacity) (limits .theta-low) (limits .capacity-low) log-low S (w .sorted) (lawful-bounded f S (w .lawful)));
       }
 
 yes-leb : {a b : ℕ} → a ≤ b → true ≡ leb a b
@@ -115,6 +114,15 @@ pub head-passes : HeadPasses
 head-passes f s S w =
     let c = counts f s S w in
     sym
-    (rule-is f s (headOf s) true true true true refl (sym (w .rep .sizes)) (sym (w .rep .spare)) (yes-leb (w .rep .long))
+    (rule-is f s (headOf s) true true true true refl (sym (w .rep .sized .sizes)) (sym (w .rep .sized .spare)) (yes-leb (w .rep .sized .long))
     (counts-are f (headOf s) true true true true true true true (yes-leb (c .taken-low)) (yes-leb (c .taken)) (yes-leb (c .filled))
     (yes-leb (c .root-low)) (yes-leb (c .root)) (yes-leb (c .levels-low)) (yes-leb (c .levels))))
+
+pub counts-are-the-trees : CountsAreTheTrees
+counts-are-the-trees f s S w = (
+  levels-are f s S w,
+  rep-nodes f s (w .b0) (w .bs) (w .rep)
+      ∙ ap allLeaves (w .rep .directory .levels-are)
+      ∙ ap (nodes (headOf s .theta)) (shape-is f s S w),
+  rep-pages f s (w .b0) (w .bs) (w .rep) ∙ ap pages (w .tree),
+)

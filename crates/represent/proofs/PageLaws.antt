@@ -26,11 +26,11 @@ use Rattle.store.specs.Head.{headOf, pageWords, pageAt}
 use Rattle.page.specs.Page.{lawfulItem}
 use Rattle.represent.specs.Labelled.{relabel, Each, ind, occ, OneForOne}
 use Rattle.represent.specs.Image.{pageImage}
-use Rattle.represent.specs.Rep.{Stretch, numbers, keyOf, PageIs, Lawful, Keyed, Pages}
+use Rattle.represent.specs.Rep.{Stretch, numbers, keyOf, PageIs, Lawful, Keyed, Pages, Sized}
 use Rattle.represent.proofs.LabelLaws.{label-high, ind-eq, ind-self, ind-other, occ-graft, ind-at, occ-at, each-at, leafAt-relabel}
 use Rattle.represent.proofs.Records.{keyed-own}
 use Rattle.represent.specs.Insertion.{stretchAt, leftAt, prefixAt, nextBit, halfAt, replacedAt, Fit, putItems, takeItems}
-use Rattle.represent.specs.Frame.{pageOf, Sized}
+use Rattle.represent.specs.Frame.{pageOf}
 use Rattle.represent.proofs.Lengths.{length-pageImage}
 use Rattle.represent.proofs.Frame.{sized-long, putPage-head, putPage-sized, putPage-same, putPage-other}
 use Rattle.represent.proofs.Frame.{putFilled-sizes, putFilled-filled, putFilled-pages}

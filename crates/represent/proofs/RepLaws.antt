@@ -23,10 +23,10 @@ module _ (f : Format) (s : List ℕ) (b0 : Trie Stretch) (bs : List (Trie ℕ)) 
   high = omega (arith, label-high (headOf s .taken) (λ x. occs x bs) n (r .directory .oneForOne .none) o, r .nodes-fit)
 
   pub rep-shown : Shown s (nodeStart (headOf s) n) (headOf s .theta) level v
-  rep-shown = node-shown f s (headOf s) n level v low high (r .long) is
+  rep-shown = node-shown f s (headOf s) n level v low high (r .sized .long) is
 
   pub rep-back : backWord s (nodeStart (headOf s) n) ≡ backWord (nodeAt s (headOf s) n) 0
-  rep-back = node-back f s (headOf s) n level v low high (r .long) is
+  rep-back = node-back f s (headOf s) n level v low high (r .sized .long) is
 
   pub rep-forward : forwardWord s (nodeStart (headOf s) n) ≡ forwardWord (nodeAt s (headOf s) n) 0
-  rep-forward = node-forward f s (headOf s) n level v low high (r .long) is
+  rep-forward = node-forward f s (headOf s) n level v low high (r .sized .long) is

@@ -14,7 +14,7 @@ use Rattle.tree.proofs.TrieLaws.{graft-leafAt, shape-graft}
 use Rattle.tree.proofs.CarryLaws.{bump-slack, bump-full}
 use Rattle.represent.specs.Labelled.{occs, OneForOne, under}
 use Rattle.represent.specs.Rep.{backOf, forwardOf, Links, Directory}
-use Rattle.represent.specs.Round.{NodeOps, NodeLaws, StoreOps, StoreLaws, Step, stepAt, pathOf, grown, halveFirst, climb, round, aimAt, carried, RoundKeeps, AimKeeps}
+use Rattle.represent.specs.Round.{NodeOps, NodeLaws, StoreOps, StoreLaws, Step, stepAt, pathOf, grown, halveFirst, climb, round, aimAt, carried, RoundCarries, AimKeeps}
 use Rattle.represent.proofs.Grafts.{forked}
 use Rattle.represent.proofs.Chain.{count-labels, linked-frame}
 use Rattle.represent.proofs.CarriedLaws.{carried-slack, carried-full, carried-levels, carried-one, carried-old, one-numbered}
@@ -82,9 +82,9 @@ module _ {θ : ℕ} {I : NodeOps} {O : StoreOps} (A : NodeLaws θ I) (B : StoreL
             )
       ]
 
-pub round-keeps : (θ : ℕ) (I : NodeOps) (O : StoreOps) → RoundKeeps θ I O
-round-keeps θ I O A B pos s u [] key a c ok d fits = absurd (d .links)
-round-keeps θ I O A B pos s u (b ∷ bs) key a c ok d fits =
+pub round-carries : (θ : ℕ) (I : NodeOps) (O : StoreOps) → RoundCarries θ I O
+round-carries θ I O A B pos s u [] key a c ok d fits = absurd (d .links)
+round-carries θ I O A B pos s u (b ∷ bs) key a c ok d fits =
     let z = round-climbed A B pos s u b bs key a c (ready ok (omega arith) d) (d .links) fits in
     record {
       directory = record {

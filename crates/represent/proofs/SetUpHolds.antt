@@ -159,9 +159,7 @@ module _ (f : Format) (θ C N P : ℕ) (z : List ℕ) (law : lawfulSizes θ C N 
         b0 = leaf (0, []);
         bs = leaf 1 ∷ [];
         rep = record {
-          sizes = law;
-          spare = zero-head;
-          long = long;
+          sized = record { sizes = law; spare = zero-head; long = long };
           nodes-fit = limits .nodes-low;
           pages-fit = omega arith;
           directory = directory;
@@ -174,7 +172,7 @@ module _ (f : Format) (θ C N P : ℕ) (z : List ℕ) (law : lawfulSizes θ C N 
         lawful = tt;
       }
 
-pub setup-holds : SetUpHolds
-setup-holds f θ C N P s law room =
+pub set-up-holds : SetUpHolds
+set-up-holds f θ C N P s law room =
     subst (λ (x : List ℕ). Holds f x []) (done f θ C N P (size f θ C N P) s (setUpWords f θ C N P ++ drop (size f θ C N P) s) law refl room refl .1)
     (none-held f θ C N P (drop (size f θ C N P) s) law)

@@ -20,9 +20,9 @@ use Rattle.store.specs.Head.{headOf, nodeWords, pageWords}
 use Rattle.store.proofs.HeadLaws.{sizes-limits}
 use Rattle.represent.specs.Labelled.{occs}
 use Rattle.represent.specs.Image.{pageImage}
-use Rattle.represent.specs.Rep.{Stretch, numbers, Directory, Pages, Rep}
+use Rattle.represent.specs.Rep.{Stretch, numbers, Directory, Pages, Rep, sizeOf, Sized}
 use Rattle.represent.specs.Round.{NodeOps, StoreOps, Rounded, pathOf, round, carried}
-use Rattle.represent.specs.Frame.{nodeOf, pageOf, sizeOf, Sized, putFilled}
+use Rattle.represent.specs.Frame.{nodeOf, pageOf, putFilled}
 use Rattle.represent.specs.Insertion.{Ok, wordStore, stretchAt, leftAt, prefixAt, halfAt, replacedAt, Fit, putItems, takeItems, Stepped, Roomy, UpperKeeps, LowerKeeps, BothKeep, PutKeeps, TakeKeeps}
 use Rattle.represent.proofs.LabelLaws.{label-low, label-high, leafAt-relabel}
 use Rattle.represent.proofs.Level.{moved-links, nodes-frame, links-frame}
@@ -30,7 +30,7 @@ use Rattle.represent.proofs.Frame.{SameSizes, putPage-nodes, putPage-be
 use Rattle.represent.proofs.Frame.{putFilled-sizes, putFilled-root, putFilled-levels, putFilled-taken, putFilled-sized, putFilled-nodes, putFilled-beyond}
 use Rattle.represent.proofs.WordStore.{others-sizes, others-filled, others-pages, others-beyond, store-laws}
 use Rattle.represent.proofs.PageLaws.{relabel-graft, number-high, half-fits, own-low, put-head, put-length, put-sized, put-other, take-filled, take-other, pages-frame, pages-upper, pages-lower, pages-both, pages-put, pages-take}
-use Rattle.represent.proofs.RoundLaws.{round-keeps, aim-keeps}
+use Rattle.represent.proofs.RoundLaws.{round-carries, aim-keeps}
 
 -- a directory goes by the node blocks in use alone
 directory-frame : (θ : ℕ) (node node′ : ℕ → List ℕ) (h h′ : Head) (u : Trie ℕ) (bs : List (Trie ℕ))
@@ -67,9 +67,6 @@ record PageStep (f : Format) (s s′ : List ℕ) (b0 : Trie Stretch) : Type 0 wh
 size-same : (f : Format) (s s′ : List ℕ) → SameSizes (headOf s) (headOf s′) → sizeOf f s′ ≡ sizeOf f s
 size-same f s s′ e = rw (e .theta, e .capacity, e .nodes, e .pages)
 
-rep-sized : (f : Format) (s : List ℕ) (b0 : Trie Stretch) (bs : List (Trie ℕ)) → Rep f s b0 bs → Sized f s
-rep-sized f s b0 bs r = record { sizes = r .sizes; spare = r .spare; long = r .long }
-
 module _ (f : Format) (s : List ℕ) (b0 b0′ : Trie Stretch) (bs : List (Trie ℕ)) (r : Rep f s b0 bs) (s₁ : List ℕ) (p : PageStep f s s₁ b0′) where
   abbrev θ : ℕ
   θ = headOf s .theta
@@ -105,9 +102,7 @@ module _ (f : Format) (s : List ℕ) (b0 b0′ : Trie Stretch) (bs : List (Trie 
     now : Rep f s₂ b0′ bs′
     now =
         record {
-          sizes = w .changed .ok .sized .sizes;
-          spare = w .changed .ok .sized .spare;
-          long = w .changed .ok .sized .long;
+          sized = w .changed .ok .sized;
           nodes-fit = omega (arith, w .changed .now, p .kept .taken-same, sizes-now .nodes, p .kept .sizes-same .nodes);
           pages-fit = omega (arith, filled-now, sizes-now .pages, p .pages-fit);
           directory =
@@ -216,8 +211,8 @@ module _ (f : Format) (s : List ℕ) (b0 : Trie Stretch) (bs : List (Trie ℕ)) 
   abbrev m : ℕ
   m = suc (headOf s .filled)
 
-  sized : Sized f s
-  sized = rep-sized f s b0 bs r
+  abbrev sized : Sized f s
+  sized = r .sized
 
   n-high : n ≤ headOf s .pages
   n-high = omega (arith, number-high f s (headOf s) b0 key (r .pages) narrow, r .pages-fit)
@@ -327,8 +322,8 @@ module _ (f : Format) (I : NodeOps) (s : List ℕ) (b0 : Trie Stretch) (bs : Lis
       stepped f s b0 (replacedAt f b0 key (pair x z)) bs (y .rep) s₁ p _ (bumpCost (headOf s .theta) (locals (numbers b0) bs place)) _
       (rounded-same (headOf s .theta) (wordStore f (headOf s .theta)) (sym (numbers-graft b0 place (pair x z)))
       (ap (λ t. carried (headOf s .theta) t (numbers b0) bs place) (p .kept .taken-same))
-      (round-keeps (headOf s .theta) I (wordStore f (headOf s .theta)) (y .laws) (store-laws f (headOf s .theta))
-      (sizes-limits _ _ _ _ (y .rep .sizes) .theta-low) s₁ (numbers b0) bs place (x .0) (z .0)
+      (round-carries (headOf s .theta) I (wordStore f (headOf s .theta)) (y .laws) (store-laws f (headOf s .theta))
+      (sizes-limits _ _ _ _ (y .rep .sized .sizes) .theta-low) s₁ (numbers b0) bs place (x .0) (z .0)
       (step-ok f s b0 _ bs (y .rep) s₁ p) (step-directory f s b0 _ bs (y .rep) s₁ p)
       (omega (arith, y .room, p .kept .taken-same, p .kept .sizes-same .nodes))))
       (y .room)

@@ -16,7 +16,8 @@ use Rattle.store.specs.Node.{backWord, forwardWord}
 use Rattle.represent.specs.Image.{NodeIs}
 use Rattle.represent.specs.Round.{StoreLaws}
 use Rattle.represent.specs.Insertion.{Others, nodesEnd, others, Ok, wordStore}
-use Rattle.represent.specs.Frame.{nodeOf, pageOf, sizeOf, putNode, putHead}
+use Rattle.represent.specs.Rep.{sizeOf}
+use Rattle.represent.specs.Frame.{nodeOf, pageOf, putNode, putHead}
 use Rattle.represent.proofs.Frame.{SameSizes, sized-long, putNode-head, putNode-sized, putNode-same, putNode-other, putNode-drop}
 use Rattle.represent.proofs.Frame.{putHead-sizes, putHead-filled, putHead-root, putHead-levels, putHead-taken}
 use Rattle.represent.proofs.Frame.{putHead-sized, putHead-nodes, putHead-drop}

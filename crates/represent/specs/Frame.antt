@@ -1,20 +1,16 @@
 -- What an insertion writes into a store's words: whole blocks, and words of the head.
 --   nodeOf s n       == the words of node block n, where the store's own head places it
 --   pageOf f s p     == the words of page block p, likewise
---   sizeOf f s       == the words of a store of the sizes in its head
---   Sized f s        == the head's sizes are lawful, its eight spare words are zero, and the store is long enough
 --   putNode s n ws   == s with node block n replaced by the words ws
 --   putPage f s p ws == s with page block p replaced by the words ws
 --   putHead s root levels taken == s with these three words of the head
 --   putFilled s filled == s with this count of pages taken in the head
-use mathlib.Core.Path.{_≡_}
-use mathlib.Core.Bool.{true}
 use mathlib.Core.List.{List}
-use Prim.Native.Nat.{ℕ, _≤_}
-use lib.ListN.{length, set}
+use Prim.Native.Nat.{ℕ}
+use lib.ListN.{set}
 use Rattle.lists.specs.Lists.{replaced}
 use Rattle.store.specs.declared.Format.{Format}
-use Rattle.store.specs.Head.{headOf, lawfulSizes, zeros, size, nodeWords, nodeStart, pageWords, pageStart, pageAt}
+use Rattle.store.specs.Head.{headOf, nodeWords, nodeStart, pageWords, pageStart, pageAt}
 use Rattle.represent.specs.Image.{nodeAt}
 
 abbrev pub nodeOf : List ℕ → ℕ → List ℕ
@@ -22,14 +18,6 @@ nodeOf s n = nodeAt s (headOf s) n
 
 abbrev pub pageOf : Format → List ℕ → ℕ → List ℕ
 pageOf f s p = pageAt f s (headOf s) p
-
-abbrev pub sizeOf : Format → List ℕ → ℕ
-sizeOf f s = size f (headOf s .theta) (headOf s .capacity) (headOf s .nodes) (headOf s .pages)
-
-pub record Sized (f : Format) (s : List ℕ) : Type 0 where
-  pub sizes : lawfulSizes (headOf s .theta) (headOf s .capacity) (headOf s .nodes) (headOf s .pages) ≡ true
-  pub spare : zeros s 8 8 ≡ true
-  pub long : sizeOf f s ≤ length s
 
 unfoldable pub putNode : List ℕ → ℕ → List ℕ → List ℕ
 putNode s n ws = replaced (nodeStart (headOf s) n) (nodeWords (headOf s .theta)) ws s

@@ -33,9 +33,9 @@ use Rattle.store.specs.Format.{width}
 use Rattle.store.specs.Head.{headOf, nodeWords}
 use Rattle.page.specs.Page.{lawfulItem}
 use Rattle.represent.specs.Image.{pageImage}
-use Rattle.represent.specs.Rep.{Stretch, numbers, keyOf, Rep}
+use Rattle.represent.specs.Rep.{Stretch, numbers, keyOf, Rep, sizeOf, Sized}
 use Rattle.represent.specs.Round.{NodeOps, NodeLaws, StoreOps, stepAt, pathOf, round, aimAt, carried}
-use Rattle.represent.specs.Frame.{nodeOf, sizeOf, Sized, putNode, putPage, putHead, putFilled}
+use Rattle.represent.specs.Frame.{nodeOf, putNode, putPage, putHead, putFilled}
 
 -- all but the node blocks and the three words of the head
 pub record Others : Type 0 where

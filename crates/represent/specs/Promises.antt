@@ -1,6 +1,7 @@
 -- What is promised of stores that stand for a tree, each as a type; proofs/Promises.antt proves them.
 --   SetUpHolds       == a store just set up holds the tree of no record
 --   HeadPasses       == a store that holds a set keeps the head rule; so its levels are at most L
+--   CountsAreTheTrees == its levels, nodes taken and pages taken are those of the tree
 --   NodesPass, PagesPass == every node and every page of a represented store keeps its rule
 --   AgreesPasses     == the page at a key agrees with it in the used bits
 --   NeighbourPasses  == the terminal's forward neighbour, if any, is another taken level-1 node that links back
@@ -17,7 +18,9 @@ use mathlib.Core.List.{List, [], _∷_, _++_, List·Memᴰ}
 use Prim.Native.Nat.{ℕ, suc, _-_, _^_, _≤_, _<_}
 use lib.ListN.{length, replicate}
 use Rattle.lists.specs.Bits.{bits}
-use Rattle.tree.specs.Trie.{Trie, height, leafAt, depth}
+use Rattle.tree.specs.Trie.{Trie, shape, height, leafAt, depth}
+use Rattle.tree.specs.Tower.{levels, nodes}
+use Rattle.tree.specs.Build.{build, pages}
 use Rattle.store.specs.declared.Format.{Format}
 use Rattle.store.specs.declared.Head.{Head}
 use Rattle.store.specs.declared.Item.{Item}
@@ -33,7 +36,7 @@ use Rattle.search.specs.Next.{nextReply}
 use Rattle.search.specs.Range.{rangeOf}
 use Rattle.search.specs.Summary.{summaryOf}
 use Rattle.represent.specs.Labelled.{Each, under}
-use Rattle.represent.specs.Rep.{Stretch, numbers, Rep, Holds}
+use Rattle.represent.specs.Rep.{Stretch, numbers, keyOf, Rep, Holds}
 use Rattle.represent.specs.Listing.{findIn, nextIn, rangeIn, summaryIn}
 use Rattle.represent.specs.Clauses.{Clauses}
 
@@ -43,6 +46,14 @@ SetUpHolds =
 
 abbrev pub HeadPasses : Type 0
 HeadPasses = (f : Format) (s : List ℕ) (S : List Item) → Holds f s S → headRule f s ≡ true
+
+-- the counts in the head: levels, nodes taken and pages taken
+abbrev pub CountsAreTheTrees : Type 0
+CountsAreTheTrees =
+    (f : Format) (s : List ℕ) (S : List Item) → Holds f s S
+    → (headOf s .levels ≡ levels (headOf s .theta) (shape (build keyOf (headOf s .capacity) (width f) S)))
+    × (headOf s .taken ≡ nodes (headOf s .theta) (shape (build keyOf (headOf s .capacity) (width f) S)))
+    × (headOf s .filled ≡ pages (build keyOf (headOf s .capacity) (width f) S))
 
 -- the node rule at each node of the levels above k
 abbrev pub RulesAbove : Head → List ℕ → ℕ → List (Trie ℕ) → Type 0

@@ -8,6 +8,8 @@
 --   PageIs f s h x    == the page block of a level-0 stretch x
 --   Keyed w q t       == every record stands in the stretch of its key; t is the stretch with the prefix q, which leaves w bits
 --   Pages f s h b0    == the page blocks in use are those of b0
+--   sizeOf f s        == the words of a store of the sizes in its head
+--   Sized f s         == the head's sizes are lawful, its eight spare words are zero, and the store is long enough
 --   Rep f s b0 bs     == the words s stand for the tries b0 and bs
 --   Holds f s S       == the store s holds the tree of the ascending list S
 use mathlib.Core.Path.{_≡_}
@@ -99,12 +101,18 @@ module _ (f : Format) (s : List ℕ) (h : Head) where
     pub keyed : Keyed (width f) 0 b0
     pub oneForOne : OneForOne (h .filled) (λ p. occ p (numbers b0))
 
+abbrev pub sizeOf : Format → List ℕ → ℕ
+sizeOf f s = size f (headOf s .theta) (headOf s .capacity) (headOf s .nodes) (headOf s .pages)
+
+-- "θ (1 to 6), page capacity C (1 to 64), node blocks N and page blocks P (1 to 4,096 each)", "eight zeros", "the slice has the size"
+pub record Sized (f : Format) (s : List ℕ) : Type 0 where
+  pub sizes : lawfulSizes (headOf s .theta) (headOf s .capacity) (headOf s .nodes) (headOf s .pages) ≡ true
+  pub spare : zeros s 8 8 ≡ true
+  pub long : sizeOf f s ≤ length s
+
 module _ (f : Format) (s : List ℕ) where
   pub record Rep (b0 : Trie Stretch) (bs : List (Trie ℕ)) : Type 0 where
-    -- "θ (1 to 6), page capacity C (1 to 64), node blocks N and page blocks P (1 to 4,096 each)", "eight zeros", "the slice has the size"
-    pub sizes : lawfulSizes (headOf s .theta) (headOf s .capacity) (headOf s .nodes) (headOf s .pages) ≡ true
-    pub spare : zeros s 8 8 ≡ true
-    pub long : size f (headOf s .theta) (headOf s .capacity) (headOf s .nodes) (headOf s .pages) ≤ length s
+    pub sized : Sized f s
     pub nodes-fit : headOf s .taken ≤ headOf s .nodes
     pub pages-fit : headOf s .filled ≤ headOf s .pages
     pub directory : Directory (headOf s .theta) (nodeAt s (headOf s)) (headOf s .root) (headOf s .levels) (headOf s .taken) (numbers b0) bs

@@ -15,7 +15,7 @@
 --   round s path a c   == the same from level 1
 --   aimAt s p q        == the run at the step p points to q
 --   carried θ m u bs k == the levels bs over u after u's stretch at the key is halved, where the numbers up to m are taken
---   RoundKeeps, AimKeeps == a round, and another pointer at the key, keep the directory
+--   RoundCarries, AimKeeps == a round, and another pointer at the key, keep the directory
 use mathlib.Core.Path.{_≡_}
 use mathlib.Core.Bool.{Bool, true, false}
 use mathlib.Core.List.{List, [], _∷_}
@@ -200,8 +200,8 @@ module _ (θ : ℕ) (I : NodeOps) (O : StoreOps) where
   open StoreOps O using (S, Ok, node, root, levels, taken, cap)
 
   -- "At a full page: halve it on the next bit": the stretch at the key becomes two, with the pointers a and c. Blocks not taken stay.
-  abbrev pub RoundKeeps : Type 0
-  RoundKeeps =
+  abbrev pub RoundCarries : Type 0
+  RoundCarries =
       NodeLaws θ I → StoreLaws θ O → 1 ≤ θ
       → (s : S) (u : Trie ℕ) (bs : List (Trie ℕ)) (key : Key) (a c : ℕ)
       → Ok s → Directory θ (node s) (root s) (levels s) (taken s) u bs → taken s + bumpCost θ (locals u bs key) ≤ cap s
