@@ -12,8 +12,8 @@ use Rattle.store.specs.declared.Format.{Format}
 use Rattle.store.specs.declared.Item.{Item}
 use Rattle.store.specs.Format.{words}
 use Rattle.store.specs.Head.{nodeWords, pageWords}
-use Rattle.search.specs.Range.{flat}
-use Rattle.search.proofs.FillLaws.{length-flat}
+use Rattle.scan.specs.Range.{flat}
+use Rattle.scan.proofs.FillLaws.{length-flat}
 use Rattle.represent.specs.Image.{entryWords, nodeImage, pageImage}
 
 length-entries : (es : List (Entry ℕ)) → length (entryWords es) ≡ 2 * length es

@@ -33,9 +33,9 @@ use Rattle.totals.specs.declared.Totals.{Totals}
 use Rattle.totals.specs.Totals.{noTotals, updatedOf, totalsOf}
 use Rattle.search.specs.Find.{soughtReply}
 use Rattle.search.specs.Next.{nextOf}
-use Rattle.search.specs.Range.{Ranged, ended, also, rangeFrom, ranged, listed, rangeOf}
-use Rattle.search.specs.Summary.{done, sumFrom, summed, summingReply, summaryOf}
-use Rattle.search.proofs.RangeLaws.{from-nothing, from-passed, from-full, from-last, from-on, adds-nothing, adds-passed, adds-last, adds-on}
+use Rattle.scan.specs.Range.{Ranged, ended, also, rangeFrom, ranged, listed, rangeOf}
+use Rattle.scan.specs.Summary.{done, sumFrom, summed, summingReply, summaryOf}
+use Rattle.scan.proofs.RangeLaws.{from-nothing, from-passed, from-full, from-last, from-on, adds-nothing, adds-passed, adds-last, adds-on}
 use Rattle.represent.specs.Rep.{keyOf}
 use Rattle.represent.specs.Listing.{firstWhere, within, firstKey, findIn, nextIn, rangedIn, rangeIn, summaryIn}
 use Rattle.represent.specs.Promises.{Sound}

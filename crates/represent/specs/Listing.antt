@@ -18,8 +18,8 @@ use Rattle.totals.specs.Totals.{noTotals, totalsOf}
 use Rattle.search.specs.declared.Sought.{Sought}
 use Rattle.search.specs.declared.Sought.the-variants.{Record, Nothing}
 use Rattle.search.specs.Find.{Reply, soughtReply}
-use Rattle.search.specs.Range.{Ranged, After, refused, listed}
-use Rattle.search.specs.Summary.{SummaryReply, done, summingReply}
+use Rattle.scan.specs.Range.{Ranged, After, refused, listed}
+use Rattle.scan.specs.Summary.{SummaryReply, done, summingReply}
 
 unfoldable pub firstWhere : (Item → Bool) → List Item → Sought
 firstWhere test [] = Nothing
@@ -56,10 +56,10 @@ rangeIn f S low high out =
 unfoldable pub summaryIn : List Item → ℕ → ℕ → ℕ → SummaryReply
 summaryIn S low high today =
     elim (ltb high low) [
-      | true ↦ Rattle.search.specs.Summary.refused 7
+      | true ↦ Rattle.scan.specs.Summary.refused 7
       | false ↦
           elim (lawfulDay today) [
-            | false ↦ Rattle.search.specs.Summary.refused 6
+            | false ↦ Rattle.scan.specs.Summary.refused 6
             | true ↦ summingReply (done (totalsOf noTotals (within low high S) today))
           ]
     ]

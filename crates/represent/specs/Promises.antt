@@ -33,8 +33,8 @@ use Rattle.search.specs.declared.Step.{Step}
 use Rattle.search.specs.Descent.{noStep, descent}
 use Rattle.search.specs.Find.{findReply}
 use Rattle.search.specs.Next.{nextReply}
-use Rattle.search.specs.Range.{rangeOf}
-use Rattle.search.specs.Summary.{summaryOf}
+use Rattle.scan.specs.Range.{rangeOf}
+use Rattle.scan.specs.Summary.{summaryOf}
 use Rattle.represent.specs.Labelled.{Each, under}
 use Rattle.represent.specs.Rep.{Stretch, numbers, keyOf, Rep, Holds}
 use Rattle.represent.specs.Listing.{findIn, nextIn, rangeIn, summaryIn}

@@ -9,10 +9,10 @@ use lib.ListN.{length, drop, length-append}
 use Rattle.store.specs.declared.Format.{Format}
 use Rattle.store.specs.declared.Item.{Item}
 use Rattle.store.specs.Format.{words}
-use Rattle.search.specs.Range.{flat, firsts}
-use Rattle.search.proofs.FillLaws.{firsts-none, firsts-lost, room-more, part-room, length-filled, fill-more, walk-more, walk-short, walk-end, fill-end}
-use Rattle.search.proofs.fill.Statement.{statement}
-use Rattle.search.proofs.fill.Tie as tie
+use Rattle.scan.specs.Range.{flat, firsts}
+use Rattle.scan.proofs.FillLaws.{firsts-none, firsts-lost, room-more, part-room, length-filled, fill-more, walk-more, walk-short, walk-end, fill-end}
+use Rattle.scan.proofs.fill.Statement.{statement}
+use Rattle.scan.proofs.fill.Tie as tie
 
 abbrev Inv-loop : tie.InvT-loop
 Inv-loop store f head low n out₀ w strict₀ k₀ at₀ i₀ out strict k at i = (its : List Item) × (length its ≡ i) × (i ≤ n) × (at ≡ words f * i) × (length out ≡ length out₀) × (out ≡ flat f its ++ drop (words f * i) out₀) × (its ++ firsts f store head strict k (n - i) ≡ firsts f store head false low n) × (w ≡ words f)

@@ -19,11 +19,11 @@ use Rattle.store.specs.declared.Head.{Head}
 use Rattle.store.specs.declared.Item.{Item}
 use Rattle.store.specs.Format.{words}
 use Rattle.store.specs.Head.{headOf, headRule}
 use Rattle.search.specs.declared.Sought.the-variants.{Record, Nothing, Damaged}
-use Rattle.search.specs.declared.Listing.{Listing}
-use Rattle.search.specs.declared.RangeAnswer.{RangeAnswer}
-use Rattle.search.specs.declared.RangeAnswer.the-variants.{Listed, RangeHeadBroken, LowAboveHigh, RangeDamaged}
+use Rattle.scan.specs.declared.Listing.{Listing}
+use Rattle.scan.specs.declared.RangeAnswer.{RangeAnswer}
+use Rattle.scan.specs.declared.RangeAnswer.the-variants.{Listed, RangeHeadBroken, LowAboveHigh, RangeDamaged}
 use Rattle.search.specs.Next.{nextOf}
 
 -- (a plot's key is one word)
 unfoldable pub itemWords : Format → Item → List ℕ

@@ -10,8 +10,8 @@ use Rattle.store.specs.declared.Format.{Format}
 use Rattle.store.specs.declared.Head.{Head}
 use Rattle.store.specs.Head.{headOf, headRule}
 use Rattle.store.proofs.HeadLaws.{head-facts, levels-within}
-use Rattle.search.specs.declared.Summing.{Summing}
-use Rattle.search.specs.Summary.{refused, summed, summingReply, summaryOf}
+use Rattle.scan.specs.declared.Summing.{Summing}
+use Rattle.scan.specs.Summary.{refused, summed, summingReply, summaryOf}
 
 -- what a store that keeps the head rule has, as the readings ask it
 pub readable : (f : Format) (s : List ℕ) (h : Head) → h ≡ headOf s → headRule f s ≡ true

@@ -14,11 +14,11 @@ use Rattle.store.specs.declared.Head.{Head}
 use Rattle.store.specs.Head.{headOf, headRule}
 use Rattle.totals.specs.declared.Totals.{Totals}
 use Rattle.totals.specs.Totals.{noTotals, updatedOf}
 use Rattle.search.specs.declared.Sought.the-variants.{Record, Nothing, Damaged}
-use Rattle.search.specs.declared.Summing.{Summing}
-use Rattle.search.specs.declared.SummaryAnswer.{SummaryAnswer}
-use Rattle.search.specs.declared.SummaryAnswer.the-variants.{Summed, SummaryHeadBroken, SummaryLowAboveHigh, TodayOutside, SummaryDamaged}
+use Rattle.scan.specs.declared.Summing.{Summing}
+use Rattle.scan.specs.declared.SummaryAnswer.{SummaryAnswer}
+use Rattle.scan.specs.declared.SummaryAnswer.the-variants.{Summed, SummaryHeadBroken, SummaryLowAboveHigh, TodayOutside, SummaryDamaged}
 use Rattle.search.specs.Next.{nextOf}
 
 abbrev pub done : Totals → Summing
 done t = record { ok = true; totals = t }

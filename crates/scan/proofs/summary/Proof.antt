@@ -4,9 +4,9 @@ use mathlib.Core.Path.{_∙_}
 use native.Mathlib.Omega.{arith}
 use borrow.Author.Tests.{not-true, not-false}
 use Rattle.lists.proofs.Tests.{passed, failed}
-use Rattle.search.proofs.SummaryLaws.{readable, summary-head, summary-order, summary-day, summary-is, summing-bad, summing-good}
-use Rattle.search.proofs.summary.Statement.{statement}
-use Rattle.search.proofs.summary.Tie as tie
+use Rattle.scan.proofs.SummaryLaws.{readable, summary-head, summary-order, summary-day, summary-is, summing-bad, summing-good}
+use Rattle.scan.proofs.summary.Statement.{statement}
+use Rattle.scan.proofs.summary.Tie as tie
 
 head-ok-requires : tie.Need-head-ok-requires
 head-ok-requires c κs = search needs

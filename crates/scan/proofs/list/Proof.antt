@@ -3,12 +3,12 @@ use borrow.Author.Needs.{needs}
 use mathlib.Core.Path.{_≡_, sym, _∙_}
 use Prim.Native.Nat.{ℕ, _+_, _-_, _≤_}
 use native.Mathlib.Omega.{arith}
 use Rattle.search.specs.declared.Sought.the-variants.{Record}
 use Rattle.search.specs.Next.{nextOf}
-use Rattle.search.specs.Range.{rangeFrom, ranged, listing}
-use Rattle.search.proofs.RangeLaws.{listing-is, lead, lead-false, lead-true, outcome, outcome-start, next-lead, turn-damaged, turn-nothing, turn-passed, turn-full, turn-last, turn-on}
-use Rattle.search.proofs.list.Statement.{statement}
-use Rattle.search.proofs.list.Tie as tie
+use Rattle.scan.specs.Range.{rangeFrom, ranged, listing}
+use Rattle.scan.proofs.RangeLaws.{listing-is, lead, lead-false, lead-true, outcome, outcome-start, next-lead, turn-damaged, turn-nothing, turn-passed, turn-full, turn-last, turn-on}
+use Rattle.scan.proofs.list.Statement.{statement}
+use Rattle.scan.proofs.list.Tie as tie
 
 abbrev Inv-loop : tie.InvT-loop
 Inv-loop store f head low high room strict₀ k₀ count₀ strict k count =

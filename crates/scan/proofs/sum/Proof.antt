@@ -5,12 +5,12 @@ use Prim.Native.Nat.{ℕ, _+_, _-_, _≤_}
 use native.Mathlib.Omega.{arith}
 use Rattle.totals.specs.Totals.{noTotals}
 use Rattle.totals.proofs.Laws.{Bounded, bounded-none, bounded-updated, bounded-room, updated-count}
 use Rattle.search.specs.declared.Sought.the-variants.{Record}
 use Rattle.search.specs.Next.{nextOf}
-use Rattle.search.specs.Summary.{sumFrom, summed}
-use Rattle.search.proofs.RangeLaws.{summing-is, lead, lead-false, lead-true, next-lead, adds-damaged, adds-nothing, adds-passed, adds-last, adds-on}
-use Rattle.search.proofs.sum.Statement.{statement}
-use Rattle.search.proofs.sum.Tie as tie
+use Rattle.scan.specs.Summary.{sumFrom, summed}
+use Rattle.scan.proofs.RangeLaws.{summing-is, lead, lead-false, lead-true, next-lead, adds-damaged, adds-nothing, adds-passed, adds-last, adds-on}
+use Rattle.scan.proofs.sum.Statement.{statement}
+use Rattle.scan.proofs.sum.Tie as tie
 
 abbrev Inv-loop : tie.InvT-loop
 Inv-loop store f head low high today strict₀ k₀ t₀ strict k t =

@@ -2,10 +2,10 @@
 use borrow.Author.Needs.{needs}
 use borrow.Author.Tests.{not-true, not-false}
 use Rattle.lists.proofs.Tests.{passed, failed}
-use Rattle.search.proofs.SummaryLaws.{readable}
-use Rattle.search.proofs.FillLaws.{range-head, range-order, range-damaged, range-length, range-listed, records-fit}
-use Rattle.search.proofs.range.Statement.{statement}
-use Rattle.search.proofs.range.Tie as tie
+use Rattle.scan.proofs.SummaryLaws.{readable}
+use Rattle.scan.proofs.FillLaws.{range-head, range-order, range-damaged, range-length, range-listed, records-fit}
+use Rattle.scan.proofs.range.Statement.{statement}
+use Rattle.scan.proofs.range.Tie as tie
 
 head-ok-requires : tie.Need-head-ok-requires
 head-ok-requires c κs = search needs

@@ -17,12 +17,12 @@ use Rattle.store.specs.declared.Format.the-variants.{Plots}
 use Rattle.store.specs.declared.Head.{Head}
 use Rattle.store.specs.declared.Item.{Item}
 use Rattle.store.specs.Format.{words}
 use Rattle.search.specs.declared.Sought.{Sought}
 use Rattle.search.specs.declared.Sought.the-variants.{Record, Nothing, Damaged}
 use Rattle.search.specs.Next.{nextOf}
-use Rattle.search.specs.declared.Listing.{Listing}
-use Rattle.search.specs.Range.{itemWords, flat, Ranged, also, rangeFrom, ranged, listing, firsts, refused, listed, rangeOf}
-use Rattle.search.proofs.RangeLaws.{from-damaged, from-nothing, from-passed, from-full, from-last, from-on}
+use Rattle.scan.specs.declared.Listing.{Listing}
+use Rattle.scan.specs.Range.{itemWords, flat, Ranged, also, rangeFrom, ranged, listing, firsts, refused, listed, rangeOf}
+use Rattle.scan.proofs.RangeLaws.{from-damaged, from-nothing, from-passed, from-full, from-last, from-on}
 
 pub plot-words : (f : Format) → words f ≡ 4
 unfolding words

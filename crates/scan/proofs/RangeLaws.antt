@@ -15,13 +15,13 @@ use Rattle.store.specs.declared.Item.{Item}
 use Rattle.page.specs.Page.{above}
 use Rattle.totals.specs.declared.Totals.{Totals}
 use Rattle.totals.specs.Totals.{noTotals, updatedOf}
-use Rattle.search.specs.declared.Listing.{Listing}
-use Rattle.search.specs.declared.Summing.{Summing}
+use Rattle.scan.specs.declared.Listing.{Listing}
+use Rattle.scan.specs.declared.Summing.{Summing}
 use Rattle.search.specs.declared.Sought.the-variants.{Record, Nothing, Damaged}
 use Rattle.search.specs.Next.{nextOf}
 use Rattle.search.proofs.NextLaws.{next-above}
-use Rattle.search.specs.Range.{Ranged, ended, broken, also, rangeFrom, ranged, listing}
-use Rattle.search.specs.Summary.{done, damage, sumFrom}
+use Rattle.scan.specs.Range.{Ranged, ended, broken, also, rangeFrom, ranged, listing}
+use Rattle.scan.specs.Summary.{done, damage, sumFrom}
 
 -- how many more turns there may be than keys left: one where the first key itself counts
 unfoldable pub lead : Bool → ℕ

@@ -1,0 +1,4 @@
+pub mod RangeLaws
+pub mod SummaryLaws
+pub mod FillLaws
+pub mod Promises

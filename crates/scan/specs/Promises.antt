@@ -1,0 +1,30 @@
+-- What is promised of range and summary on any words, each as a type; proofs/Promises.antt proves them.
+--   RangeAscends   == a range's records ascend and are from low to high
+--   RangeRefusals  == a refused range replies zeros and leaves the output
+--   SummaryRefusals == a refused summary replies zeros
+use mathlib.Core.Path.{_≡_}
+use mathlib.Core.List.{List}
+use Prim.Native.Nat.{ℕ, _≤_}
+use Rattle.lists.specs.Lists.{All}
+use Rattle.lists.specs.Keyed.{Sorted}
+use Rattle.store.specs.declared.Format.{Format}
+use Rattle.store.specs.declared.Head.{Head}
+use Rattle.store.specs.declared.Item.{Item}
+use Rattle.scan.specs.Range.{ranged, refused, rangeOf}
+use Rattle.scan.specs.Summary.{summaryOf}
+
+abbrev pub RangeAscends : Type 0
+RangeAscends =
+    (f : Format) (s : List ℕ) (h : Head) (low high room : ℕ)
+    → Sorted (λ (it : Item). it .key) (ranged f s h low high room .items)
+    × All (λ it. (low ≤ it .key) × (it .key ≤ high)) (ranged f s h low high room .items)
+
+abbrev pub RangeRefusals : Type 0
+RangeRefusals =
+    (f : Format) (s : List ℕ) (low high : ℕ) (out : List ℕ) → (rangeOf f s low high out .reply .number ≡ 0 → ⊥)
+    → (rangeOf f s low high out .reply ≡ refused (rangeOf f s low high out .reply .number)) × (rangeOf f s low high out .words ≡ out)
+
+abbrev pub SummaryRefusals : Type 0
+SummaryRefusals =
+    (f : Format) (s : List ℕ) (low high today : ℕ) → (summaryOf f s low high today .number ≡ 0 → ⊥)
+    → (summaryOf f s low high today .count ≡ 0) × (summaryOf f s low high today .total ≡ 0) × (summaryOf f s low high today .key ≡ 0)

@@ -1,0 +1,230 @@
+// Readings of many records: range and summary, each a walk by next.
+use search::Sought;
+use store::Format;
+use store::Head;
+use store::Item;
+use totals::Totals;
+ghost use mathlib.Core.Path.{_≡_};
+ghost use mathlib.Core.Bool.{false};
+ghost use mathlib.Core.List.{_++_};
+ghost use Prim.Native.Nat.{_*_, _%_, _^_, _≤_, _<_};
+ghost use lib.ListN.{length, drop};
+ghost use Rattle.store.specs.Format.{words};
+ghost use Rattle.scan.specs.Range.{itemWords, flat, ranged, listing, firsts, rangeReply, rangeOf};
+ghost use Rattle.scan.specs.Summary.{summed, summaryReply, summaryOf};
+
+pub enum RangeAnswer {
+    Listed(u64, u64),
+    RangeHeadBroken,
+    LowAboveHigh,
+    RangeDamaged,
+}
+
+// How a range ends: whether no damage was met, how many records it writes, and the first key not written, 0 if none.
+pub struct Listing {
+    pub ok: bool,
+    pub count: u64,
+    pub more: u64,
+}
+
+// An outcome from its parts.
+fn outcome_of(ok: bool, count: u64, more: u64) -> Listing
+    ensures { λ r. ⌜ (r .ok ≡ ok) × (r .count ≡ count) × (r .more ≡ more) ⌝ }
+{
+    Listing { ok, count, more }
+}
+
+// The outcome of a range with room for so many records; nothing is written.
+pub fn list(store: &[u32], f: Format, head: Head, low: u64, high: u64, room: u64) -> Listing
+    requires { ⌜ (head .theta ≤ 6) × (head .capacity ≤ 64) × (head .taken ≤ 4096) × (1 ≤ head .levels) × (head .levels ≤ 32) × (low ≤ high) ⌝ }
+    ensures { λ r. ⌜ (r ≡ listing (ranged f (now (store .entry)) head low high room)) × (r .count ≤ room) ⌝ }
+{
+    let mut strict = false;
+    let mut k = low;
+    let mut count: u64 = 0;
+    while k <= high {
+        let a = search::next_under(store, f, head, strict, k);
+        match a {
+            Sought::Damaged => {
+                return outcome_of(false, 0, 0);
+            }
+            Sought::Nothing => {
+                return outcome_of(true, count, 0);
+            }
+            Sought::Record(item) => {
+                if item.key > high {
+                    return outcome_of(true, count, 0);
+                }
+                if count == room {
+                    return outcome_of(true, count, item.key);
+                }
+                count += 1;
+                if item.key == high {
+                    return outcome_of(true, count, 0);
+                }
+                k = item.key;
+                strict = true;
+            }
+        }
+    }
+    outcome_of(true, count, 0)
+}
+
+// The low 32 bits of a key.
+fn low_word(x: u64) -> u32
+    ensures { λ r. ⌜ r ≡ x % 2 ^ 32 ⌝ }
+{
+    (x % 4294967296) as u32
+}
+
+// Writes a record at the front of a part.
+pub fn write_item(part: &mut [u32], f: Format, item: Item)
+    requires { ⌜ words f ≤ length (now part) ⌝ }
+    ensures { λ _. ⌜ now (part .exit) ≡ itemWords f item ++ drop (words f) (now (part .entry)) ⌝ }
+{
+    match f {
+        Format::Plots => {
+            part[0] = low_word(item.key);
+            part[1] = item.price;
+            part[2] = item.lease;
+            part[3] = item.last;
+        }
+    }
+}
+
+// Writes the first n records at or above low.
+pub fn fill(store: &[u32], f: Format, head: Head, low: u64, n: u64, out: &mut [u32])
+    requires { ⌜ (head .theta ≤ 6) × (head .capacity ≤ 64) × (head .taken ≤ 4096) × (1 ≤ head .levels) × (head .levels ≤ 32) × (words f * n ≤ length (now out)) × (length (firsts f (now store) head false low n) ≡ n) ⌝ }
+    ensures { λ _. ⌜ now (out .exit) ≡ flat f (firsts f (now (store .entry)) head false low n) ++ drop (words f * n) (now (out .entry)) ⌝ }
+{
+    let w = store::words_of(f);
+    let mut strict = false;
+    let mut k = low;
+    let mut at: usize = 0;
+    let mut i: u64 = 0;
+    while i < n {
+        let a = search::next_under(store, f, head, strict, k);
+        match a {
+            Sought::Record(item) => {
+                write_item(&mut out[at..], f, item);
+                k = item.key;
+                strict = true;
+                at += w;
+                i += 1;
+            }
+            Sought::Nothing => {
+                return;
+            }
+            Sought::Damaged => {
+                return;
+            }
+        }
+    }
+}
+
+// Lists the records from low to high in the lent output: as many whole ones as fit. A first pass finds the outcome, a second one writes.
+pub fn range(store: &[u32], f: Format, low: u64, high: u64, out: &mut [u32]) -> RangeAnswer
+    ensures { λ r. ⌜ (rangeReply r ≡ rangeOf f (now (store .entry)) low high (now (out .entry)) .reply) × (now (out .exit) ≡ rangeOf f (now (store .entry)) low high (now (out .entry)) .words) ⌝ }
+{
+    if !store::head_ok(store, f) {
+        return RangeAnswer::RangeHeadBroken;
+    }
+    if high < low {
+        return RangeAnswer::LowAboveHigh;
+    }
+    let head = store::head_of(store);
+    let room = (out.len() / store::words_of(f)) as u64;
+    let l = list(store, f, head, low, high, room);
+    if !l.ok {
+        return RangeAnswer::RangeDamaged;
+    }
+    fill(store, f, head, low, l.count, out);
+    RangeAnswer::Listed(l.count, l.more)
+}
+
+pub struct Summing {
+    pub ok: bool,
+    pub totals: Totals,
+}
+
+pub enum SummaryAnswer {
+    Summed(u64, u64, u64),
+    SummaryHeadBroken,
+    SummaryLowAboveHigh,
+    TodayOutside,
+    SummaryDamaged,
+}
+
+// Totals, and whether no damage was met.
+fn summing_of(ok: bool, totals: Totals) -> Summing
+    ensures { λ r. ⌜ (r .ok ≡ ok) × (r .totals ≡ totals) ⌝ }
+{
+    Summing { ok, totals }
+}
+
+// The totals of the records from low to high.
+pub fn sum(store: &[u32], f: Format, head: Head, low: u64, high: u64, today: u32) -> Summing
+    requires { ⌜ (head .theta ≤ 6) × (head .capacity ≤ 64) × (head .taken ≤ 4096) × (1 ≤ head .levels) × (head .levels ≤ 32) × (low ≤ high) × (high < 2 ^ 32) ⌝ }
+    ensures { λ r. ⌜ r ≡ summed f (now (store .entry)) head low high today ⌝ }
+{
+    let mut strict = false;
+    let mut k = low;
+    let mut t = totals::no_totals();
+    while k <= high {
+        let a = search::next_under(store, f, head, strict, k);
+        match a {
+            Sought::Damaged => {
+                return summing_of(false, totals::no_totals());
+            }
+            Sought::Nothing => {
+                return summing_of(true, t);
+            }
+            Sought::Record(item) => {
+                if item.key > high {
+                    return summing_of(true, t);
+                }
+                t = totals::added(t, item, today);
+                if item.key == high {
+                    return summing_of(true, t);
+                }
+                k = item.key;
+                strict = true;
+            }
+        }
+    }
+    summing_of(true, t)
+}
+
+fn wide(x: u32) -> u64
+    ensures { λ r. ⌜ (r ≡ x) × (r < 2 ^ 32) ⌝ }
+{
+    x as u64
+}
+
+// Counts the records from low to high, adds up their balances today, and names the earliest to end.
+pub fn summary(store: &[u32], f: Format, low: u32, high: u32, today: u32) -> SummaryAnswer
+    ensures { λ r. ⌜ summaryReply r ≡ summaryOf f (now (store .entry)) low high today ⌝ }
+{
+    if !store::head_ok(store, f) {
+        return SummaryAnswer::SummaryHeadBroken;
+    }
+    if high < low {
+        return SummaryAnswer::SummaryLowAboveHigh;
+    }
+    if !plot::lawful_day(today) {
+        return SummaryAnswer::TodayOutside;
+    }
+    let r = sum(
+        store,
+        f,
+        store::head_of(store),
+        wide(low),
+        wide(high),
+        today,
+    );
+    if !r.ok {
+        return SummaryAnswer::SummaryDamaged;
+    }
+    let t = r.totals;
+    SummaryAnswer::Summed(t.count, t.total, t.key)
+}
