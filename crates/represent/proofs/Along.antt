@@ -20,7 +20,7 @@ use Rattle.store.specs.declared.Format.{Format}
 use Rattle.store.specs.declared.Head.{Head}
 use Rattle.store.specs.Format.{width}
 use Rattle.store.specs.Head.{headOf, nodeStart}
-use Rattle.store.specs.Node.{depthWord, nodeRule, entryNumber}
+use Rattle.node.specs.Node.{depthWord, nodeRule, entryNumber}
 use Rattle.store.proofs.HeadLaws.{sizes-limits}
 use Rattle.search.specs.declared.Step.{Step}
 use Rattle.search.specs.declared.Sought.{Sought}

@@ -7,7 +7,7 @@ use native.Mathlib.Omega.{arith}
 use lib.Dec.{ltb}
 use Rattle.tree.specs.Trie.{Trie, leaf, fork, Key, height, depth, graft, pair}
 use Rattle.tree.proofs.TrieLaws.{depth-le-height, height-graft, height-split}
-use Rattle.store.specs.Node.{backWord, forwardWord}
+use Rattle.node.specs.Node.{backWord, forwardWord}
 use Rattle.represent.specs.Image.{nodeImage, NodeIs}
 use Rattle.represent.specs.Round.{NodeOps, NodeLaws}
 

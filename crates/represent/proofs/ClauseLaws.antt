@@ -21,7 +21,7 @@ use Rattle.tree.proofs.NodePromises.{obeys}
 use Rattle.store.specs.declared.Format.{Format}
 use Rattle.store.specs.Format.{width}
 use Rattle.store.specs.Head.{headOf, zeros, pageAt}
-use Rattle.store.specs.Node.{depthWord, levelWord, entryDepth, entryPointer, entryOf}
+use Rattle.node.specs.Node.{depthWord, levelWord, entryDepth, entryPointer, entryOf}
 use Rattle.page.specs.Page.{pageRule}
 use Rattle.represent.specs.Labelled.{Each, occ, occs, before, after}
 use Rattle.represent.specs.Image.{nodeAt, NodeIs}

@@ -20,8 +20,8 @@ use Rattle.store.specs.declared.Format.the-variants.{Plots}
 use Rattle.store.specs.declared.Head.{Head}
 use Rattle.store.specs.Format.{width}
 use Rattle.store.specs.Head.{headOf, nodeStart}
-use Rattle.store.specs.Node.{depthWord, entryOf, nodeRule, entryNumber}
-use Rattle.store.proofs.EntryNumber.{entry-index, entry-below}
+use Rattle.node.specs.Node.{depthWord, entryOf, nodeRule, entryNumber}
+use Rattle.node.proofs.EntryNumber.{entry-index, entry-below}
 use Rattle.store.proofs.HeadLaws.{sizes-limits}
 use Rattle.search.specs.declared.Step.{Step}
 use Rattle.search.specs.Descent.{noStep, noSteps, stepTaken, descend, descent}

@@ -4,7 +4,7 @@ use mathlib.Core.List.{List, _∷_, _++_}
 use Prim.Native.Nat.{ℕ, suc, _-_, _≤_, _<_}
 use native.Mathlib.Omega.{arith}
 use Rattle.tree.specs.Trie.{Trie, fork, Key, labels, leafAt, depth, rest, graft, pair}
-use Rattle.store.specs.Node.{backWord, forwardWord}
+use Rattle.node.specs.Node.{backWord, forwardWord}
 use Rattle.represent.specs.Labelled.{occ, occs, under, before, after, first, Linked}
 use Rattle.represent.specs.Rep.{backOf, forwardOf}
 use Rattle.represent.specs.Round.{NodeOps, NodeLaws, StoreOps, StoreLaws, stepAt, halveFirst}

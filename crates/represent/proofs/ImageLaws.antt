@@ -23,7 +23,7 @@ use Rattle.tree.proofs.Flatten.{length-flatten, entry}
 use Rattle.store.specs.declared.Format.{Format}
 use Rattle.store.specs.declared.Head.{Head}
 use Rattle.store.specs.Head.{word, zeros, nodeWords, nodeStart, size}
-use Rattle.store.specs.Node.{depthWord, levelWord, backWord, forwardWord, entryOf}
+use Rattle.node.specs.Node.{depthWord, levelWord, backWord, forwardWord, entryOf}
 use Rattle.represent.specs.Labelled.{occ}
 use Rattle.represent.specs.Image.{entryWords, nodeImage, nodeAt, NodeIs}
 use Rattle.represent.proofs.LabelLaws.{occ-at}

@@ -12,7 +12,7 @@ use native.Mathlib.Omega.{arith}
 use native.Mathlib.Decide.{ℕ-discrete, decLe}
 use Rattle.tree.specs.Trie.{Trie, leaf, Key, labels, leafAt, depth, rest, graft}
 use Rattle.tree.proofs.TrieLaws.{graft-leafAt}
-use Rattle.store.specs.Node.{backWord, forwardWord}
+use Rattle.node.specs.Node.{backWord, forwardWord}
 use Rattle.represent.specs.Labelled.{occ, occs, Over, under}
 use Rattle.represent.specs.Image.{NodeIs}
 use Rattle.represent.specs.Rep.{Nodes, backOf, forwardOf, Unlinked, Links}

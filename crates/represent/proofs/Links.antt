@@ -10,7 +10,7 @@ use Rattle.store.specs.declared.Format.{Format}
 use Rattle.store.specs.declared.Head.{Head}
 use Rattle.store.specs.Format.{width}
 use Rattle.store.specs.Head.{headOf, nodeStart}
-use Rattle.store.specs.Node.{backWord, forwardWord}
+use Rattle.node.specs.Node.{backWord, forwardWord}
 use Rattle.represent.specs.Labelled.{ind, occ, occs, before, after, first, Linked}
 use Rattle.represent.specs.Image.{nodeAt, NodeIs}
 use Rattle.represent.specs.Rep.{Stretch, numbers, backOf, forwardOf, Rep}

@@ -15,9 +15,9 @@ use Rattle.store.specs.declared.Format.{Format}
 use Rattle.store.specs.declared.Head.{Head}
 use Rattle.store.specs.Format.{width}
 use Rattle.store.specs.Head.{headOf, nodeStart, pageAt}
-use Rattle.store.specs.Node.{backWord, forwardWord, entryOf, linkRule, pointerLow, pointerHigh, nodeRule}
-use Rattle.store.proofs.RunWalk.{Points, trie-is-good}
-use Rattle.store.proofs.NodeLaws.{link-1, link-above, low-1, low-above, high-1, high-above, facts-node}
+use Rattle.node.specs.Node.{backWord, forwardWord, entryOf, linkRule, pointerLow, pointerHigh, nodeRule}
+use Rattle.node.proofs.RunWalk.{Points, trie-is-good}
+use Rattle.node.proofs.NodeLaws.{link-1, link-above, low-1, low-above, high-1, high-above, facts-node}
 use Rattle.page.specs.Page.{pageRule, agrees}
 use Rattle.represent.specs.Labelled.{Each, occ, occs, Over}
 use Rattle.represent.specs.Image.{nodeAt, NodeIs}

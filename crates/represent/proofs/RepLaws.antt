@@ -6,7 +6,7 @@ use native.Mathlib.Omega.{arith}
 use Rattle.tree.specs.Trie.{Trie}
 use Rattle.store.specs.declared.Format.{Format}
 use Rattle.store.specs.Head.{headOf, nodeStart}
-use Rattle.store.specs.Node.{backWord, forwardWord}
+use Rattle.node.specs.Node.{backWord, forwardWord}
 use Rattle.represent.specs.Labelled.{occs}
 use Rattle.represent.specs.Image.{nodeAt, NodeIs}
 use Rattle.represent.specs.Rep.{Stretch, Rep}

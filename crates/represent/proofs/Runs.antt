@@ -19,7 +19,7 @@ use Rattle.tree.specs.Node.{Entry, runs}
 use Rattle.tree.proofs.TrieLaws.{depth-le-height}
 use Rattle.tree.proofs.Flatten.{length-flatten}
 use Rattle.tree.proofs.Steps.{spread, flatten-spread}
-use Rattle.store.specs.Node.{depthWord, entryOf}
+use Rattle.node.specs.Node.{depthWord, entryOf}
 use Rattle.search.specs.Next.{firstPointer, runAfter}
 use Rattle.search.proofs.NextLaws.{Walked, walked-none, walked-end, walked-here, walked-on}
 use Rattle.represent.specs.Labelled.{after}

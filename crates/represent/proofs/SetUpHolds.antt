@@ -17,7 +17,7 @@ use Rattle.store.specs.declared.Format.{Format}
 use Rattle.store.specs.declared.Head.{Head}
 use Rattle.store.specs.Format.{width}
 use Rattle.store.specs.Head.{word, headOf, lawfulSizes, zeros, size, nodeWords, pageWords, nodeStart, pageStart, pageAt}
-use Rattle.store.specs.Node.{backWord, forwardWord}
+use Rattle.node.specs.Node.{backWord, forwardWord}
 use Rattle.store.specs.SetUp.{setUpWords}
 use Rattle.store.proofs.HeadLaws.{Limits, sizes-limits}
 use Rattle.store.proofs.SetUpLaws.{size-low, done}

@@ -8,7 +8,7 @@ use Prim.Native.Nat.{ℕ, suc, _≤_, _<_}
 use native.Mathlib.Omega.{arith}
 use native.Mathlib.Decide.{ℕ-discrete}
 use Rattle.tree.specs.Trie.{Trie, Key, leafAt}
-use Rattle.store.specs.Node.{forwardWord}
+use Rattle.node.specs.Node.{forwardWord}
 use Rattle.represent.specs.Labelled.{occ}
 use Rattle.represent.specs.Image.{NodeIs}
 use Rattle.represent.specs.Round.{NodeOps, NodeLaws, StoreOps, StoreLaws, Changed, two, advance, relink}

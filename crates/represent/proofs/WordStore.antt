@@ -12,7 +12,7 @@ use Rattle.tree.specs.Trie.{Trie}
 use Rattle.store.specs.declared.Format.{Format}
 use Rattle.store.specs.declared.Head.{Head}
 use Rattle.store.specs.Head.{headOf, nodeWords, pageWords, size, pageStart, pageAt}
-use Rattle.store.specs.Node.{backWord, forwardWord}
+use Rattle.node.specs.Node.{backWord, forwardWord}
 use Rattle.represent.specs.Image.{NodeIs}
 use Rattle.represent.specs.Round.{StoreLaws}
 use Rattle.represent.specs.Insertion.{Others, nodesEnd, others, Ok, wordStore}

@@ -10,7 +10,7 @@ use native.Mathlib.Omega.{arith}
 use native.Mathlib.Decide.{ℕ-discrete}
 use borrow.Author.Tests.{eq-eqb, ne-eqb}
 use Rattle.tree.specs.Trie.{Trie}
-use Rattle.store.specs.Node.{forwardWord}
+use Rattle.node.specs.Node.{forwardWord}
 use Rattle.represent.specs.Image.{NodeIs}
 use Rattle.represent.specs.Round.{NodeOps, NodeLaws, StoreOps, Put, StoreLaws, Changed, two, relink}
 use Rattle.represent.proofs.Blocks.{linked-written}

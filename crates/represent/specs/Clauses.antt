@@ -16,7 +16,7 @@ use Rattle.lists.specs.Lists.{All}
 use Rattle.store.specs.declared.Format.{Format}
 use Rattle.store.specs.Format.{width}
 use Rattle.store.specs.Head.{headOf, zeros, nodeStart, pageAt}
-use Rattle.store.specs.Node.{depthWord, levelWord, backWord, forwardWord, entryDepth, entryPointer, entryOf}
+use Rattle.node.specs.Node.{depthWord, levelWord, backWord, forwardWord, entryDepth, entryPointer, entryOf}
 use Rattle.page.specs.Page.{pageRule}
 use Rattle.search.specs.Descent.{noStep, descent}
 use Rattle.represent.specs.Labelled.{Linked}

@@ -16,7 +16,7 @@ use Rattle.store.specs.declared.Head.{Head}
 use Rattle.store.specs.declared.Item.{Item}
 use Rattle.store.specs.Format.{words}
 use Rattle.store.specs.Head.{nodeWords, nodeStart}
-use Rattle.store.specs.Node.{backWord, forwardWord}
+use Rattle.node.specs.Node.{backWord, forwardWord}
 use Rattle.scan.specs.Range.{flat}
 
 abbrev pub entryWords : List (Entry ℕ) → List ℕ

@@ -26,7 +26,7 @@ use Rattle.store.specs.declared.Head.{Head}
 use Rattle.store.specs.declared.Item.{Item}
 use Rattle.store.specs.Format.{width}
 use Rattle.store.specs.Head.{headOf, headRule, lawfulSizes, size, nodeStart, pageAt}
-use Rattle.store.specs.Node.{levelWord, backWord, forwardWord, nodeRule, entryNumber}
+use Rattle.node.specs.Node.{levelWord, backWord, forwardWord, nodeRule, entryNumber}
 use Rattle.store.specs.SetUp.{setUp}
 use Rattle.page.specs.Page.{pageRule, agrees}
 use Rattle.search.specs.declared.Step.{Step}

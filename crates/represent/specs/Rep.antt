@@ -27,7 +27,7 @@ use Rattle.store.specs.declared.Head.{Head}
 use Rattle.store.specs.declared.Item.{Item}
 use Rattle.store.specs.Format.{width}
 use Rattle.store.specs.Head.{headOf, lawfulSizes, zeros, size, nodeWords, pageWords, pageAt}
-use Rattle.store.specs.Node.{backWord, forwardWord}
+use Rattle.node.specs.Node.{backWord, forwardWord}
 use Rattle.page.specs.Page.{lawfulItem}
 use Rattle.represent.specs.Labelled.{relabel, Each, occ, occs, OneForOne, Over, Linked}
 use Rattle.represent.specs.Image.{pageImage, nodeAt, NodeIs}

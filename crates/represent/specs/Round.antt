@@ -23,7 +23,7 @@ use Prim.Native.Nat.{ℕ, suc, _+_, _-_, _≤_, _<_}
 use lib.Dec.{ltb, eqb}
 use Rattle.tree.specs.Trie.{Trie, leaf, fork, Key, height, leafAt, depth, rest, graft, pair}
 use Rattle.tree.specs.Carry.{locals, bumpCost}
-use Rattle.store.specs.Node.{backWord, forwardWord}
+use Rattle.node.specs.Node.{backWord, forwardWord}
 use Rattle.represent.specs.Image.{nodeImage, NodeIs}
 use Rattle.represent.specs.Rep.{Directory}
 

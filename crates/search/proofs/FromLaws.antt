@@ -8,8 +8,8 @@ use borrow.Author.Tests.{lt-ltb, le-ltb, eq-eqb, ne-eqb}
 use Rattle.store.specs.declared.Format.{Format}
 use Rattle.store.specs.declared.Head.{Head}
 use Rattle.store.specs.Head.{nodeStart, pageAt}
-use Rattle.store.specs.Node.{depthWord}
-use Rattle.store.proofs.NodeLaws.{node-facts}
+use Rattle.node.specs.Node.{depthWord}
+use Rattle.node.proofs.NodeLaws.{node-facts}
 use Rattle.page.specs.Page.{count, itemAt, firstAbove}
 use Rattle.search.specs.declared.Descent.{Descent}
 use Rattle.search.specs.declared.Sought.the-variants.{Record, Damaged}

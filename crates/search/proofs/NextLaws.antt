@@ -17,8 +17,8 @@ use Rattle.store.specs.declared.Format.{Format}
 use Rattle.store.specs.declared.Head.{Head}
 use Rattle.store.specs.declared.Item.{Item}
 use Rattle.store.specs.Head.{nodeStart, pageAt}
-use Rattle.store.specs.Node.{depthWord, backWord, forwardWord, entryDepth, entryPointer, nodeRule}
-use Rattle.store.proofs.NodeLaws.{node-facts}
+use Rattle.node.specs.Node.{depthWord, backWord, forwardWord, entryDepth, entryPointer, nodeRule}
+use Rattle.node.proofs.NodeLaws.{node-facts}
 use Rattle.page.specs.Page.{count, itemAt, keyAt, pageRule, above, firstAbove}
 use Rattle.page.proofs.Laws.{all-above, first-facts}
 use Rattle.search.specs.declared.Descent.{Descent}

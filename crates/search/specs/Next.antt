@@ -17,7 +17,7 @@ use Rattle.lists.specs.Lists.{every}
 use Rattle.store.specs.declared.Format.{Format}
 use Rattle.store.specs.declared.Head.{Head}
 use Rattle.store.specs.Head.{headOf, nodeStart, pageAt}
-use Rattle.store.specs.Node.{depthWord, backWord, forwardWord, entryDepth, entryPointer, nodeRule}
+use Rattle.node.specs.Node.{depthWord, backWord, forwardWord, entryDepth, entryPointer, nodeRule}
 use Rattle.page.specs.Page.{count, itemAt, keyAt, pageRule, above, firstAbove}
 use Rattle.search.specs.declared.Descent.{Descent}
 use Rattle.search.specs.declared.Step.{Step}

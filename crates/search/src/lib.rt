@@ -6,7 +6,7 @@ ghost use mathlib.Core.Path.{_≡_};
 ghost use Prim.Native.Nat.{_+_, _-_, _^_, _≤_, _<_};
 ghost use Rattle.store.specs.Format.{width};
 ghost use Rattle.store.specs.Head.{nodeStart};
-ghost use Rattle.store.specs.Node.{depthWord};
+ghost use Rattle.node.specs.Node.{depthWord};
 ghost use Rattle.search.specs.Descent.{stepOf, lost, descent};
 ghost use Rattle.search.specs.Find.{reply, soughtReply, soundPage, inPage, findOf, findReply};
 ghost use Rattle.search.specs.Next.{firstPointer, runAfter, visitAfter, linked, onward, hop, follow, afterOwn, nextOf, nextReply};
@@ -67,7 +67,7 @@ pub fn visit_node(
     ensures { λ r. ⌜ (r ≡ stepOf f (now (store .entry)) head key level n used) × (used + r .depth ≤ width f) ⌝ }
 {
     let at = store::node_start(head, n);
-    if !store::node_ok(store, head, at, level) {
+    if !node::node_ok(store, head, at, level) {
         return Visit {
             ok: false,
             entry: 0,
@@ -84,7 +84,7 @@ pub fn visit_node(
             pointer: 0,
         };
     }
-    let i = store::entry_number(f, key, used, depth);
+    let i = node::entry_number(f, key, used, depth);
     Visit {
         ok: true,
         entry: i as u32,
@@ -274,7 +274,7 @@ pub fn is_linked(store: &[u32], head: Head, m: u32, n: u32) -> bool
     ensures { λ r. ⌜ r ≡ linked head (now (store .entry)) m n ⌝ }
 {
     let at = store::node_start(head, m);
-    if !store::node_ok(store, head, at, 1) {
+    if !node::node_ok(store, head, at, 1) {
         return false;
     }
     store::word(store, at + 2) == n

@@ -10,18 +10,9 @@ use Rattle.lists.proofs.Cases.{bool-cases}
 use Rattle.store.specs.declared.Format.{Format}
 use Rattle.store.specs.Head.{size, lawfulSizes}
 use Rattle.store.specs.SetUp.{setUpWords, setUp}
-use Rattle.store.specs.Promises.{NodeIsTrie, EntryByBits, SetUpRefusals, BeyondStays}
-use Rattle.store.proofs.RunWalk.{good-is-trie}
-use Rattle.store.proofs.EntryNumber.{entry-index}
+use Rattle.store.specs.Promises.{SetUpRefusals, BeyondStays}
 use Rattle.store.proofs.HeadLaws.{sizes-limits}
-use Rattle.store.proofs.NodeLaws.{node-facts}
 use Rattle.store.proofs.SetUpLaws.{size-low}
-
-pub node-is-trie : NodeIsTrie
-node-is-trie h s b level e = good-is-trie _ _ _ _ (node-facts h s b level e .runs)
-
-pub entry-by-bits : EntryByBits
-entry-by-bits = entry-index
 
 pub set-up-refusals : SetUpRefusals
 unfolding setUp

@@ -4,7 +4,7 @@ use mathlib.Core.Path.{_≡_, refl, sym, _∙_}
 use Prim.Native.Nat.{_+_, _^_, _≤_, _<_}
 use native.Mathlib.Omega.{arith}
 use Rattle.store.specs.Head.{nodeStart}
-use Rattle.store.specs.Node.{depthWord}
+use Rattle.node.specs.Node.{depthWord}
 use Rattle.search.specs.Next.{follow}
 use Rattle.search.proofs.NextLaws.{follow-spent, turn-ends, turn-on, turn-deep}
 use Rattle.search.proofs.follow_from.Statement.{statement}

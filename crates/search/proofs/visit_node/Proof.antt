@@ -7,7 +7,7 @@ use native.Mathlib.Omega.{arith}
 use borrow.Author.Tests.{lt-leb}
 use Rattle.lists.proofs.Tests.{passed, failed}
 use Rattle.store.proofs.HeadLaws.{width-within}
-use Rattle.store.proofs.NodeLaws.{node-facts}
+use Rattle.node.proofs.NodeLaws.{node-facts}
 use Rattle.search.proofs.DescentLaws.{visit-damaged, visit-entry}
 use Rattle.search.proofs.visit_node.Statement.{statement}
 use Rattle.search.proofs.visit_node.Tie as tie

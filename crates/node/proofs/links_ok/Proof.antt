@@ -2,9 +2,9 @@
 use mathlib.Core.Path.{refl, sym}
 use mathlib.Core.Bool.{true, false}
 use borrow.Author.Tests.{eq-eqb, ne-eqb, le-leb, lt-leb}
-use Rattle.store.proofs.NodeLaws.{link-1, link-above}
-use Rattle.store.proofs.links_ok.Statement.{statement}
-use Rattle.store.proofs.links_ok.Tie as tie
+use Rattle.node.proofs.NodeLaws.{link-1, link-above}
+use Rattle.node.proofs.links_ok.Statement.{statement}
+use Rattle.node.proofs.links_ok.Tie as tie
 
 returns : tie.Need-returns
 returns c = link-1 _ _ _ _ false _ (c .before .before .if1 .taken) (sym (lt-leb _ _ (c .if2 .taken))) refl

@@ -4,11 +4,11 @@ use mathlib.Core.Path.{_≡_, sym}
 use native.Mathlib.Omega.{arith}
 use Prim.Native.Nat.{_+_, _-_, _^_, _≤_, max}
 use Rattle.lists.proofs.Tests.{passed, failed}
-use Rattle.store.specs.Node.{entryOf}
-use Rattle.store.proofs.RunWalk.{Passed, passed-none, passed-all}
-use Rattle.store.proofs.NodeLaws.{run-passes, run-refused}
-use Rattle.store.proofs.runs_ok.Statement.{statement}
-use Rattle.store.proofs.runs_ok.Tie as tie
+use Rattle.node.specs.Node.{entryOf}
+use Rattle.node.proofs.RunWalk.{Passed, passed-none, passed-all}
+use Rattle.node.proofs.NodeLaws.{run-passes, run-refused}
+use Rattle.node.proofs.runs_ok.Statement.{statement}
+use Rattle.node.proofs.runs_ok.Tie as tie
 
 abbrev Inv-loop : tie.InvT-loop
 Inv-loop store at depth low high n deepest₀ i₀ deepest i = (n ≡ 2 ^ depth) × (n ≤ 64) × Passed depth low high (entryOf store at) i deepest

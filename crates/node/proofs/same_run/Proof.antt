@@ -5,10 +5,10 @@ use mathlib.Core.Bool.{true}
 use native.Mathlib.Omega.{arith}
 use Prim.Native.Nat.{_+_, _-_, _*_, _≤_}
 use lib.ListN.{getD}
-use Rattle.store.specs.Node.{entryOf, sameRun}
-use Rattle.store.proofs.NodeLaws.{run-none, run-more, run-other-depth, run-other-pointer}
-use Rattle.store.proofs.same_run.Statement.{statement}
-use Rattle.store.proofs.same_run.Tie as tie
+use Rattle.node.specs.Node.{entryOf, sameRun}
+use Rattle.node.proofs.NodeLaws.{run-none, run-more, run-other-depth, run-other-pointer}
+use Rattle.node.proofs.same_run.Statement.{statement}
+use Rattle.node.proofs.same_run.Tie as tie
 
 abbrev Inv-loop : tie.InvT-loop
 Inv-loop store at i n h p j₀ j = (j ≤ n) × (h ≡ getD store (at + 4 + 2 * i) 0) × (p ≡ getD store (at + 5 + 2 * i) 0) × (sameRun (entryOf store at) i j ≡ true)

@@ -8,7 +8,7 @@ use lib.ListN.{drop}
 use lib.Pow.{pow-pos, field}
 use Rattle.lists.specs.Bits.{bits, index}
 use Rattle.lists.proofs.BitLaws.{index-bits, drop-bits}
-use Rattle.store.specs.Node.{entryNumber}
+use Rattle.node.specs.Node.{entryNumber}
 
 pub entry-index : (W k used H : ℕ) → used + H ≤ W → k < 2 ^ W → entryNumber W k used H ≡ index H (drop used (bits W k))
 unfolding entryNumber

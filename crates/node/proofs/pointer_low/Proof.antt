@@ -1,7 +1,7 @@
 -- By the level.
-use Rattle.store.proofs.NodeLaws.{low-1, low-above}
-use Rattle.store.proofs.pointer_low.Statement.{statement}
-use Rattle.store.proofs.pointer_low.Tie as tie
+use Rattle.node.proofs.NodeLaws.{low-1, low-above}
+use Rattle.node.proofs.pointer_low.Statement.{statement}
+use Rattle.node.proofs.pointer_low.Tie as tie
 
 returns : tie.Need-returns
 returns c = low-1 _ (c .if1 .taken)

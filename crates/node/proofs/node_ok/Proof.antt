@@ -6,9 +6,9 @@ use native.Mathlib.Omega.{arith}
 use borrow.Author.Tests.{eq-eqb, ne-eqb, le-leb, lt-leb}
 use lib.Pow.{pow-mono}
 use Rattle.lists.proofs.Tests.{passed, failed}
-use Rattle.store.proofs.NodeLaws.{node-rule-is}
-use Rattle.store.proofs.node_ok.Statement.{statement}
-use Rattle.store.proofs.node_ok.Tie as tie
+use Rattle.node.proofs.NodeLaws.{node-rule-is}
+use Rattle.node.proofs.node_ok.Statement.{statement}
+use Rattle.node.proofs.node_ok.Tie as tie
 
 word-requires : tie.Need-word-requires
 word-requires c κs = search needs

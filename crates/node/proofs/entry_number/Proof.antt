@@ -3,9 +3,9 @@ use borrow.Author.Needs.{needs}
 use native.Mathlib.Omega.{arith}
 use lib.Pow.{pow-pos}
 use Rattle.lists.proofs.Shifts.{shl-one}
-use Rattle.store.proofs.NodeLaws.{entry-none, entry-masked}
-use Rattle.store.proofs.entry_number.Statement.{statement}
-use Rattle.store.proofs.entry_number.Tie as tie
+use Rattle.node.proofs.NodeLaws.{entry-none, entry-masked}
+use Rattle.node.proofs.entry_number.Statement.{statement}
+use Rattle.node.proofs.entry_number.Tie as tie
 
 returns : tie.Need-returns
 returns c = (entry-none _ _ _ _ (c .if1 .taken), pow-pos (c .before .args .depth), omega arith)

@@ -1,7 +1,7 @@
 -- By the level.
-use Rattle.store.proofs.NodeLaws.{high-1, high-above}
-use Rattle.store.proofs.pointer_high.Statement.{statement}
-use Rattle.store.proofs.pointer_high.Tie as tie
+use Rattle.node.proofs.NodeLaws.{high-1, high-above}
+use Rattle.node.proofs.pointer_high.Statement.{statement}
+use Rattle.node.proofs.pointer_high.Tie as tie
 
 returns : tie.Need-returns
 returns c = high-1 _ _ (c .if1 .taken)

@@ -13,10 +13,10 @@ use Rattle.lists.proofs.Cases.{bool-cases}
 use Rattle.lists.proofs.Tests.{and-true, every-none, every-more, every-not}
 use Rattle.lists.proofs.Shifts.{low-bits, mod-below}
 use Rattle.tree.specs.Node.{Entry}
 use Rattle.store.specs.declared.Head.{Head}
 use Rattle.store.specs.Head.{zeros}
-use Rattle.store.specs.Node.{depthWord, levelWord, backWord, forwardWord, entryOf, sameEntry, sameRun, goodRuns, runTest, linkRule, pointerLow, pointerHigh, nodeRule, entryNumber}
-use Rattle.store.proofs.RunWalk.{Passed, passed-more, deep-fails, align-fails, low-fails, high-fails, run-fails}
+use Rattle.node.specs.Node.{depthWord, levelWord, backWord, forwardWord, entryOf, sameEntry, sameRun, goodRuns, runTest, linkRule, pointerLow, pointerHigh, nodeRule, entryNumber}
+use Rattle.node.proofs.RunWalk.{Passed, passed-more, deep-fails, align-fails, low-fails, high-fails, run-fails}
 
 -- a run of equal entries, one more at a time
 pub run-none : (e : ℕ → Entry ℕ) (i : ℕ) → sameRun e i 0 ≡ true

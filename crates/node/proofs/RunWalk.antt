@@ -22,7 +22,7 @@ use Rattle.tree.specs.Trie.{Trie, height}
 use Rattle.tree.specs.Node.{Entry, flatten, largest, RunRule}
 use Rattle.tree.proofs.Flatten.{length-flatten}
 use Rattle.tree.proofs.NodePromises.{largest-is, obeys, is-trie}
-use Rattle.store.specs.Node.{sameEntry, sameRun, runRule, goodRuns}
+use Rattle.node.specs.Node.{sameEntry, sameRun, runRule, goodRuns}
 
 -- tests as facts
 pub entry-true : (x y : Entry ℕ) → sameEntry x y ≡ true → x ≡ y

@@ -3,9 +3,9 @@ use borrow.Author.Needs.{needs}
 use mathlib.Core.Path.{refl, sym}
 use mathlib.Core.Bool.{true, false}
 use borrow.Author.Tests.{eq-eqb, ne-eqb, le-leb, lt-leb}
-use Rattle.store.proofs.NodeLaws.{run-test-is}
-use Rattle.store.proofs.run_ok.Statement.{statement}
-use Rattle.store.proofs.run_ok.Tie as tie
+use Rattle.node.proofs.NodeLaws.{run-test-is}
+use Rattle.node.proofs.run_ok.Statement.{statement}
+use Rattle.node.proofs.run_ok.Tie as tie
 
 add-word : tie.Need-add-word
 add-word c = search needs

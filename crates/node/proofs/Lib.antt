@@ -1,0 +1,4 @@
+pub mod RunWalk
+pub mod EntryNumber
+pub mod NodeLaws
+pub mod Promises
