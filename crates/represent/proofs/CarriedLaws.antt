@@ -15,7 +15,7 @@ use Rattle.tree.proofs.CarryLaws.{carry-slack, carry-full, bump-slack, bump-ful
 use Rattle.tree.proofs.Promises.{one-halving}
 use Rattle.represent.specs.Labelled.{ind, occ, occs, OneForOne}
 use Rattle.represent.specs.Round.{carried}
-use Rattle.represent.proofs.LabelLaws.{label-low, label-high, ind-eq, ind-other}
+use Rattle.represent.proofs.LabelLaws.{ind-eq, ind-other}
 use Rattle.represent.proofs.Grafts.{occ-split}
 
 module _ (θ m : ℕ) (u b : Trie ℕ) (bs : List (Trie ℕ)) (k : Key) where
@@ -113,13 +113,6 @@ one-numbered m bs h z =
       none = h .none;
       positive = z;
     }
-
-module _ (m : ℕ) (bs : List (Trie ℕ)) (g : Numbered m bs) (x : ℕ) (o : 1 ≤ occs x bs) where
-  pub at-least : 1 ≤ x
-  at-least = label-low bs x (g .positive) o
-
-  pub at-most : x ≤ m
-  at-most = label-high m (λ y. occs y bs) x (g .none) o
 
 -- the levels above, with one number more taken
 pub numbered-above : (m : ℕ) (b : Trie ℕ) (bs : List (Trie ℕ)) → Numbered m (b ∷ bs) → Numbered (suc m) bs

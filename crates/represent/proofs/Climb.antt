@@ -17,7 +17,7 @@ use Rattle.represent.proofs.Grafts.{forked, occ-split}
 use Rattle.represent.proofs.CarriedLaws.{carried-slack, carried-full}
 use Rattle.represent.proofs.Blocks.{Written, top-written}
 use Rattle.represent.proofs.Writes.{kept-refl, put-kept, advanced}
-use Rattle.represent.proofs.Level.{is-moved, unlinked-same, unlinked-moved, written-unlinked, Plain, plain-cons, Ready, label-low, label-high, here-in, key-low}
+use Rattle.represent.proofs.Level.{is-moved, unlinked-same, unlinked-moved, written-unlinked, Plain, plain-cons, Ready, ready-low, ready-high, here-in, key-low}
 use Rattle.represent.proofs.Splits.{Split, parts, Parted, parted, parted-split}
 use Rattle.represent.proofs.Rise.{ClimbKeeps, room-here, grown-climbed, grown-links, lower-here, upper-here, rise}
 
@@ -77,8 +77,8 @@ module _ {θ : ℕ} {I : NodeOps} {O : StoreOps} (A : NodeLaws θ I) (B : StoreL
                   (written-unlinked θ _ _ (halve-parted .at-n) low (g .no-back) (g .no-forward))
               | no j ↦
                   let p : 1 ≤ occs x (b ∷ bs) = omega (arith, occ-split x b key (suc (taken s)), ind-other x (suc (taken s)) i) in
-                  let x≥1 = label-low y x p in
-                  unlinked-moved θ (node s) (node s₁) x (halve-parted .off x x≥1 (label-high y x p) j (λ z. omega (arith, x≥1))) (f x p)
+                  let x≥1 = ready-low y x p in
+                  unlinked-moved θ (node s) (node s₁) x (halve-parted .off x x≥1 (ready-high y x p) j (λ z. omega (arith, x≥1))) (f x p)
             ]
           ]
 

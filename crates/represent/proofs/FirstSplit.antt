@@ -11,7 +11,7 @@ use Rattle.represent.specs.Round.{NodeOps, NodeLaws, StoreOps, StoreLaws
 use Rattle.represent.proofs.LabelLaws.{ind-self, labels-graft, labels-at, over-in}
 use Rattle.represent.proofs.Chain.{count, count-labels, count-at, first-in, first-not, linked-next, Mended, linked-split}
 use Rattle.represent.proofs.Blocks.{Written, linked-written}
-use Rattle.represent.proofs.Level.{At, moved-links, Ready, label-low, label-high, key-low}
+use Rattle.represent.proofs.Level.{At, moved-links, Ready, ready-low, ready-high, key-low}
 use Rattle.represent.proofs.Splits.{Split, Parted, parted, parted-split}
 use Rattle.represent.proofs.Rise.{lower-here, upper-here}
 
@@ -96,7 +96,7 @@ module _ {θ : ℕ} {I : NodeOps} {O : StoreOps} (A : NodeLaws θ I) (B : StoreL
             (λ x o ne ne′.
             let i : 1 ≤ occs x (b ∷ bs) = omega (arith, occ-list x) in
             moved-links θ (node s) (node s₁) x
-            (first-parted .off x (label-low y x i) (label-high y x i) ne (λ z. ne′ (z ∙ q-is))))
+            (first-parted .off x (ready-low y x i) (ready-high y x i) ne (λ z. ne′ (z ∙ q-is))))
             (λ x. omega (arith, occ-list x, y .numbered .once x))
             (omega (arith, occ-list 0, y .numbered .positive))
             chain)

@@ -25,7 +25,7 @@ use Rattle.store.proofs.HeadLaws.{Limits, sizes-limits, Counts, counts-are, rul
 use Rattle.represent.specs.Labelled.{relabel, occs}
 use Rattle.represent.specs.Image.{nodeAt}
 use Rattle.represent.specs.Rep.{numbers, keyOf, Nodes, Links, Rep, Holds}
-use Rattle.represent.specs.Promises.{HeadPasses, CountsAreTheTrees}
+use Rattle.represent.specs.Promises.{HeadPasses, LevelsAtMost, CountsAreTheTrees}
 use Rattle.represent.proofs.LabelLaws.{label-low, label-high, ind-self}
 use Rattle.represent.proofs.ListingLaws.{lawful-bounded}
 use Rattle.represent.proofs.Counting.{rep-nodes, rep-pages}
@@ -117,6 +117,9 @@ head-passes f s S w =
     (rule-is f s (headOf s) true true true true refl (sym (w .rep .sized .sizes)) (sym (w .rep .sized .spare)) (yes-leb (w .rep .sized .long))
     (counts-are f (headOf s) true true true true true true true (yes-leb (c .taken-low)) (yes-leb (c .taken)) (yes-leb (c .filled))
     (yes-leb (c .root-low)) (yes-leb (c .root)) (yes-leb (c .levels-low)) (yes-leb (c .levels))))
+
+pub levels-at-most : LevelsAtMost
+levels-at-most f s S w = counts f s S w .levels
 
 pub counts-are-the-trees : CountsAreTheTrees
 counts-are-the-trees f s S w = (

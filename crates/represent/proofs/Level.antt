@@ -17,10 +17,10 @@ use Rattle.represent.specs.Labelled.{occ, occs, Over, under}
 use Rattle.represent.specs.Image.{NodeIs}
 use Rattle.represent.specs.Rep.{Nodes, backOf, forwardOf, Unlinked, Links}
 use Rattle.represent.specs.Round.{StoreOps, Put, StoreLaws, Changed}
-use Rattle.represent.proofs.LabelLaws.{occ-at, over-at, over-map, depth-under}
+use Rattle.represent.proofs.LabelLaws.{label-low, label-high, occ-at, over-at, over-map, depth-under}
 use Rattle.represent.proofs.Grafts.{off-key, over-graft}
 use Rattle.represent.proofs.Chain.{count-labels, Same, linked-frame}
-use Rattle.represent.proofs.CarriedLaws.{Numbered, at-least, at-most}
+use Rattle.represent.proofs.CarriedLaws.{Numbered}
 use Rattle.represent.proofs.Blocks.{Written}
 use Rattle.represent.proofs.Writes.{put-changed}
 
@@ -92,11 +92,11 @@ module _ (θ : ℕ) (O : StoreOps) where
 module _ {θ : ℕ} {O : StoreOps} {s : O .S} {k : ℕ} {u b : Trie ℕ} {bs : List (Trie ℕ)} (y : Ready θ O s k u (b ∷ bs)) where
   open StoreOps O using (node, taken, put)
 
-  pub label-low : (x : ℕ) → 1 ≤ occs x (b ∷ bs) → 1 ≤ x
-  label-low = at-least (taken s) (b ∷ bs) (y .numbered)
+  pub ready-low : (x : ℕ) → 1 ≤ occs x (b ∷ bs) → 1 ≤ x
+  ready-low x = label-low (b ∷ bs) x (y .numbered .positive)
 
-  pub label-high : (x : ℕ) → 1 ≤ occs x (b ∷ bs) → x ≤ taken s
-  label-high = at-most (taken s) (b ∷ bs) (y .numbered)
+  pub ready-high : (x : ℕ) → 1 ≤ occs x (b ∷ bs) → x ≤ taken s
+  ready-high x = label-high (taken s) (λ n. occs n (b ∷ bs)) x (y .numbered .none)
 
   module _ (key : Key) where
     -- the node at the key, and its number
@@ -104,10 +104,10 @@ module _ {θ : ℕ} {O : StoreOps} {s : O .S} {k : ℕ} {u b : Trie ℕ} {bs : L
     here-in = omega (arith, occ-at b key)
 
     pub key-low : 1 ≤ leafAt b key
-    key-low = label-low (leafAt b key) here-in
+    key-low = ready-low (leafAt b key) here-in
 
     pub key-high : leafAt b key ≤ taken s
-    key-high = label-high (leafAt b key) here-in
+    key-high = ready-high (leafAt b key) here-in
 
     pub here : NodeIs θ (node s (leafAt b key)) (suc k) (under b u key)
     here = over-at (At θ (node s) (suc k)) b u key (y .nodes .0)
@@ -126,7 +126,7 @@ module _ {θ : ℕ} {O : StoreOps} {s : O .S} {k : ℕ} {u b : Trie ℕ} {bs : L
         put-here = B .put-is s n ws (suc k) _ (y .ok) key-low (omega (arith, key-high, y .fits)) (w .is)
 
         elsewhere : (x : ℕ) → 1 ≤ occs x (b ∷ bs) → (x ≡ n → ⊥) → node (put s n ws) x ≡ node s x
-        elsewhere x o ne = put-here .elsewhere x (label-low x o) (omega (arith, label-high x o, y .fits)) ne
+        elsewhere x o ne = put-here .elsewhere x (ready-low x o) (omega (arith, ready-high x o, y .fits)) ne
 
         pub rewritten : Climbed θ O s (put s n ws) k (graft u key d) (b ∷ bs) (b ∷ bs) 0
         rewritten =

@@ -18,7 +18,7 @@ use Rattle.represent.proofs.Grafts.{occ-split, over-graft}
 use Rattle.represent.proofs.CarriedLaws.{Numbered, numbered-above}
 use Rattle.represent.proofs.Blocks.{Written, room-node, grow-written, lower-written, upper-written}
 use Rattle.represent.proofs.Writes.{changed-then}
-use Rattle.represent.proofs.Level.{At, is-moved, nodes-frame, SameLinks, unlinked-moved, Plain, Ready, Climbed, label-low, label-high, here, local-depth, rewritten, rewritten-links}
+use Rattle.represent.proofs.Level.{At, is-moved, nodes-frame, SameLinks, unlinked-moved, Plain, Ready, Climbed, ready-low, ready-high, here, local-depth, rewritten, rewritten-links}
 use Rattle.represent.proofs.Splits.{Split}
 
 module _ {θ : ℕ} {I : NodeOps} {O : StoreOps} (A : NodeLaws θ I) (B : StoreLaws θ O) where
@@ -72,7 +72,7 @@ module _ {θ : ℕ} {I : NodeOps} {O : StoreOps} (A : NodeLaws θ I) (B : StoreL
         -- the levels above are as they were
         untouched : (x : ℕ) → 1 ≤ occs x bs → node s₁ x ≡ node s x
         untouched x o =
-            w .frame x (label-low y x (omega arith)) (label-high y x (omega arith)) (omega (arith, y .numbered .once x))
+            w .frame x (ready-low y x (omega arith)) (ready-high y x (omega arith)) (omega (arith, y .numbered .once x))
 
         above : taken s < cap s → Ready θ O s₁ (suc k) b bs
         above more =
@@ -96,7 +96,7 @@ module _ {θ : ℕ} {I : NodeOps} {O : StoreOps} (A : NodeLaws θ I) (B : StoreL
                 | yes i ↦ z .frame x (omega arith) (omega (arith, w .changed .now)) (omega (arith, y .numbered .none x (omega arith)))
                 | no i ↦
                     let p : 1 ≤ occ x b = omega (arith, occ-split x b key m, ind-other x m i) in
-                    z .frame x (label-low y x (omega arith)) (omega (arith, w .changed .now, label-high y x (omega arith)))
+                    z .frame x (ready-low y x (omega arith)) (omega (arith, w .changed .now, ready-high y x (omega arith)))
                     (omega (arith, y .numbered .once x))
               ]
 

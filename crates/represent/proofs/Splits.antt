@@ -16,7 +16,7 @@ use Rattle.represent.proofs.LabelLaws.{over-in}
 use Rattle.represent.proofs.Grafts.{off-key}
 use Rattle.represent.proofs.Blocks.{linked-written}
 use Rattle.represent.proofs.Writes.{two-nodes, advanced, relink-nodes}
-use Rattle.represent.proofs.Level.{At, is-moved, Ready, label-low, label-high, key-low, key-high}
+use Rattle.represent.proofs.Level.{At, is-moved, Ready, ready-low, ready-high, key-low, key-high}
 
 module _ (θ : ℕ) (O : StoreOps) where
   open StoreOps O using (S, node, root, levels, taken)
@@ -56,10 +56,10 @@ module _ {θ : ℕ} {I : NodeOps} {O : StoreOps} (A : NodeLaws θ I) (B : StoreL
     n = leafAt b key
 
     q-low : (q ≡ 0 → ⊥) → 1 ≤ q
-    q-low ne = label-low y q (omega (arith, known ne))
+    q-low ne = ready-low y q (omega (arith, known ne))
 
     q-high : q ≤ taken s
-    q-high = elim (ℕ-discrete q 0) [ yes e ↦ omega arith | no ne ↦ label-high y q (omega (arith, known ne)) ]
+    q-high = elim (ℕ-discrete q 0) [ yes e ↦ omega arith | no ne ↦ ready-high y q (omega (arith, known ne)) ]
 
     pub parted : taken s < cap s → Parted I O s (parts I O s n ws ws′ q) n ws ws′ q
     parted more =
@@ -91,14 +91,14 @@ module _ {θ : ℕ} {I : NodeOps} {O : StoreOps} (A : NodeLaws θ I) (B : StoreL
           left-is = is-moved (p .at-n) is;
           right-is = is-moved (p .at-m) is′;
           same = λ x v o ne h.
-              let low = label-low y x (omega arith) in
+              let low = ready-low y x (omega arith) in
               elim (ℕ-discrete x q) [
                 | yes e ↦
                     is-moved
                     (subst (λ (z : ℕ). node s₁ z ≡ I .linked (node s z) (suc (taken s)) (forwardWord (node s z) 0)) (sym e)
                     (p .at-q (λ z. omega (arith, low))))
                     (linked-written A h (suc (taken s)) (forwardWord (node s x) 0) .is)
-                | no ne′ ↦ is-moved (p .off x low (label-high y x (omega arith)) ne ne′) h
+                | no ne′ ↦ is-moved (p .off x low (ready-high y x (omega arith)) ne ne′) h
               ];
           frame = λ x a t o. p .off x a t (off-key x b key o) (λ e. not-q x a o e);
           root-same = p .root-same;

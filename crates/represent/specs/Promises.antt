@@ -1,6 +1,7 @@
 -- What is promised of stores that stand for a tree, each as a type; proofs/Promises.antt proves them.
 --   SetUpHolds       == a store just set up holds the tree of no record
---   HeadPasses       == a store that holds a set keeps the head rule; so its levels are at most L
+--   HeadPasses       == a store that holds a set keeps the head rule
+--   LevelsAtMost     == its levels are at most L
 --   CountsAreTheTrees == its levels, nodes taken and pages taken are those of the tree
 --   NodesPass, PagesPass == every node and every page of a represented store keeps its rule
 --   AgreesPasses     == the page at a key agrees with it in the used bits
@@ -21,6 +22,7 @@ use Rattle.lists.specs.Bits.{bits}
 use Rattle.tree.specs.Trie.{Trie, shape, height, leafAt, depth}
 use Rattle.tree.specs.Tower.{levels, nodes}
 use Rattle.tree.specs.Build.{build, pages}
+use Rattle.tree.specs.Book.{levelBound}
 use Rattle.store.specs.declared.Format.{Format}
 use Rattle.store.specs.declared.Head.{Head}
 use Rattle.store.specs.declared.Item.{Item}
@@ -46,6 +48,12 @@ SetUpHolds =
 
 abbrev pub HeadPasses : Type 0
 HeadPasses = (f : Format) (s : List ℕ) (S : List Item) → Holds f s S → headRule f s ≡ true
+
+-- "levels is 1 to L"
+abbrev pub LevelsAtMost : Type 0
+LevelsAtMost =
+    (f : Format) (s : List ℕ) (S : List Item) → Holds f s S
+    → headOf s .levels ≤ levelBound (width f) (headOf s .theta) (headOf s .capacity)
 
 -- the counts in the head: levels, nodes taken and pages taken
 abbrev pub CountsAreTheTrees : Type 0
