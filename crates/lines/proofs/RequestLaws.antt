@@ -84,7 +84,7 @@ unfolding fieldOf
 field-at k ns j h =
     part-past (column 2 k) (columns ns) (2 + 10 * j) (10 * j) 10 (omega (arith, length-column 2 k)) ∙ part-columns ns j h
 
-pub parsed-line : (k a b c d : ℕ) → k < 100 → a < 2 ^ 32 → b < 2 ^ 32 → c < 2 ^ 32 → d < 2 ^ 32
+parsed-line : (k a b c d : ℕ) → k < 100 → a < 2 ^ 32 → b < 2 ^ 32 → c < 2 ^ 32 → d < 2 ^ 32
     → parsed (column 2 k ++ columns (a ∷ b ∷ c ∷ d ∷ [])) ≡ requestOf k a b c d
 parsed-line k a b c d hk ha hb hc hd =
     let ns : List ℕ = a ∷ b ∷ c ∷ d ∷ [] in

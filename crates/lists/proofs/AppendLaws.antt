@@ -1,8 +1,11 @@
--- What holds of every element, or of every two, of one list after another; and filters that keep all or nothing.
+-- What holds of every element, or of every two, of one list after another and at an index; and filters that keep all or nothing.
 use mathlib.Core.Path.{_≡_, refl, sym, ap, _∙_}
 use mathlib.Core.Bool.{Bool, true, false}
 use mathlib.Core.List.{List, [], _∷_, _++_}
 use mathlib.Core.Logic.{inl, inr}
+use Prim.Native.Nat.{ℕ, zero, suc, _<_}
+use native.Mathlib.Omega.{arith}
+use lib.ListN.{length, getD}
 use Rattle.lists.specs.Lists.{All, Pairwise, filter}
 use Rattle.lists.proofs.Cases.{bool-cases}
 use Rattle.lists.proofs.ListLaws.{filter-true, filter-false}
@@ -43,3 +46,16 @@ module _ {A : Type 0} where
     pub pairwise-before : (xs : List A) (y : A) (ys : List A) → Pairwise P (xs ++ (y ∷ ys)) → All (λ x. P x y) xs
     pairwise-before [] y ys a = tt
     pairwise-before (x ∷ xs) y ys a = (append-all (P x) xs (y ∷ ys) (a .0) .1 .0, pairwise-before xs y ys (a .1))
+
+-- at an index
+pub all-at : {A : Type 0} (P : A → Type 0) (z : A) (xs : List A) (i : ℕ) → All P xs → i < length xs → P (getD xs i z)
+all-at P z [] i a h = absurd (omega arith)
+all-at P z (x ∷ xs) zero a h = a .0
+all-at P z (x ∷ xs) (suc i) a h = all-at P z xs i (a .1) (omega arith)
+
+pub pairwise-at : {A : Type 0} (P : A → A → Type 0) (z : A) (xs : List A) (i j : ℕ) → Pairwise P xs → i < j → j < length xs
+    → P (getD xs i z) (getD xs j z)
+pairwise-at P z [] i j a h l = absurd (omega arith)
+pairwise-at P z (x ∷ xs) i zero a h l = absurd (omega arith)
+pairwise-at P z (x ∷ xs) zero (suc j) a h l = all-at (P x) z xs j (a .0) (omega arith)
+pairwise-at P z (x ∷ xs) (suc i) (suc j) a h l = pairwise-at P z xs i j (a .1) (omega arith) (omega arith)

@@ -220,7 +220,7 @@ module _ (f : Format) (s : List ℕ) (b0 : Trie Stretch) (b : Trie ℕ) (bs : Li
       (each-after _ b key (each-of _ b (λ n o. label-low (b ∷ bs) n (r .directory .positive) (omega arith))))
       (each-after _ b key (pass .0))
 
-  pub after-own : (strict : Bool)
+  after-own : (strict : Bool)
       → afterOwn f s (headOf s) strict k (ownStep f b0 b k) ≡ visited f s strict k (firstPage (after (numbers b0) (bits (width f) k)))
   after-own strict =
       let w = after-over (ShownAt s) b u key shown in

@@ -102,7 +102,7 @@ module _ (f : Format) (s : List ℕ) (b0 : Trie Stretch) (bs : List (Trie ℕ)) 
   abbrev h : Head
   h = headOf s
 
-  pub rep-levels : height b0 ≤ width f → length bs ≤ 32
+  rep-levels : height b0 ≤ width f → length bs ≤ 32
   rep-levels deep =
       omega (
         arith,

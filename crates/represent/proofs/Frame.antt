@@ -3,8 +3,7 @@
 use mathlib.Core.Path.{_≡_, refl, ap, _∙_}
 use mathlib.Core.Logic.{_⊎_, inl, inr}
 use mathlib.Core.List.{List, _++_}
-use Prim.Native.Nat.{ℕ, _+_, _-_, _*_, _≤_, _<_}
-use native.Mathlib.Decide.{decLt}
+use Prim.Native.Nat.{ℕ, _+_, _*_, _≤_, _<_}
 use native.Mathlib.Omega.{arith}
 use lib.Dec.{eqb}
 use lib.ListN.{length, take, drop, set, length-set, length-take, List·getD-append}
@@ -12,59 +11,14 @@ use lib.Seq.{getD-take, getD-set-same, getD-set-other}
 use Rattle.lists.specs.Lists.{replaced}
 use Rattle.lists.proofs.Parts.{part-replaced}
 use Rattle.lists.proofs.Elsewhere.{Elsewhere, elsewhere-replaced, elsewhere-set, part-beside, drop-beside}
-use Rattle.lists.proofs.Shifts.{stride}
 use Rattle.lists.proofs.Tests.{every-ext}
 use Rattle.store.specs.declared.Format.{Format}
 use Rattle.store.specs.declared.Head.{Head}
-use Rattle.store.specs.Head.{word, zeros, headOf, nodeWords, pageWords, size, nodeStart, pageStart, pageAt}
+use Rattle.store.specs.Head.{word, zeros, headOf, nodeWords, pageWords, nodeStart, pageStart, pageAt}
 use Rattle.represent.specs.Image.{nodeAt}
 use Rattle.represent.specs.Rep.{sizeOf, Sized}
 use Rattle.represent.specs.Frame.{nodeOf, pageOf, putNode, putPage, putHead, putFilled}
-
--- blocks of one size, counted from 1, lie beside one another
-blocks-apart : (base step x n : ℕ) → 1 ≤ x → 1 ≤ n → (x ≡ n → ⊥)
-    → (base + (x - 1) * step + step ≤ base + (n - 1) * step) ⊎ (base + (n - 1) * step + step ≤ base + (x - 1) * step)
-blocks-apart base step x n p q ne =
-    elim (decLt x n) [
-      | yes l ↦ inl (omega (arith, stride (x - 1) (n - 1) step (omega arith)))
-      | no l ↦
-          elim (decLt n x) [
-            | yes g ↦ inr (omega (arith, stride (n - 1) (x - 1) step (omega arith)))
-            | no g ↦ absurd (ne (omega arith))
-          ]
-    ]
-
-module _ (h : Head) where
-  node-start : (n : ℕ) → 16 ≤ nodeStart h n
-  unfolding nodeStart
-  node-start n = omega arith
-
-  node-end : (n : ℕ) → 1 ≤ n → n ≤ h .nodes → nodeStart h n + nodeWords (h .theta) ≤ 16 + h .nodes * nodeWords (h .theta)
-  unfolding nodeStart
-  node-end n low high = omega (arith, stride (n - 1) (h .nodes) (nodeWords (h .theta)) (omega arith))
-
-  nodes-apart : (x n : ℕ) → 1 ≤ x → 1 ≤ n → (x ≡ n → ⊥)
-      → (nodeStart h x + nodeWords (h .theta) ≤ nodeStart h n) ⊎ (nodeStart h n + nodeWords (h .theta) ≤ nodeStart h x)
-  unfolding nodeStart
-  nodes-apart = blocks-apart 16 (nodeWords (h .theta))
-
-  module _ (f : Format) where
-    nodes-end : 16 + h .nodes * nodeWords (h .theta) ≤ size f (h .theta) (h .capacity) (h .nodes) (h .pages)
-    unfolding size
-    nodes-end = omega arith
-
-    page-start : (p : ℕ) → 16 + h .nodes * nodeWords (h .theta) ≤ pageStart f h p
-    unfolding pageStart
-    page-start p = omega arith
-
-    page-end : (p : ℕ) → 1 ≤ p → p ≤ h .pages → pageStart f h p + pageWords f (h .capacity) ≤ size f (h .theta) (h .capacity) (h .nodes) (h .pages)
-    unfolding pageStart size
-    page-end p low high = omega (arith, stride (p - 1) (h .pages) (pageWords f (h .capacity)) (omega arith))
-
-    pages-apart : (x p : ℕ) → 1 ≤ x → 1 ≤ p → (x ≡ p → ⊥)
-        → (pageStart f h x + pageWords f (h .capacity) ≤ pageStart f h p) ⊎ (pageStart f h p + pageWords f (h .capacity) ≤ pageStart f h x)
-    unfolding pageStart
-    pages-apart = blocks-apart (16 + h .nodes * nodeWords (h .theta)) (pageWords f (h .capacity))
+use Rattle.represent.proofs.Places.{node-start, node-end, nodes-apart, nodes-end, page-start, page-end, pages-apart}
 
 -- all that a store's layout goes by
 pub record SameSizes (h h′ : Head) : Type 0 where
@@ -291,7 +245,7 @@ module _ (s : List ℕ) (filled : ℕ) where
   pub putFilled-pages : (f : Format) (p : ℕ) → pageOf f (putFilled s filled) p ≡ pageOf f s p
   putFilled-pages f p = page-kept filled-write (omega arith) f p (inr (omega (arith, page-start (headOf s) f p)))
 
-  pub putFilled-drop : (m : ℕ) → 8 ≤ m → drop m (putFilled s filled) ≡ drop m s
+  putFilled-drop : (m : ℕ) → 8 ≤ m → drop m (putFilled s filled) ≡ drop m s
   putFilled-drop m h = drop-beside 0 filled-write m (omega arith)
 
   pub putFilled-beyond : (f : Format) → drop (sizeOf f s) (putFilled s filled) ≡ drop (sizeOf f s) s

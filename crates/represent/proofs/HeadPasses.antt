@@ -3,17 +3,18 @@
 use mathlib.Core.Path.{_≡_, refl, sym, ap, _∙_}
 use mathlib.Core.Bool.{true}
 use mathlib.Core.List.{List, [], _∷_}
-use Prim.Native.Nat.{ℕ, zero, suc, _+_, _^_, _≤_, _<_}
-use native.Mathlib.Decide.{decLe, decLt}
+use Prim.Native.Nat.{ℕ, suc, _+_, _≤_, _<_}
+use native.Mathlib.Decide.{decLt}
 use native.Mathlib.Omega.{arith}
 use lib.Dec.{leb}
 use lib.ListN.{length, length-map}
 use lib.Pow.{pow-mono}
-use borrow.Author.Tests.{le-leb, lt-leb}
+use borrow.Author.Tests.{le-leb}
 use Rattle.tree.specs.Trie.{Trie, leaf, fork, shape}
 use Rattle.tree.specs.Tower.{levels, allLeaves, nodes}
 use Rattle.tree.specs.Build.{build, pages}
-use Rattle.tree.specs.Book.{logBelow, log2}
+use Rattle.tree.specs.Book.{log2}
+use Rattle.tree.proofs.LevelLaws.{pow-logBelow}
 use Rattle.tree.proofs.Promises.{levels-within}
 use Rattle.store.specs.declared.Format.{Format}
 use Rattle.store.specs.declared.Format.the-variants.{Plots}
@@ -29,20 +30,6 @@ use Rattle.represent.specs.Promises.{HeadPasses, LevelsAtMost, CountsAre
 use Rattle.represent.proofs.LabelLaws.{label-low, label-high, ind-self}
 use Rattle.represent.proofs.ListingLaws.{lawful-bounded}
 use Rattle.represent.proofs.Counting.{rep-nodes, rep-pages}
-
--- the logarithm of the capacity is below the width
-log-lt : (n C m : ℕ) → 1 ≤ m → C < 2 ^ m → logBelow n C < m
-unfolding logBelow
-log-lt zero C m p h = omega arith
-log-lt (suc n) C m p h =
-    elim (decLe (2 ^ suc n) C) [
-      | yes a ↦ rw (le-leb (2 ^ suc n) C a, logBelow)
-          (elim (decLt (suc n) m) [
-            | yes l ↦ l
-            | no l ↦ absurd (omega (arith, pow-mono {i = m} {j = suc n} (omega arith)))
-          ])
-      | no a ↦ rw (lt-leb (2 ^ suc n) C (omega arith), logBelow) (log-lt n C m p h)
-    ]
 
 width-low : (f : Format) → 7 ≤ width f
 unfolding width
@@ -88,8 +75,19 @@ module _ (f : Format) (s : List ℕ) (S : List Item) (w : Holds f s S) where
       ∙ ap length (r .directory .levels-are)
       ∙ ap (levels (h .theta)) shape-is
 
+  -- 2^f ≤ C ≤ 64
   log-low : log2 (h .capacity) < width f
-  log-low = omega (arith, width-low f, log-lt (h .capacity) (h .capacity) 7 (omega arith) (omega (arith, limits .capacity)))
+  log-low =
+      elim (decLt (log2 (h .capacity)) 7) [
+        | yes l ↦ omega (arith, width-low f)
+        | no l ↦
+            absurd (omega (
+              arith,
+              limits .capacity,
+              pow-logBelow (h .capacity) (h .capacity) (limits .capacity-low),
+              pow-mono {i = 7} {j = log2 (h .capacity)} (omega arith),
+            ))
+      ]
 
   counts : Counts f h
   counts =

@@ -5,7 +5,6 @@ use mathlib.Core.Bool.{true}
 use mathlib.Core.List.{List, [], _∷_, _++_}
 use Prim.Native.Nat.{ℕ, zero, suc, _+_, _-_, _*_, _^_, _≤_, _<_}
 use native.Mathlib.Omega.{arith}
-use native.Mathlib.Nat.{mul-le-mul-right}
 use lib.Dec.{eqb}
 use lib.Pow.{pow-mono}
 use lib.ListN.{length, getD, drop, replicate}
@@ -27,11 +26,12 @@ use Rattle.node.specs.Node.{depthWord, levelWord, backWord, forwardWord, entryO
 use Rattle.represent.specs.Labelled.{occ}
 use Rattle.represent.specs.Image.{entryWords, nodeImage, nodeAt, NodeIs}
 use Rattle.represent.proofs.LabelLaws.{occ-at}
+use Rattle.represent.proofs.Places.{node-fits}
 
 pub part-word : (s : List ℕ) (a n i : ℕ) → a + n ≤ length s → i < n → word (part s a n) i ≡ word s (a + i)
 part-word s a n i h l = ap (λ ws. getD ws i 0) (part-in s a n h) ∙ getD-take n (drop a s) i 0 l ∙ getD-drop a s i 0
 
-length-entryWords : (es : List (Entry ℕ)) → length (entryWords es) ≡ 2 * length es
+pub length-entryWords : (es : List (Entry ℕ)) → length (entryWords es) ≡ 2 * length es
 length-entryWords [] = refl
 length-entryWords (e ∷ es) = omega (arith, length-entryWords es)
 
@@ -93,15 +93,15 @@ module _ (s : List ℕ) (a θ level back forward : ℕ) (v : Trie ℕ) (fits : a
   long : length (flatten (height v) v 0) ≡ 2 ^ height v
   long = length-flatten (height v) v 0
 
-  pub image-back : backWord s a ≡ back
+  image-back : backWord s a ≡ back
   unfolding nodeWords nodeImage
   image-back = at 2 (omega arith)
 
-  pub image-forward : forwardWord s a ≡ forward
+  image-forward : forwardWord s a ≡ forward
   unfolding nodeWords nodeImage
   image-forward = at 3 (omega arith)
 
-  pub image-shown : Shown s a θ level v
+  image-shown : Shown s a θ level v
   unfolding nodeWords nodeImage zeros
   image-shown =
       record {
@@ -122,20 +122,11 @@ module _ (s : List ℕ) (a θ level back forward : ℕ) (v : Trie ℕ) (fits : a
           ∙ getD-past (entryWords (flatten (height v) v 0)) (replicate (2 * (2 ^ θ - 2 ^ height v)) 0) 0 j (omega (arith, length-entryWords (flatten (height v) v 0), long))
           ∙ getD-zeros (2 * (2 ^ θ - 2 ^ height v)) j
 
--- a taken node's block lies in the store
-pub node-fits : (f : Format) (h : Head) (n L : ℕ) → 1 ≤ n → n ≤ h .nodes → size f (h .theta) (h .capacity) (h .nodes) (h .pages) ≤ L
-    → nodeStart h n + nodeWords (h .theta) ≤ L
-unfolding nodeStart size
-node-fits f h n L low high room =
-    let e : n - 1 + 1 ≡ n = omega arith in
-    let m : n * nodeWords (h .theta) ≤ h .nodes * nodeWords (h .theta) = mul-le-mul-right (nodeWords (h .theta)) high in
-    omega (arith, m, ap (λ x. x * nodeWords (h .theta)) e)
-
 -- a node that shows a trie, in place: its words, and its links
 module _ (f : Format) (s : List ℕ) (h : Head) (n level : ℕ) (v : Trie ℕ) (low : 1 ≤ n) (high : n ≤ h .nodes)
     (room : size f (h .theta) (h .capacity) (h .nodes) (h .pages) ≤ length s) (is : NodeIs (h .theta) (nodeAt s h n) level v) where
   fits : nodeStart h n + nodeWords (h .theta) ≤ length s
-  fits = node-fits f h n (length s) low high room
+  fits = node-fits h f n (length s) low high room
 
   pub node-shown : Shown s (nodeStart h n) (h .theta) level v
   unfolding nodeAt

@@ -63,10 +63,6 @@ module _ {A : Type 0} where
   pub labels-at : (t : Trie A) (k : Key) → labels t ≡ before t k ++ (leafAt t k ∷ after t k)
   labels-at t k = ap labels (sym (graft-leafAt t k)) ∙ labels-graft t k (leaf (leafAt t k))
 
-  pub each-map : (P Q : A → Type 0) (t : Trie A) → ((x : A) → P x → Q x) → Each P t → Each Q t
-  each-map P Q (leaf x) g h = g x h
-  each-map P Q (fork l r) g h = (each-map P Q l g (h .0), each-map P Q r g (h .1))
-
   pub each-at : (P : A → Type 0) (t : Trie A) (k : Key) → Each P t → P (leafAt t k)
   each-at P (leaf x) k h = h
   each-at P (fork l r) [] h = each-at P l [] (h .0)
@@ -123,7 +119,7 @@ module _ {A B : Type 0} (g : A → B) where
   depth-relabel (fork l r) (false ∷ k) = ap suc (depth-relabel l k)
   depth-relabel (fork l r) (true ∷ k) = ap suc (depth-relabel r k)
 
-  pub labels-relabel : (t : Trie A) → labels (relabel g t) ≡ map g (labels t)
+  labels-relabel : (t : Trie A) → labels (relabel g t) ≡ map g (labels t)
   labels-relabel (leaf x) = refl
   labels-relabel (fork l r) = ap₂ _++_ (labels-relabel l) (labels-relabel r) ∙ sym (map-append g (labels l) (labels r))
 
@@ -132,6 +128,32 @@ module _ {A B : Type 0} (g : A → B) where
   after-relabel (fork l r) [] = ap₂ _++_ (after-relabel l []) (labels-relabel r) ∙ sym (map-append g (after l []) (labels r))
   after-relabel (fork l r) (false ∷ k) = ap₂ _++_ (after-relabel l k) (labels-relabel r) ∙ sym (map-append g (after l k) (labels r))
   after-relabel (fork l r) (true ∷ k) = after-relabel r k
+
+pub relabel-graft : {A B : Type 0} (g : A → B) (t : Trie A) (k : Key) (c : Trie A) → relabel g (graft t k c) ≡ graft (relabel g t) k (relabel g c)
+relabel-graft g (leaf x) k c = refl
+relabel-graft g (fork l r) [] c = rw (relabel-graft g l [] c)
+relabel-graft g (fork l r) (false ∷ k) c = rw (relabel-graft g l k c)
+relabel-graft g (fork l r) (true ∷ k) c = rw (relabel-graft g r k c)
+
+-- what each label has, where g numbers the labels
+module _ {A : Type 0} (g : A → ℕ) (P Q : A → Type 0) where
+  pub each-map : (t : Trie A) → ((x : A) → 1 ≤ occ (g x) (relabel g t) → P x → Q x) → Each P t → Each Q t
+  each-map (leaf x) f h = f x (omega (arith, ind-self (g x))) h
+  each-map (fork l r) f h = (each-map l (λ x o. f x (omega arith)) (h .0), each-map r (λ x o. f x (omega arith)) (h .1))
+
+  ind-key : (t : Trie A) (k : Key) (n : ℕ) → ind n (g (leafAt t k)) ≤ occ n (relabel g t)
+  ind-key t k n = subst (λ (m : ℕ). ind n m ≤ occ n (relabel g t)) (leafAt-relabel g t k) (ind-at n (relabel g t) k)
+
+  -- the labels beside the leaf at the key are those that occur once more
+  pub each-graft : (t : Trie A) (k : Key) (c : Trie A)
+      → ((x : A) → ind (g x) (g (leafAt t k)) < occ (g x) (relabel g t) → P x → Q x) → Each P t → Each Q c → Each Q (graft t k c)
+  each-graft (leaf x) k c f h q = q
+  each-graft (fork l r) [] c f h q =
+      (each-graft l [] c (λ x o. f x (omega arith)) (h .0) q, each-map r (λ x o. f x (omega (arith, ind-key l [] (g x)))) (h .1))
+  each-graft (fork l r) (false ∷ k) c f h q =
+      (each-graft l k c (λ x o. f x (omega arith)) (h .0) q, each-map r (λ x o. f x (omega (arith, ind-key l k (g x)))) (h .1))
+  each-graft (fork l r) (true ∷ k) c f h q =
+      (each-map l (λ x o. f x (omega (arith, ind-key r k (g x)))) (h .0), each-graft r k c (λ x o. f x (omega arith)) (h .1) q)
 
 module _ {A : Type 0} (P : ℕ → Trie A → Type 0) where
   -- at the key: P of b's label and what stands under it

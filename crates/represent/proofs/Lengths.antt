@@ -1,6 +1,6 @@
 -- The words of a block's image fill the block: its entries or records, and zeros for those that are not in use.
 use mathlib.Core.Path.{_≡_, ap}
-use mathlib.Core.List.{List, [], _∷_}
+use mathlib.Core.List.{List}
 use Prim.Native.Nat.{ℕ, _+_, _-_, _*_, _^_, _≤_}
 use native.Mathlib.Omega.{arith}
 use lib.ListN.{length, replicate, length-append, length-replicate}
@@ -15,10 +15,7 @@ use Rattle.store.specs.Head.{nodeWords, pageWords}
 use Rattle.scan.specs.Range.{flat}
 use Rattle.scan.proofs.FillLaws.{length-flat}
 use Rattle.represent.specs.Image.{entryWords, nodeImage, pageImage}
-
-length-entries : (es : List (Entry ℕ)) → length (entryWords es) ≡ 2 * length es
-length-entries [] = omega arith
-length-entries (e ∷ es) = omega (arith, length-entries es)
+use Rattle.represent.proofs.ImageLaws.{length-entryWords}
 
 pub length-nodeImage : (θ level back forward : ℕ) (v : Trie ℕ) → height v ≤ θ → length (nodeImage θ level back forward v) ≡ nodeWords θ
 unfolding nodeImage nodeWords
@@ -27,7 +24,7 @@ length-nodeImage θ level back forward v h =
     omega (
       arith,
       length-append (entryWords es) (replicate (2 * (2 ^ θ - 2 ^ height v)) 0),
-      length-entries es,
+      length-entryWords es,
       length-flatten (height v) v 0,
       length-replicate {A = ℕ} (2 * (2 ^ θ - 2 ^ height v)) 0,
       pow-mono {i = height v} {j = θ} h,

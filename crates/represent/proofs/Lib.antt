@@ -33,3 +33,4 @@ pub mod Lengths
 pub mod WordStore
 pub mod PageLaws
 pub mod Stepping
+pub mod Places

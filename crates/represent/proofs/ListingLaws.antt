@@ -219,14 +219,14 @@ module _ (f : Format) (s : List ℕ) (h : Head) (S : List Item) where
       start : low ≤ high → high < 2 ^ width f → (rest : List Item) × Start f s h low high S rest
       start p q = let r = from-key low S sorted in (r .1, start-at p q (r .0) (r .1) (r .2) (r .3) (r .4))
 
-    pub ranged-is : (low high room : ℕ) → low ≤ high → high < 2 ^ width f → ranged f s h low high room ≡ rangedIn S low high room
+    ranged-is : (low high room : ℕ) → low ≤ high → high < 2 ^ width f → ranged f s h low high room ≡ rangedIn S low high room
     unfolding ranged rangedIn
     ranged-is low high room p q =
         let r = start low high p q in
         range-walk f s h high (high + 1 - low + 1) false low room (r .0) (r .1 .next) (r .1 .follows) (r .1 .ascends) (r .1 .turns)
         ∙ ap (cutAt room) (sym (r .1 .records))
 
-    pub summed-is : (low high today : ℕ) → low ≤ high → high < 2 ^ width f
+    summed-is : (low high today : ℕ) → low ≤ high → high < 2 ^ width f
         → summed f s h low high today ≡ done (totalsOf noTotals (within low high S) today)
     unfolding summed
     summed-is low high today p q =

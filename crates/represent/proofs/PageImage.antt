@@ -11,10 +11,11 @@ use native.Mathlib.Omega.{arith}
 use lib.Dec.{ltb, eqb}
 use lib.ListN.{length, getD, replicate}
 use borrow.Author.Tests.{leb-true, leb-false, lt-ltb, le-ltb, ne-eqb}
-use Rattle.lists.specs.Lists.{All, Pairwise, every}
+use Rattle.lists.specs.Lists.{All, every}
 use Rattle.lists.specs.Keyed.{Sorted}
 use Rattle.lists.proofs.Cases.{bool-cases}
 use Rattle.lists.proofs.ListLaws.{all-map}
+use Rattle.lists.proofs.AppendLaws.{all-at, pairwise-at}
 use Rattle.lists.proofs.Parts.{getD-past}
 use Rattle.lists.proofs.Tests.{every-of}
 use Rattle.store.specs.declared.Format.{Format}
@@ -34,19 +35,6 @@ use Rattle.represent.specs.Rep.{keyOf}
 use Rattle.represent.specs.Listing.{firstWhere}
 use Rattle.represent.proofs.FirstLaws.{first-true, first-false, first-none}
 use Rattle.represent.proofs.ImageLaws.{getD-zeros}
-
--- lists by index
-all-at : {A : Type 0} (P : A → Type 0) (z : A) (xs : List A) (i : ℕ) → All P xs → i < length xs → P (getD xs i z)
-all-at P z [] i a h = absurd (omega arith)
-all-at P z (x ∷ xs) zero a h = a .0
-all-at P z (x ∷ xs) (suc i) a h = all-at P z xs i (a .1) (omega arith)
-
-pairwise-at : {A : Type 0} (P : A → A → Type 0) (z : A) (xs : List A) (i j : ℕ) → Pairwise P xs → i < j → j < length xs
-    → P (getD xs i z) (getD xs j z)
-pairwise-at P z [] i j a h l = absurd (omega arith)
-pairwise-at P z (x ∷ xs) i zero a h l = absurd (omega arith)
-pairwise-at P z (x ∷ xs) zero (suc j) a h l = all-at (P x) z xs j (a .0) (omega arith)
-pairwise-at P z (x ∷ xs) (suc i) (suc j) a h l = pairwise-at P z xs i j (a .1) (omega arith) (omega arith)
 
 -- the first record that passes a test
 module _ (test : Item → Bool) where
@@ -174,7 +162,7 @@ module _ (k : ℕ) where
       ]
 
 module _ (f : Format) (C : ℕ) (pg : List ℕ) (rs : List Item) (is : pg ≡ pageImage f C rs) where
-  pub page-count : count pg ≡ length rs
+  page-count : count pg ≡ length rs
   unfolding pageImage
   page-count = ap (λ ws. word ws 0) is
 
@@ -187,7 +175,7 @@ module _ (f : Format) (C : ℕ) (pg : List ℕ) (rs : List Item) (is : pg ≡ pa
       ∙ getD-zeros (words f * (C - length rs)) j
 
   module _ (lawful : All (λ it. lawfulItem f it ≡ true) rs) where
-    pub page-item : (i : ℕ) → i < length rs → itemAt f pg i ≡ getD rs i noItem
+    page-item : (i : ℕ) → i < length rs → itemAt f pg i ≡ getD rs i noItem
     unfolding pageImage
     page-item i h =
         ap (λ ws. itemAt f ws i) is ∙ item-flat f (length rs) rs (replicate (words f * (C - length rs)) 0) i lawful h

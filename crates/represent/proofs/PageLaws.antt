@@ -24,10 +24,10 @@ use Rattle.store.specs.declared.Item.{Item}
 use Rattle.store.specs.Format.{width}
 use Rattle.store.specs.Head.{headOf, pageWords, pageAt}
 use Rattle.page.specs.Page.{lawfulItem}
-use Rattle.represent.specs.Labelled.{relabel, Each, ind, occ, OneForOne}
+use Rattle.represent.specs.Labelled.{Each, ind, occ, OneForOne}
 use Rattle.represent.specs.Image.{pageImage}
 use Rattle.represent.specs.Rep.{Stretch, numbers, keyOf, PageIs, Lawful, Keyed, Pages, Sized}
-use Rattle.represent.proofs.LabelLaws.{label-high, ind-eq, ind-self, ind-other, occ-graft, ind-at, occ-at, each-at, leafAt-relabel}
+use Rattle.represent.proofs.LabelLaws.{label-high, ind-eq, ind-other, occ-graft, occ-at, each-at, leafAt-relabel, relabel-graft, each-map, each-graft}
 use Rattle.represent.proofs.Records.{keyed-own}
 use Rattle.represent.specs.Insertion.{stretchAt, leftAt, prefixAt, nextBit, halfAt, replacedAt, Fit, putItems, takeItems}
 use Rattle.represent.specs.Frame.{pageOf}
@@ -35,39 +35,13 @@ use Rattle.represent.proofs.Lengths.{length-pageImage}
 use Rattle.represent.proofs.Frame.{sized-long, putPage-head, putPage-sized, putPage-same, putPage-other}
 use Rattle.represent.proofs.Frame.{putFilled-sizes, putFilled-filled, putFilled-pages}
 
-pub relabel-graft : {A B : Type 0} (g : A → B) (t : Trie A) (k : Key) (c : Trie A) → relabel g (graft t k c) ≡ graft (relabel g t) k (relabel g c)
-relabel-graft g (leaf x) k c = refl
-relabel-graft g (fork l r) [] c = rw (relabel-graft g l [] c)
-relabel-graft g (fork l r) (false ∷ k) c = rw (relabel-graft g l k c)
-relabel-graft g (fork l r) (true ∷ k) c = rw (relabel-graft g r k c)
-
--- what each label has, where g numbers the labels
-module _ {A : Type 0} (g : A → ℕ) (P Q : A → Type 0) where
-  pub each-map : (t : Trie A) → ((x : A) → 1 ≤ occ (g x) (relabel g t) → P x → Q x) → Each P t → Each Q t
-  each-map (leaf x) f h = f x (omega (arith, ind-self (g x))) h
-  each-map (fork l r) f h = (each-map l (λ x o. f x (omega arith)) (h .0), each-map r (λ x o. f x (omega arith)) (h .1))
-
-  at-key : (t : Trie A) (k : Key) (n : ℕ) → ind n (g (leafAt t k)) ≤ occ n (relabel g t)
-  at-key t k n = subst (λ (m : ℕ). ind n m ≤ occ n (relabel g t)) (leafAt-relabel g t k) (ind-at n (relabel g t) k)
-
-  -- the labels beside the leaf at the key are those that occur once more
-  pub each-graft : (t : Trie A) (k : Key) (c : Trie A)
-      → ((x : A) → ind (g x) (g (leafAt t k)) < occ (g x) (relabel g t) → P x → Q x) → Each P t → Each Q c → Each Q (graft t k c)
-  each-graft (leaf x) k c f h q = q
-  each-graft (fork l r) [] c f h q =
-      (each-graft l [] c (λ x o. f x (omega arith)) (h .0) q, each-map r (λ x o. f x (omega (arith, at-key l [] (g x)))) (h .1))
-  each-graft (fork l r) (false ∷ k) c f h q =
-      (each-graft l k c (λ x o. f x (omega arith)) (h .0) q, each-map r (λ x o. f x (omega (arith, at-key l k (g x)))) (h .1))
-  each-graft (fork l r) (true ∷ k) c f h q =
-      (each-map l (λ x o. f x (omega (arith, at-key r k (g x)))) (h .0), each-graft r k c (λ x o. f x (omega arith)) (h .1) q)
-
-numbers-graft : (p : ℕ) (t : Trie Stretch) (k : Key) (c : Trie Stretch)
+count-graft : (p : ℕ) (t : Trie Stretch) (k : Key) (c : Trie Stretch)
     → occ p (numbers (graft t k c)) + ind p (leafAt t k .0) ≡ occ p (numbers t) + occ p (numbers c)
-numbers-graft p t k c =
+count-graft p t k c =
     rw (relabel-graft (λ (x : Stretch). x .0) t k c, ← leafAt-relabel (λ (x : Stretch). x .0) t k) (occ-graft p (numbers t) k (numbers c))
 
 -- another trie at the place of a key
-pub keyed-graft : (w : ℕ) (t : Trie Stretch) (key : ℕ) (c : Trie Stretch) → Keyed w (key / 2 ^ w) t
+keyed-graft : (w : ℕ) (t : Trie Stretch) (key : ℕ) (c : Trie Stretch) → Keyed w (key / 2 ^ w) t
     → Keyed (w - depth t (bits w key)) (key / 2 ^ (w - depth t (bits w key))) c → Keyed w (key / 2 ^ w) (graft t (bits w key) c)
 keyed-graft w (leaf x) key c p q = rw sub-zero at q
 keyed-graft zero (fork l r) key c p q = absurd p
@@ -115,7 +89,7 @@ pages-frame f s s′ h h′ b0 c e kept pg =
     }
 
 -- a list that loses nothing to a side
-pub side-whole : {R : Type 0} (key : R → ℕ) (b : Bool) (w : ℕ) (rs : List R) → length (side key b w rs) ≡ length rs → side key b w rs ≡ rs
+side-whole : {R : Type 0} (key : R → ℕ) (b : Bool) (w : ℕ) (rs : List R) → length (side key b w rs) ≡ length rs → side key b w rs ≡ rs
 side-whole key b w rs e =
     elim (bool-cases (all (λ r. same b (bit w (key r))) rs)) [
       | inl a ↦ filter-all (λ r. same b (bit w (key r))) rs a
@@ -210,8 +184,8 @@ module _ (f : Format) (s : List ℕ) (h : Head) (b0 : Trie Stretch) (key : ℕ) 
         → OneForOne (h .filled) (λ p. occ p (numbers (replacedAt f b0 key c)))
     same-count e =
         record {
-          once = λ p low high. omega (arith, numbers-graft p b0 (bits (width f) key) c, e p low, pg .oneForOne .once p low high);
-          none = λ p l. omega (arith, numbers-graft p b0 (bits (width f) key) c, e p (omega arith), pg .oneForOne .none p l);
+          once = λ p low high. omega (arith, count-graft p b0 (bits (width f) key) c, e p low, pg .oneForOne .once p low high);
+          none = λ p l. omega (arith, count-graft p b0 (bits (width f) key) c, e p (omega arith), pg .oneForOne .none p l);
         }
 
     next-count : ((p : ℕ) → 1 ≤ p → occ p (numbers c) ≡ ind p (stretchAt f b0 key .0) + ind p (suc (h .filled)))
@@ -222,7 +196,7 @@ module _ (f : Format) (s : List ℕ) (h : Head) (b0 : Trie Stretch) (key : ℕ) 
         m = suc (h .filled)
 
         count : (p : ℕ) → 1 ≤ p → occ p (numbers (replacedAt f b0 key c)) ≡ occ p (numbers b0) + ind p m
-        count p low = omega (arith, numbers-graft p b0 (bits (width f) key) c, e p low)
+        count p low = omega (arith, count-graft p b0 (bits (width f) key) c, e p low)
 
         once : (p : ℕ) → 1 ≤ p → p ≤ m → occ p (numbers (replacedAt f b0 key c)) ≡ 1
         once p low high =
@@ -332,7 +306,7 @@ module _ (f : Format) (C : ℕ) (s : List ℕ) (p : ℕ) (rs : List Item) (ok : 
   pub put-other : (x : ℕ) → 1 ≤ x → (x ≡ p → ⊥) → pageOf f (putItems f C s p rs) x ≡ pageOf f s x
   put-other = putPage-other f s p (pageImage f C rs) ok low high put-length
 
-  pub take-capacity : headOf (takeItems f C s p rs) .capacity ≡ headOf s .capacity
+  take-capacity : headOf (takeItems f C s p rs) .capacity ≡ headOf s .capacity
   take-capacity = putFilled-sizes (putItems f C s p rs) p .capacity ∙ ap (λ (h : Head). h .capacity) put-head
 
   pub take-filled : headOf (takeItems f C s p rs) .filled ≡ p

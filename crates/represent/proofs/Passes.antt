@@ -43,7 +43,7 @@ module _ (f : Format) (s : List ℕ) (h : Head) where
   page-agreed (p, r ∷ rs) k used l n a = page-agrees f (h .capacity) (pageAt f s h p) (r ∷ rs) (l .page .1) (l .lawful) k used a
 
 pub pages-pass : PagesPass
-pages-pass f s b0 bs r = each-map (Lawful f s (headOf s)) _ b0 (page-rule f s (headOf s)) (r .pages .each)
+pages-pass f s b0 bs r = each-map (λ x. x .0) (Lawful f s (headOf s)) _ b0 (λ x o. page-rule f s (headOf s) x) (r .pages .each)
 
 pub agrees-passes : AgreesPasses
 agrees-passes f s b0 bs k r low =

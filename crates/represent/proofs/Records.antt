@@ -81,7 +81,7 @@ module _ {R : Type 0} where
               ∙ ap (λ (l : List R). x ∷ l) (sides-join w q xs (s .1) (p .1))
         ]
 
-    pub build-records : (C w q : ℕ) (rs : List R) → Sorted key rs → Prefix key w q rs → held (build key C w rs) ≡ rs
+    build-records : (C w q : ℕ) (rs : List R) → Sorted key rs → Prefix key w q rs → held (build key C w rs) ≡ rs
     unfolding build
     build-records C zero q rs s p = refl
     build-records C (suc w) q rs s p =
@@ -105,7 +105,7 @@ pub records-are : (C W : ℕ) (b0 : Trie Stretch) (S : List Item) → contents b
     → records b0 ≡ S
 records-are C W b0 S e s b = ap held e ∙ build-records keyOf C W 0 S s (bounded-prefix keyOf W S b)
 
-pub recordsOf-append : (xs ys : List Stretch) → recordsOf (xs ++ ys) ≡ recordsOf xs ++ recordsOf ys
+recordsOf-append : (xs ys : List Stretch) → recordsOf (xs ++ ys) ≡ recordsOf xs ++ recordsOf ys
 recordsOf-append [] ys = refl
 recordsOf-append (x ∷ xs) ys = ap (λ (l : List Item). x .1 ++ l) (recordsOf-append xs ys) ∙ sym (append-assoc (x .1) (recordsOf xs) (recordsOf ys))
 
@@ -113,7 +113,7 @@ records-labels : (t : Trie Stretch) → records t ≡ recordsOf (labels t)
 records-labels (leaf x) = sym (append-nil (x .1))
 records-labels (fork l r) = ap₂ _++_ (records-labels l) (records-labels r) ∙ sym (recordsOf-append (labels l) (labels r))
 
-pub records-at : (t : Trie Stretch) (k : Key) → records t ≡ recordsOf (before t k) ++ (leafAt t k .1 ++ recordsOf (after t k))
+records-at : (t : Trie Stretch) (k : Key) → records t ≡ recordsOf (before t k) ++ (leafAt t k .1 ++ recordsOf (after t k))
 records-at t k = records-labels t ∙ ap recordsOf (labels-at t k) ∙ recordsOf-append (before t k) (leafAt t k ∷ after t k)
 
 all-joined : (P : Item → Type 0) (xs ys : List Stretch) → All P (recordsOf xs) → All P (recordsOf ys) → All P (recordsOf (xs ++ ys))
@@ -145,7 +145,7 @@ prefix-keyed (suc w) q (fork l r) a =
     (prefix-up w q (2 * q) (recordsOf (labels l)) (omega arith) (prefix-keyed w (2 * q) l (a .0)))
     (prefix-up w q (2 * q + 1) (recordsOf (labels r)) (omega arith) (prefix-keyed w (2 * q + 1) r (a .1)))
 
-pub keyed-before : (w q k : ℕ) (t : Trie Stretch) → Keyed w q t → k / 2 ^ w ≡ q → All (λ it. it .key < k) (recordsOf (before t (bits w k)))
+keyed-before : (w q k : ℕ) (t : Trie Stretch) → Keyed w q t → k / 2 ^ w ≡ q → All (λ it. it .key < k) (recordsOf (before t (bits w k)))
 keyed-before w q k (leaf x) a e = tt
 keyed-before zero q k (fork l r) a e = absurd a
 keyed-before (suc w) q k (fork l r) a e =

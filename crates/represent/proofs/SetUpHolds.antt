@@ -25,7 +25,8 @@ use Rattle.represent.specs.Image.{nodeImage, nodeAt}
 use Rattle.represent.specs.Rep.{keyOf, Directory, Pages, Holds}
 use Rattle.represent.specs.Promises.{SetUpHolds}
 use Rattle.represent.proofs.LabelLaws.{ind-eq, ind-other}
-use Rattle.represent.proofs.ImageLaws.{part-word, getD-zeros, node-fits}
+use Rattle.represent.proofs.ImageLaws.{part-word, getD-zeros}
+use Rattle.represent.proofs.Places.{node-fits, page-end}
 
 -- a part by its words
 part-is : (s ws : List ℕ) (a n : ℕ) → length ws ≡ n → a + n ≤ length s → ((i : ℕ) → i < n → word s (a + i) ≡ word ws i) → part s a n ≡ ws
@@ -45,14 +46,6 @@ unfolding nodeImage nodeWords
 bare-is θ =
     let e : suc (suc (suc (suc (2 * (2 ^ θ - 1))))) ≡ 4 + 2 * 2 ^ θ - 2 = omega (arith, pow-pos θ) in
     ap (λ n. 0 ∷ 1 ∷ replicate n 0) e
-
-page-fits : (f : Format) (h : Head) (p : ℕ) → 1 ≤ p → p ≤ h .pages
-    → pageStart f h p + pageWords f (h .capacity) ≤ size f (h .theta) (h .capacity) (h .nodes) (h .pages)
-unfolding pageStart size
-page-fits f h p low high =
-    let e : p - 1 + 1 ≡ p = omega arith in
-    let m : p * pageWords f (h .capacity) ≤ h .pages * pageWords f (h .capacity) = mul-le-mul-right (pageWords f (h .capacity)) high in
-    omega (arith, m, ap (λ x. x * pageWords f (h .capacity)) e)
 
 module _ (f : Format) (θ C N P : ℕ) (z : List ℕ) (law : lawfulSizes θ C N P ≡ true) where
   abbrev s : List ℕ
@@ -87,7 +80,7 @@ module _ (f : Format) (θ C N P : ℕ) (z : List ℕ) (law : lawfulSizes θ C N 
   start-1 = omega arith
 
   fits-1 : 16 + nodeWords θ ≤ size f θ C N P
-  fits-1 = rw start-1 at (node-fits f h 1 (size f θ C N P) (omega arith) (limits .nodes-low) (omega arith))
+  fits-1 = rw start-1 at (node-fits h f 1 (size f θ C N P) (omega arith) (limits .nodes-low) (omega arith))
 
   wide : 6 ≤ nodeWords θ
   unfolding nodeWords
@@ -113,7 +106,7 @@ module _ (f : Format) (θ C N P : ℕ) (z : List ℕ) (law : lawfulSizes θ C N 
 
   free-node : (n : ℕ) → 1 < n → n ≤ N → nodeAt s h n ≡ replicate (nodeWords θ) 0
   unfolding nodeAt
-  free-node n p q = zero-block (nodeStart h n) (nodeWords θ) (past-1 n p) (node-fits f h n (size f θ C N P) (omega arith) q (omega arith))
+  free-node n p q = zero-block (nodeStart h n) (nodeWords θ) (past-1 n p) (node-fits h f n (size f θ C N P) (omega arith) q (omega arith))
 
   past-nodes : (p : ℕ) → 18 ≤ pageStart f h p
   unfolding pageStart
@@ -121,7 +114,7 @@ module _ (f : Format) (θ C N P : ℕ) (z : List ℕ) (law : lawfulSizes θ C N 
 
   free-page : (p : ℕ) → 0 < p → p ≤ P → pageAt f s h p ≡ replicate (pageWords f C) 0
   unfolding pageAt
-  free-page p a b = zero-block (pageStart f h p) (pageWords f C) (past-nodes p) (page-fits f h p a b)
+  free-page p a b = zero-block (pageStart f h p) (pageWords f C) (past-nodes p) (page-end h f p a b)
 
   zero-head : zeros s 8 8 ≡ true
   unfolding zeros every setUpWords

@@ -24,12 +24,12 @@ use Rattle.represent.specs.Rep.{Stretch, numbers, Directory, Pages, Rep,
 use Rattle.represent.specs.Round.{NodeOps, StoreOps, Rounded, pathOf, round, carried}
 use Rattle.represent.specs.Frame.{nodeOf, pageOf, putFilled}
 use Rattle.represent.specs.Insertion.{Ok, wordStore, stretchAt, leftAt, prefixAt, halfAt, replacedAt, Fit, putItems, takeItems, Stepped, Roomy, UpperKeeps, LowerKeeps, BothKeep, PutKeeps, TakeKeeps}
-use Rattle.represent.proofs.LabelLaws.{label-low, label-high, leafAt-relabel}
+use Rattle.represent.proofs.LabelLaws.{label-low, label-high, leafAt-relabel, relabel-graft}
 use Rattle.represent.proofs.Level.{moved-links, nodes-frame, links-frame}
 use Rattle.represent.proofs.Frame.{SameSizes, putPage-nodes, putPage-beyond}
 use Rattle.represent.proofs.Frame.{putFilled-sizes, putFilled-root, putFilled-levels, putFilled-taken, putFilled-sized, putFilled-nodes, putFilled-beyond}
 use Rattle.represent.proofs.WordStore.{others-sizes, others-filled, others-pages, others-beyond, store-laws}
-use Rattle.represent.proofs.PageLaws.{relabel-graft, number-high, half-fits, own-low, put-head, put-length, put-sized, put-other, take-filled, take-other, pages-frame, pages-upper, pages-lower, pages-both, pages-put, pages-take}
+use Rattle.represent.proofs.PageLaws.{number-high, half-fits, own-low, put-head, put-length, put-sized, put-other, take-filled, take-other, pages-frame, pages-upper, pages-lower, pages-both, pages-put, pages-take}
 use Rattle.represent.proofs.RoundLaws.{round-carries, aim-keeps}
 
 -- a directory goes by the node blocks in use alone

@@ -108,24 +108,24 @@ module _ (f : Format) (θ : ℕ) where
     long : 8 ≤ length s
     long = omega (arith, sized-long f s (ok .sized))
 
-    pub head-root : headOf (putHead s root levels taken) .root ≡ root
+    head-root : headOf (putHead s root levels taken) .root ≡ root
     head-root = putHead-root s root levels taken long
 
-    pub head-levels : headOf (putHead s root levels taken) .levels ≡ levels
+    head-levels : headOf (putHead s root levels taken) .levels ≡ levels
     head-levels = putHead-levels s root levels taken long
 
-    pub head-taken : headOf (putHead s root levels taken) .taken ≡ taken
+    head-taken : headOf (putHead s root levels taken) .taken ≡ taken
     head-taken = putHead-taken s root levels taken long
 
 -- what they leave in any list of words
 module _ (s : List ℕ) (root levels taken : ℕ) where
-  pub head-node : (x : ℕ) → 1 ≤ x → nodeOf (putHead s root levels taken) x ≡ nodeOf s x
+  head-node : (x : ℕ) → 1 ≤ x → nodeOf (putHead s root levels taken) x ≡ nodeOf s x
   head-node x p = putHead-nodes s root levels taken x
 
-  pub head-cap : headOf (putHead s root levels taken) .nodes ≡ headOf s .nodes
+  head-cap : headOf (putHead s root levels taken) .nodes ≡ headOf s .nodes
   head-cap = putHead-sizes s root levels taken .nodes
 
-  pub head-others : others (putHead s root levels taken) ≡ others s
+  head-others : others (putHead s root levels taken) ≡ others s
   head-others =
       let k = putHead-sizes s root levels taken in
       rw (

@@ -19,7 +19,7 @@ use Rattle.tree.proofs.TowerLaws.{cut-le, height-cut, above-tip}
 use Rattle.tree.proofs.BuildLaws.{length-prefix, sorted-side, prefix-low, prefix-high, build-le, build-gt}
 
 -- 2^f ≤ C for f = log2 C
-pow-logBelow : (n C : ℕ) → 1 ≤ C → 2 ^ logBelow n C ≤ C
+pub pow-logBelow : (n C : ℕ) → 1 ≤ C → 2 ^ logBelow n C ≤ C
 unfolding logBelow
 pow-logBelow zero C h = omega arith
 pow-logBelow (suc n) C h =

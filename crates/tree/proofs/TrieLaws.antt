@@ -1,4 +1,4 @@
--- Tries at a key: what a graft does to height, depth, leaves and labels. Each by recursion along the key.
+-- Tries at a key: what a graft does to height, depth and leaves. Each by recursion along the key.
 use mathlib.Core.Path.{_≡_, refl, ap, _∙_}
 use mathlib.Core.Bool.{true, false}
 use mathlib.Core.List.{[], _∷_}
