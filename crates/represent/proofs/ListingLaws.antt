@@ -98,26 +98,26 @@ module _ (f : Format) (s : List ℕ) (h : Head) where
     range-walk : (fuel : ℕ) (strict : Bool) (k room : ℕ) (its : List Item) → nextOf f s h strict k ≡ firstOf its → Follows its → Sorted keyOf its
         → Turns fuel its → rangeFrom f s h high fuel strict k room ≡ cutAt room (upTo high its)
     range-walk zero strict k room its n g o t = absurd (omega (arith, t .0))
-    range-walk (suc fuel) strict k room [] n g o t = from-nothing f s h high fuel strict k room 0 n ∙ sym (cut-nil room)
+    range-walk (suc fuel) strict k room [] n g o t = from-nothing f s h high fuel strict k room n ∙ sym (cut-nil room)
     range-walk (suc fuel) strict k room (it ∷ its) n g o t =
         elim (decLt high (it .key)) [
           | yes p ↦
-              from-passed f s h high fuel strict k room 0 it n p
+              from-passed f s h high fuel strict k room it n p
               ∙ sym (ap (cutAt room) (upTo-out high it its p ∙ upTo-above high (it .key) its (omega arith) (o .0)) ∙ cut-nil room)
           | no p ↦
               rw (upTo-in high it its (omega arith))
               (elim (ℕ-discrete room 0) [
-                | yes q ↦ from-full f s h high fuel strict k room 0 it n (omega arith) q ∙ cut-full room it (upTo high its) q
+                | yes q ↦ from-full f s h high fuel strict k room it n (omega arith) q ∙ cut-full room it (upTo high its) q
                 | no q ↦
                     elim (ℕ-discrete (it .key) high) [
                       | yes r ↦
-                          from-last f s h high fuel strict k room 0 it n q r
+                          from-last f s h high fuel strict k room it n q r
                           ∙ also-ended it
                           ∙ ap (also it) (sym (ap (cutAt (room - 1)) (upTo-above high (it .key) its (omega arith) (o .0)) ∙ cut-nil (room - 1)))
                           ∙ cut-also room it (upTo high its) q
                       | no r ↦
                           let u : Turns fuel its = turns-on (suc fuel) fuel it its (omega arith) t (o .0) (omega arith) in
-                          from-on f s h high fuel strict k room 0 it n q (omega arith)
+                          from-on f s h high fuel strict k room it n q (omega arith)
                           ∙ ap (also it) (range-walk fuel true (it .key) (room - 1) its (g .0) (g .1) (o .1) u)
                           ∙ cut-also room it (upTo high its) q
                     ]

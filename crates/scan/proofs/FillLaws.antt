@@ -144,23 +144,23 @@ module _ (f : Format) (s : List ℕ) (h : Head) (high : ℕ) where
   unfolding also
   same-on fuel strict k room it e ih =
       elim (decLt high (it .key)) [
-        | yes p ↦ rw (from-passed f s h high fuel strict k room 0 it e p) (λ o. none-read strict k)
+        | yes p ↦ rw (from-passed f s h high fuel strict k room it e p) (λ o. none-read strict k)
         | no p ↦
             elim (ℕ-discrete room 0) [
-              | yes q ↦ rw (from-full f s h high fuel strict k room 0 it e (omega arith) q) (λ o. none-read strict k)
+              | yes q ↦ rw (from-full f s h high fuel strict k room it e (omega arith) q) (λ o. none-read strict k)
               | no q ↦
                   elim (ℕ-discrete (it .key) high) [
-                    | yes r ↦ rw (from-last f s h high fuel strict k room 0 it e q r)
+                    | yes r ↦ rw (from-last f s h high fuel strict k room it e q r)
                         (λ o. firsts-on f s h strict k 0 it e ∙ ap (λ (l : List Item). it ∷ l) (none-read true (it .key)))
-                    | no r ↦ rw (from-on f s h high fuel strict k room 0 it e q (omega arith))
+                    | no r ↦ rw (from-on f s h high fuel strict k room it e q (omega arith))
                         (λ o. firsts-on f s h strict k (length (rangeFrom f s h high fuel true (it .key) (room - 1) .items)) it e ∙ ap (λ (l : List Item). it ∷ l) (ih o))
                   ]
             ]
       ]
 
   same-step : (fuel : ℕ) (strict : Bool) (k room : ℕ) (a : Sought) → nextOf f s h strict k ≡ a → ((it : Item) → Same fuel true (it .key) (room - 1)) → Same (suc fuel) strict k room
-  same-step fuel strict k room Damaged e ih = rw (from-damaged f s h high fuel strict k room 0 e) (λ o. absurd (false≢true o))
-  same-step fuel strict k room Nothing e ih = rw (from-nothing f s h high fuel strict k room 0 e) (λ o. none-read strict k)
+  same-step fuel strict k room Damaged e ih = rw (from-damaged f s h high fuel strict k room e) (λ o. absurd (false≢true o))
+  same-step fuel strict k room Nothing e ih = rw (from-nothing f s h high fuel strict k room e) (λ o. none-read strict k)
   same-step fuel strict k room (Record it) e ih = same-on fuel strict k room it e (ih it)
 
   pub range-firsts : (fuel : ℕ) (strict : Bool) (k room : ℕ) → Same fuel strict k room

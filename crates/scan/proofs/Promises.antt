@@ -39,16 +39,16 @@ module _ (f : Format) (s : List ℕ) (h : Head) (high : ℕ) where
   record-on fuel strict k room it e ih =
       let rest : Item → List Item = λ x. rangeFrom f s h high fuel true (x .key) (room - 1) .items in
       elim (decLt high (it .key)) [
-        | yes p ↦ rw (from-passed f s h high fuel strict k room 0 it e p) (tt, tt)
+        | yes p ↦ rw (from-passed f s h high fuel strict k room it e p) (tt, tt)
         | no p ↦
             elim (ℕ-discrete room 0) [
-              | yes q ↦ rw (from-full f s h high fuel strict k room 0 it e (omega arith) q) (tt, tt)
+              | yes q ↦ rw (from-full f s h high fuel strict k room it e (omega arith) q) (tt, tt)
               | no q ↦
                   elim (ℕ-discrete (it .key) high) [
-                    | yes r ↦ rw (from-last f s h high fuel strict k room 0 it e q r) ((tt, tt), ((next-lead f s h high strict k it e, omega arith), tt))
+                    | yes r ↦ rw (from-last f s h high fuel strict k room it e q r) ((tt, tt), ((next-lead f s h strict k it e, omega arith), tt))
                     | no r ↦
-                        let l = next-lead f s h high strict k it e in
-                        rw (from-on f s h high fuel strict k room 0 it e q (omega arith)) (
+                        let l = next-lead f s h strict k it e in
+                        rw (from-on f s h high fuel strict k room it e q (omega arith)) (
                           (all-map (From true (it .key)) (λ x. it .key < x .key) (rest it) (λ x g. omega (arith, lead-true, g .0)) (ih .1), ih .0),
                           ((l, omega arith), all-map (From true (it .key)) (From strict k) (rest it) (λ x g. (omega (arith, lead-true, l, g .0), g .1)) (ih .1)),
                         )
@@ -58,8 +58,8 @@ module _ (f : Format) (s : List ℕ) (h : Head) (high : ℕ) where
 
   step-on : (fuel : ℕ) (strict : Bool) (k room : ℕ) (a : Sought) → nextOf f s h strict k ≡ a
       → ((it : Item) → Ascends true (it .key) (rangeFrom f s h high fuel true (it .key) (room - 1) .items)) → Ascends strict k (rangeFrom f s h high (suc fuel) strict k room .items)
-  step-on fuel strict k room Damaged e ih = rw (from-damaged f s h high fuel strict k room 0 e) (tt, tt)
-  step-on fuel strict k room Nothing e ih = rw (from-nothing f s h high fuel strict k room 0 e) (tt, tt)
+  step-on fuel strict k room Damaged e ih = rw (from-damaged f s h high fuel strict k room e) (tt, tt)
+  step-on fuel strict k room Nothing e ih = rw (from-nothing f s h high fuel strict k room e) (tt, tt)
   step-on fuel strict k room (Record it) e ih = record-on fuel strict k room it e (ih it)
 
   ascends : (fuel : ℕ) (strict : Bool) (k room : ℕ) → Ascends strict k (rangeFrom f s h high fuel strict k room .items)

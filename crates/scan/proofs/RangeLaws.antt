@@ -41,6 +41,10 @@ unfolding above lead
 above-lead true k x e = omega (arith, ltb-true k x e)
 above-lead false k x e = omega (arith, leb-true k x e)
 
+pub next-lead : (f : Format) (s : List ℕ) (h : Head) (strict : Bool) (k : ℕ) (it : Item) → nextOf f s h strict k ≡ Record it
+    → k + 1 ≤ it .key + lead strict
+next-lead f s h strict k it e = above-lead strict k (it .key) (next-above f s h strict k it e)
+
 -- the outcome of a range after c records
 unfoldable pub outcome : ℕ → Ranged → Listing
 outcome c r = elim (r .ok) [ true ↦ record { ok = true; count = c + length (r .items); more = r .more } | false ↦ record { ok = false; count = 0; more = 0 } ]
@@ -76,7 +80,7 @@ module _ (f : Format) (s : List ℕ) (h : Head) (high : ℕ) where
   unfolding outcome listing ranged
   outcome-start low room = outcome-listing (rangeFrom f s h high (high + 1 - low + 1) false low room)
 
-  module _ (fuel : ℕ) (strict : Bool) (k room c : ℕ) where
+  module _ (fuel : ℕ) (strict : Bool) (k room : ℕ) where
     pub from-damaged : nextOf f s h strict k ≡ Damaged → rangeFrom f s h high (suc fuel) strict k room ≡ broken
     unfolding rangeFrom
     from-damaged e = rw (e, rangeFrom)
@@ -102,9 +106,6 @@ module _ (f : Format) (s : List ℕ) (h : Head) (high : ℕ) where
       unfolding rangeFrom
       from-on q p = rw (e, le-ltb high (it .key) (omega arith), ne-eqb room 0 q, ne-eqb (it .key) high (λ z. omega arith), rangeFrom)
 
-  pub next-lead : (strict : Bool) (k : ℕ) (it : Item) → nextOf f s h strict k ≡ Record it → k + 1 ≤ it .key + lead strict
-  next-lead strict k it e = above-lead strict k (it .key) (next-above f s h strict k it e)
-
   -- one turn of the first pass, with c records passed and room for n in all
   module _ (fuel : ℕ) (strict : Bool) (k c n : ℕ) (full : c ≤ n) (left : 1 ≤ fuel) where
     abbrev rest : Ranged
@@ -115,28 +116,28 @@ module _ (f : Format) (s : List ℕ) (h : Head) (high : ℕ) where
 
     pub turn-damaged : nextOf f s h strict k ≡ Damaged → outcome c rest ≡ record { ok = false; count = 0; more = 0 }
     unfolding outcome
-    turn-damaged e = ap (outcome c) (as-suc ∙ from-damaged (fuel - 1) strict k (n - c) c e)
+    turn-damaged e = ap (outcome c) (as-suc ∙ from-damaged (fuel - 1) strict k (n - c) e)
 
     pub turn-nothing : nextOf f s h strict k ≡ Nothing → outcome c rest ≡ record { ok = true; count = c; more = 0 }
     unfolding outcome
-    turn-nothing e = ap (outcome c) (as-suc ∙ from-nothing (fuel - 1) strict k (n - c) c e) ∙ plain c 0
+    turn-nothing e = ap (outcome c) (as-suc ∙ from-nothing (fuel - 1) strict k (n - c) e) ∙ plain c 0
 
     module _ (it : Item) (e : nextOf f s h strict k ≡ Record it) where
       pub turn-passed : high < it .key → outcome c rest ≡ record { ok = true; count = c; more = 0 }
       unfolding outcome
-      turn-passed p = ap (outcome c) (as-suc ∙ from-passed (fuel - 1) strict k (n - c) c it e p) ∙ plain c 0
+      turn-passed p = ap (outcome c) (as-suc ∙ from-passed (fuel - 1) strict k (n - c) it e p) ∙ plain c 0
 
       pub turn-full : it .key ≤ high → c ≡ n → outcome c rest ≡ record { ok = true; count = c; more = it .key }
       unfolding outcome
-      turn-full p q = ap (outcome c) (as-suc ∙ from-full (fuel - 1) strict k (n - c) c it e p (omega arith)) ∙ plain c (it .key)
+      turn-full p q = ap (outcome c) (as-suc ∙ from-full (fuel - 1) strict k (n - c) it e p (omega arith)) ∙ plain c (it .key)
 
       pub turn-last : (c ≡ n → ⊥) → it .key ≡ high → outcome c rest ≡ record { ok = true; count = c + 1; more = 0 }
       unfolding outcome
-      turn-last q p = ap (outcome c) (as-suc ∙ from-last (fuel - 1) strict k (n - c) c it e (λ z. q (omega arith)) p)
+      turn-last q p = ap (outcome c) (as-suc ∙ from-last (fuel - 1) strict k (n - c) it e (λ z. q (omega arith)) p)
 
       pub turn-on : (c ≡ n → ⊥) → it .key < high → outcome c rest ≡ outcome (c + 1) (rangeFrom f s h high (fuel - 1) true (it .key) (n - (c + 1)))
       turn-on q p =
-          ap (outcome c) (as-suc ∙ from-on (fuel - 1) strict k (n - c) c it e (λ z. q (omega arith)) p)
+          ap (outcome c) (as-suc ∙ from-on (fuel - 1) strict k (n - c) it e (λ z. q (omega arith)) p)
           ∙ outcome-also c it (rangeFrom f s h high (fuel - 1) true (it .key) (n - c - 1))
           ∙ ap (λ (i : ℕ). outcome (c + 1) (rangeFrom f s h high (fuel - 1) true (it .key) i)) (omega arith)
 

@@ -32,7 +32,7 @@ record-is c = sym (c .before .before .next-under .ensures) ∙ c .a .given .1
 record-on : (c : tie.Else2 Inv-loop μ-loop)
     → let l = c .before .before .before .before .before .before .before .before .loop in
     l .k + 1 ≤ c .before .before .before .before .a .given .0 .0 .key + lead (l .strict)
-record-on c = next-lead _ _ _ (c .before .before .before .before .before .before .before .before .before .before .args .high) _ _ _ (record-is (c .before .before .before .before))
+record-on c = next-lead _ _ _ _ _ _ (record-is (c .before .before .before .before))
 
 loop-holds : tie.Need-loop-holds Inv-loop μ-loop
 loop-holds c =

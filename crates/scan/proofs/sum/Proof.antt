@@ -32,7 +32,7 @@ record-is c = sym (c .before .before .next-under .ensures) ∙ c .a .given .1
 record-on : (c : tie.After-a Inv-loop μ-loop)
     → let l = c .before .before .before .before .loop in
     l .k + 1 ≤ c .a .given .0 .0 .key + lead (l .strict)
-record-on c = next-lead _ _ _ (c .before .before .before .before .before .before .before .args .high) _ _ _ (record-is c)
+record-on c = next-lead _ _ _ _ _ _ (record-is c)
 
 no-totals-requires : tie.Need-no-totals-requires Inv-loop μ-loop
 no-totals-requires c κs = search needs
