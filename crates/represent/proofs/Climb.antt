@@ -49,10 +49,10 @@ module _ {θ : ℕ} {I : NodeOps} {O : StoreOps} (A : NodeLaws θ I) (B : StoreL
       abbrev s₁ : S
       s₁ = halve I O s (stepAt b key) a c
 
-      low : Written θ (I .lower (node s n) (rest b key) a c) (suc k) (backOf θ (node s) n) (forwardOf θ (node s) n) l
+      low : Written θ (I .lower (node s n) (rest b key) a c) (suc k) (backOf (node s) n) (forwardOf (node s) n) l
       low = lower-here A B y key a c e full
 
-      high : Written θ (I .upper (node s n) (rest b key) a c) (suc k) (backOf θ (node s) n) (forwardOf θ (node s) n) r
+      high : Written θ (I .upper (node s n) (rest b key) a c) (suc k) (backOf (node s) n) (forwardOf (node s) n) r
       high = upper-here A B y key a c e full
 
       not-null : n ≡ 0 → ⊥
@@ -66,14 +66,14 @@ module _ {θ : ℕ} {I : NodeOps} {O : StoreOps} (A : NodeLaws θ I) (B : StoreL
       halve-split : Split θ O s s₁ (suc k) b n l r
       halve-split = parted-split A B y key (low .is) (high .is) 0 not-null (λ i. absurd (i refl)) halve-parted
 
-      halve-plain : Plain θ (node s) (b ∷ bs) → (x : ℕ) → 1 ≤ occ x (graft b key (pair n (suc (taken s)))) → Unlinked θ (node s₁) x
+      halve-plain : Plain θ (node s) (b ∷ bs) → (x : ℕ) → 1 ≤ occ x (graft b key (pair n (suc (taken s)))) → Unlinked (node s₁) x
       halve-plain f x o =
           let g = f n (here-in y key) in
           elim (ℕ-discrete x (suc (taken s))) [
-            | yes i ↦ subst (Unlinked θ (node s₁)) (sym i)
+            | yes i ↦ subst (Unlinked (node s₁)) (sym i)
                 (written-unlinked θ _ _ (halve-parted .at-m) high (g .no-back) (g .no-forward))
             | no i ↦ elim (ℕ-discrete x n) [
-              | yes j ↦ subst (Unlinked θ (node s₁)) (sym j)
+              | yes j ↦ subst (Unlinked (node s₁)) (sym j)
                   (written-unlinked θ _ _ (halve-parted .at-n) low (g .no-back) (g .no-forward))
               | no j ↦
                   let p : 1 ≤ occs x (b ∷ bs) = omega (arith, occ-split x b key (suc (taken s)), ind-other x (suc (taken s)) i) in
@@ -101,7 +101,7 @@ module _ {θ : ℕ} {I : NodeOps} {O : StoreOps} (A : NodeLaws θ I) (B : StoreL
           changed = g .changed;
         },
         λ x o. elim (ℕ-discrete x (suc (taken s))) [
-          | yes i ↦ subst (Unlinked θ (node (newRoot I O s a c))) (sym i) (written-unlinked θ _ _ at-m w refl refl)
+          | yes i ↦ subst (Unlinked (node (newRoot I O s a c))) (sym i) (written-unlinked θ _ _ at-m w refl refl)
           | no i ↦ absurd (omega (arith, ind-other x (suc (taken s)) i))
         ],
       )

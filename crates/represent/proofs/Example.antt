@@ -80,9 +80,9 @@ example-holds =
       lawful = (refl, (refl, (refl, tt)));
     }
   where
-    unlinked : (n : ℕ) → 1 ≤ occs n (leaf 3 ∷ []) → Unlinked 1 (nodeAt stored (headOf stored)) n
+    unlinked : (n : ℕ) → 1 ≤ occs n (leaf 3 ∷ []) → Unlinked (nodeAt stored (headOf stored)) n
     unlinked n o =
         elim (ℕ-discrete 3 n) [
-          | yes e ↦ subst (Unlinked 1 (nodeAt stored (headOf stored))) e (record { no-back = refl; no-forward = refl })
+          | yes e ↦ subst (Unlinked (nodeAt stored (headOf stored))) e (record { no-back = refl; no-forward = refl })
           | no e ↦ absurd (omega (arith, ind-other n 3 (λ q. e (sym q))))
         ]

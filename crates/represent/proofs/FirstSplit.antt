@@ -17,7 +17,7 @@ use Rattle.represent.proofs.Rise.{lower-here, upper-here}
 
 module _ {θ : ℕ} {I : NodeOps} {O : StoreOps} (A : NodeLaws θ I) (B : StoreLaws θ O)
     {s : O .S} {u b : Trie ℕ} {bs : List (Trie ℕ)} (y : Ready θ O s 0 u (b ∷ bs)) (key : Key) (a c : ℕ)
-    (links : Linked (backOf θ (O .node s)) (forwardOf θ (O .node s)) 0 (labels b))
+    (links : Linked (backOf (O .node s)) (forwardOf (O .node s)) 0 (labels b))
   where
     open StoreOps O using (S, node, taken, cap)
 
@@ -29,13 +29,13 @@ module _ {θ : ℕ} {I : NodeOps} {O : StoreOps} (A : NodeLaws θ I) (B : StoreL
 
     -- the node behind n
     abbrev q : ℕ
-    q = forwardOf θ (node s) n
+    q = forwardOf (node s) n
 
-    chain : Linked (backOf θ (node s)) (forwardOf θ (node s)) 0 (before b key ++ (n ∷ after b key))
-    chain = subst (Linked (backOf θ (node s)) (forwardOf θ (node s)) 0) (labels-at b key) links
+    chain : Linked (backOf (node s)) (forwardOf (node s)) 0 (before b key ++ (n ∷ after b key))
+    chain = subst (Linked (backOf (node s)) (forwardOf (node s)) 0) (labels-at b key) links
 
     q-is : q ≡ first (after b key)
-    q-is = linked-next (backOf θ (node s)) (forwardOf θ (node s)) 0 (before b key) n (after b key) chain
+    q-is = linked-next (backOf (node s)) (forwardOf (node s)) 0 (before b key) n (after b key) chain
 
     apart : n ≡ q → ⊥
     apart e =
@@ -52,13 +52,13 @@ module _ {θ : ℕ} {I : NodeOps} {O : StoreOps} (A : NodeLaws θ I) (B : StoreL
         s₁ = halveFirst I O s (stepAt b key) a c
 
         abbrev ws : List ℕ
-        ws = I .linked (I .lower (node s n) (rest b key) a c) (backOf θ (node s) n) m
+        ws = I .linked (I .lower (node s n) (rest b key) a c) (backOf (node s) n) m
 
         abbrev ws′ : List ℕ
         ws′ = I .linked (I .upper (node s n) (rest b key) a c) n q
 
-        left : Written θ ws 1 (backOf θ (node s) n) m l
-        left = linked-written A (lower-here A B y key a c e full .is) (backOf θ (node s) n) m
+        left : Written θ ws 1 (backOf (node s) n) m l
+        left = linked-written A (lower-here A B y key a c e full .is) (backOf (node s) n) m
 
         right : Written θ ws′ 1 n q r
         right = linked-written A (upper-here A B y key a c e full .is) n q
@@ -70,12 +70,12 @@ module _ {θ : ℕ} {I : NodeOps} {O : StoreOps} (A : NodeLaws θ I) (B : StoreL
         pub first-split : Split θ O s s₁ 1 b n l r
         first-split = parted-split A B y key (left .is) (right .is) q apart known first-parted
 
-        mended : Mended (backOf θ (node s)) (forwardOf θ (node s)) (backOf θ (node s₁)) (forwardOf θ (node s₁)) n m q
+        mended : Mended (backOf (node s)) (forwardOf (node s)) (backOf (node s₁)) (forwardOf (node s₁)) n m q
         mended =
             let p = first-parted in
-            let at-q : (q ≡ 0 → ⊥) → (v : Trie ℕ) × Written θ (I .linked (node s q) m (forwardOf θ (node s) q)) 1 m (forwardOf θ (node s) q) v = λ ne.
+            let at-q : (q ≡ 0 → ⊥) → (v : Trie ℕ) × Written θ (I .linked (node s q) m (forwardOf (node s) q)) 1 m (forwardOf (node s) q) v = λ ne.
             let v = over-in (At θ (node s) 1) b u q (known ne) (y .nodes .0) in
-            (v .0, linked-written A (v .1) m (forwardOf θ (node s) q)) in
+            (v .0, linked-written A (v .1) m (forwardOf (node s) q)) in
             record {
               n-back = ap (λ (w : List ℕ). backWord w 0) (p .at-n) ∙ left .back-is;
               n-forward = ap (λ (w : List ℕ). forwardWord w 0) (p .at-n) ∙ left .forward-is;
@@ -85,13 +85,13 @@ module _ {θ : ℕ} {I : NodeOps} {O : StoreOps} (A : NodeLaws θ I) (B : StoreL
               q-forward = λ ne. ap (λ (w : List ℕ). forwardWord w 0) (p .at-q ne) ∙ at-q ne .1 .forward-is;
             }
 
-        pub first-linked : Linked (backOf θ (node s₁)) (forwardOf θ (node s₁)) 0 (labels (graft b key (pair n m)))
+        pub first-linked : Linked (backOf (node s₁)) (forwardOf (node s₁)) 0 (labels (graft b key (pair n m)))
         first-linked =
             let occ-list : (x : ℕ) → count x (before b key ++ (n ∷ after b key)) ≡ occ x b =
             λ x. ap (count x) (sym (labels-at b key)) ∙ count-labels x b in
-            subst (Linked (backOf θ (node s₁)) (forwardOf θ (node s₁)) 0) (sym (labels-graft b key (pair n m)))
-            (linked-split (backOf θ (node s)) (forwardOf θ (node s)) (backOf θ (node s₁)) (forwardOf θ (node s₁)) n m (after b key)
-            (subst (Mended (backOf θ (node s)) (forwardOf θ (node s)) (backOf θ (node s₁)) (forwardOf θ (node s₁)) n m) q-is mended)
+            subst (Linked (backOf (node s₁)) (forwardOf (node s₁)) 0) (sym (labels-graft b key (pair n m)))
+            (linked-split (backOf (node s)) (forwardOf (node s)) (backOf (node s₁)) (forwardOf (node s₁)) n m (after b key)
+            (subst (Mended (backOf (node s)) (forwardOf (node s)) (backOf (node s₁)) (forwardOf (node s₁)) n m) q-is mended)
             (before b key) 0
             (λ x o ne ne′.
             let i : 1 ≤ occs x (b ∷ bs) = omega (arith, occ-list x) in

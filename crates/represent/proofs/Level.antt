@@ -41,27 +41,27 @@ module _ (θ : ℕ) (node node′ : ℕ → List ℕ) where
   )
 
   abbrev pub SameLinks : ℕ → Type 0
-  SameLinks x = Same (backOf θ node) (forwardOf θ node) (backOf θ node′) (forwardOf θ node′) x
+  SameLinks x = Same (backOf node) (forwardOf node) (backOf node′) (forwardOf node′) x
 
   pub moved-links : (x : ℕ) → node′ x ≡ node x → SameLinks x
   moved-links x e = record { same-back = ap (λ (w : List ℕ). backWord w 0) e; same-forward = ap (λ (w : List ℕ). forwardWord w 0) e }
 
-  pub unlinked-same : (x : ℕ) → SameLinks x → Unlinked θ node x → Unlinked θ node′ x
+  pub unlinked-same : (x : ℕ) → SameLinks x → Unlinked node x → Unlinked node′ x
   unlinked-same x e h = record { no-back = e .same-back ∙ h .no-back; no-forward = e .same-forward ∙ h .no-forward }
 
-  pub unlinked-moved : (x : ℕ) → node′ x ≡ node x → Unlinked θ node x → Unlinked θ node′ x
+  pub unlinked-moved : (x : ℕ) → node′ x ≡ node x → Unlinked node x → Unlinked node′ x
   unlinked-moved x e = unlinked-same x (moved-links x e)
 
   pub links-frame : (b : Trie ℕ) (bs : List (Trie ℕ)) → ((x : ℕ) → 1 ≤ occs x (b ∷ bs) → SameLinks x)
-      → Links θ node (b ∷ bs) → Links θ node′ (b ∷ bs)
+      → Links node (b ∷ bs) → Links node′ (b ∷ bs)
   links-frame b bs f h = (
-    linked-frame (backOf θ node) (forwardOf θ node) (backOf θ node′) (forwardOf θ node′) 0 (labels b)
+    linked-frame (backOf node) (forwardOf node) (backOf node′) (forwardOf node′) 0 (labels b)
         (λ x o. f x (omega (arith, count-labels x b))) (h .0),
     λ x o. unlinked-same x (f x (omega arith)) (h .1 x o),
   )
 
 pub written-unlinked : (θ : ℕ) (node : ℕ → List ℕ) (x : ℕ) {ws : List ℕ} {level back forward : ℕ} {v : Trie ℕ}
-    → node x ≡ ws → Written θ ws level back forward v → back ≡ 0 → forward ≡ 0 → Unlinked θ node x
+    → node x ≡ ws → Written θ ws level back forward v → back ≡ 0 → forward ≡ 0 → Unlinked node x
 written-unlinked θ node x e w b f =
     record {
       no-back = ap (λ (w : List ℕ). backWord w 0) e ∙ w .back-is ∙ b;
@@ -69,10 +69,10 @@ written-unlinked θ node x e w b f =
     }
 
 abbrev pub Plain : ℕ → (ℕ → List ℕ) → List (Trie ℕ) → Type 0
-Plain θ node bs = (x : ℕ) → 1 ≤ occs x bs → Unlinked θ node x
+Plain θ node bs = (x : ℕ) → 1 ≤ occs x bs → Unlinked node x
 
 pub plain-cons : (θ : ℕ) (node : ℕ → List ℕ) (b : Trie ℕ) (bs : List (Trie ℕ))
-    → ((x : ℕ) → 1 ≤ occ x b → Unlinked θ node x) → Plain θ node bs → Plain θ node (b ∷ bs)
+    → ((x : ℕ) → 1 ≤ occ x b → Unlinked node x) → Plain θ node bs → Plain θ node (b ∷ bs)
 plain-cons θ node b bs f g = λ x o. elim (decLe 1 (occ x b)) [ yes p ↦ f x p | no p ↦ g x (omega arith) ]
 
 module _ (θ : ℕ) (O : StoreOps) where
@@ -117,7 +117,7 @@ module _ {θ : ℕ} {O : StoreOps} {s : O .S} {k : ℕ} {u b : Trie ℕ} {bs : L
 
     -- its block rewritten, with the same links
     module _ (B : StoreLaws θ O) (d : Trie ℕ) {ws : List ℕ}
-        (w : Written θ ws (suc k) (backOf θ (node s) (leafAt b key)) (forwardOf θ (node s) (leafAt b key)) (graft (under b u key) (rest b key) d))
+        (w : Written θ ws (suc k) (backOf (node s) (leafAt b key)) (forwardOf (node s) (leafAt b key)) (graft (under b u key) (rest b key) d))
       where
         abbrev n : ℕ
         n = leafAt b key

@@ -42,10 +42,10 @@ module _ (f : Format) (s : List ℕ) (b0 : Trie Stretch) (b : Trie ℕ) (bs : Li
 
   pub rep-linked : Linked (backAt s) (forwardAt s) 0 (labels b)
   rep-linked =
-      linked-frame (backOf (h .theta) (nodeAt s h)) (forwardOf (h .theta) (nodeAt s h)) (backAt s) (forwardAt s) 0 (labels b)
+      linked-frame (backOf (nodeAt s h)) (forwardOf (nodeAt s h)) (backAt s) (forwardAt s) 0 (labels b)
       (λ n o. same n (omega (arith, count-labels n b))) (r .directory .links .0)
     where
-      same : (n : ℕ) → 1 ≤ occ n b → Same (backOf (h .theta) (nodeAt s h)) (forwardOf (h .theta) (nodeAt s h)) (backAt s) (forwardAt s) n
+      same : (n : ℕ) → 1 ≤ occ n b → Same (backOf (nodeAt s h)) (forwardOf (nodeAt s h)) (backAt s) (forwardAt s) n
       same n o =
           let w = level-1 n o in
           record {

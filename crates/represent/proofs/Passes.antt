@@ -89,14 +89,14 @@ module _ (f : Format) (s : List ℕ) (b0 : Trie Stretch) (all : List (Trie ℕ))
 
   rule-at : (n level : ℕ) (v : Trie ℕ) → 1 ≤ occs n all → NodeIs (h .theta) (node n) level v
       → ((x : ℕ) → 1 ≤ occ x v → (pointerLow level ≤ x) × (x ≤ pointerHigh h level))
-      → linkRule h level (backOf (h .theta) node n) (forwardOf (h .theta) node n) ≡ true → nodeRule h s (nodeStart h n) level ≡ true
+      → linkRule h level (backOf node n) (forwardOf node n) ≡ true → nodeRule h s (nodeStart h n) level ≡ true
   rule-at n level v o is points links =
       node-passes h s (nodeStart h n) level v (rep-shown f s b0 all r n level v o is) points
       (rw (rep-back f s b0 all r n level v o is, rep-forward f s b0 all r n level v o is) links)
 
   -- above level 1: u is the level below
   upper : (k : ℕ) (u : Trie ℕ) (bs : List (Trie ℕ)) → ((x : ℕ) → occ x u + occs x bs ≤ occs x all)
-      → ((n : ℕ) → 1 ≤ occs n bs → Unlinked (h .theta) node n) → Nodes (h .theta) node (h .root) (h .levels) (suc k) u bs → RulesAbove h s (suc k) bs
+      → ((n : ℕ) → 1 ≤ occs n bs → Unlinked node n) → Nodes (h .theta) node (h .root) (h .levels) (suc k) u bs → RulesAbove h s (suc k) bs
   upper k u [] i w p = tt
   upper k u (b ∷ bs) i w p = (
     over-each (λ n v. NodeIs (h .theta) (node n) (suc (suc k)) v) _ b u
@@ -114,7 +114,7 @@ module _ (f : Format) (s : List ℕ) (b0 : Trie Stretch) (all : List (Trie ℕ))
 module _ (f : Format) (s : List ℕ) (b0 : Trie Stretch) (b : Trie ℕ) (bs : List (Trie ℕ)) (r : Rep f s b0 (b ∷ bs)) where
   abbrev LinksTaken : ℕ → Type 0
   LinksTaken n =
-      (backOf (headOf s .theta) (nodeAt s (headOf s)) n ≤ headOf s .taken) × (forwardOf (headOf s .theta) (nodeAt s (headOf s)) n ≤ headOf s .taken)
+      (backOf (nodeAt s (headOf s)) n ≤ headOf s .taken) × (forwardOf (nodeAt s (headOf s)) n ≤ headOf s .taken)
 
   links-taken : Each LinksTaken b
   links-taken =

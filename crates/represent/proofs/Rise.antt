@@ -49,7 +49,7 @@ module _ {θ : ℕ} {I : NodeOps} {O : StoreOps} (A : NodeLaws θ I) (B : StoreL
 
     module _ (a c : ℕ) (small : depth u key - depth b key < θ) where
       grow-here :
-          Written θ (I .grow (node s n) (rest b key) a c) (suc k) (backOf θ (node s) n) (forwardOf θ (node s) n) (graft v (rest b key) (pair a c))
+          Written θ (I .grow (node s n) (rest b key) a c) (suc k) (backOf (node s) n) (forwardOf (node s) n) (graft v (rest b key) (pair a c))
       grow-here = grow-written A (here y key) (rest b key) a c (omega (arith, local-depth y key))
 
       pub grown-climbed : Climbed θ O s (grown I O s (stepAt b key) a c) k (graft u key (pair a c)) (b ∷ bs) (b ∷ bs) 0
@@ -62,10 +62,10 @@ module _ {θ : ℕ} {I : NodeOps} {O : StoreOps} (A : NodeLaws θ I) (B : StoreL
 
     module _ (a c : ℕ) {l r : Trie ℕ} (e : graft v (rest b key) (pair a c) ≡ fork l r) where
       module _ (full : θ ≤ depth u key - depth b key) where
-        pub lower-here : Written θ (I .lower (node s n) (rest b key) a c) (suc k) (backOf θ (node s) n) (forwardOf θ (node s) n) l
+        pub lower-here : Written θ (I .lower (node s n) (rest b key) a c) (suc k) (backOf (node s) n) (forwardOf (node s) n) l
         lower-here = lower-written A (here y key) (rest b key) a c (omega (arith, local-depth y key)) e
 
-        pub upper-here : Written θ (I .upper (node s n) (rest b key) a c) (suc k) (backOf θ (node s) n) (forwardOf θ (node s) n) r
+        pub upper-here : Written θ (I .upper (node s n) (rest b key) a c) (suc k) (backOf (node s) n) (forwardOf (node s) n) r
         upper-here = upper-written A (here y key) (rest b key) a c (omega (arith, local-depth y key)) e
 
       module _ {s₁ : S} (w : Split θ O s s₁ (suc k) b n l r) where

@@ -44,10 +44,10 @@ module _ {θ : ℕ} {I : NodeOps} {O : StoreOps} (A : NodeLaws θ I) (B : StoreL
   open StoreOps O using (S, node, taken, cap)
 
   round-climbed : (s : S) (u b : Trie ℕ) (bs : List (Trie ℕ)) (key : Key) (a c : ℕ)
-      → Ready θ O s 0 u (b ∷ bs) → Links θ (node s) (b ∷ bs) → taken s + bumpCost θ (locals u (b ∷ bs) key) ≤ cap s
+      → Ready θ O s 0 u (b ∷ bs) → Links (node s) (b ∷ bs) → taken s + bumpCost θ (locals u (b ∷ bs) key) ≤ cap s
       → Climbed θ O s (round I O s (pathOf (b ∷ bs) key) a c) 0 (graft u key (pair a c))
       (b ∷ bs) (carried θ (taken s) u (b ∷ bs) key) (bumpCost θ (locals u (b ∷ bs) key))
-      × Links θ (node (round I O s (pathOf (b ∷ bs) key) a c)) (carried θ (taken s) u (b ∷ bs) key)
+      × Links (node (round I O s (pathOf (b ∷ bs) key) a c)) (carried θ (taken s) u (b ∷ bs) key)
   round-climbed s u b bs key a c y links fits =
       elim (decLt (depth u key - depth b key) θ) [
         | yes small ↦
@@ -74,7 +74,7 @@ module _ {θ : ℕ} {I : NodeOps} {O : StoreOps} (A : NodeLaws θ I) (B : StoreL
             ) (
               z .climbed,
               (
-                linked-frame (backOf θ (node s₁)) (forwardOf θ (node s₁)) (backOf θ (node s′)) (forwardOf θ (node s′)) 0 (labels b′)
+                linked-frame (backOf (node s₁)) (forwardOf (node s₁)) (backOf (node s′)) (forwardOf (node s′)) 0 (labels b′)
                     (λ x o. moved-links θ (node s₁) (node s′) x (z .kept x (omega (arith, count-labels x b′))))
                     (first-linked A B y key a c (links .0) (t .2) full more),
                 z .plain,

@@ -346,19 +346,19 @@ module _ (f : Format) (I : NodeOps) (s : List ℕ) (b0 : Trie Stretch) (bs : Lis
       halved f I s b0 bs key y (stretchAt f b0 key .0, halfAt false f b0 key) (suc (headOf s .filled), halfAt true f b0 key) _
       (both-step f s b0 bs (y .rep) key (y .narrow) (y .deep) room some₀ some₁)
 
-  pub put-keeps : PutKeeps f I s b0 bs key
-  put-keeps rs r narrow low fit =
-      let p = put-step f s b0 bs r key narrow rs low fit in
-      let k : Key = bits (width f) key in
-      let same : numbers b0 ≡ numbers (replacedAt f b0 key (leaf (stretchAt f b0 key .0, rs))) =
-      sym (numbers-graft b0 k (leaf (stretchAt f b0 key .0, rs)) ∙ ap (λ n. graft (numbers b0) k (leaf n)) (sym (leafAt-relabel (λ x. x .0) b0 k)) ∙ graft-leafAt (numbers b0) k) in
-      stepped f s b0 _ bs r _ p _ 0 bs
-      (rounded-same (headOf s .theta) (wordStore f (headOf s .theta)) same refl
-      (record {
-        directory = step-directory f s b0 _ bs r _ p;
-        changed = record { ok = step-ok f s b0 _ bs r _ p; now = omega arith; cap-same = refl; others-same = refl; fresh = λ x l h. refl };
-      }))
-      (omega (arith, r .nodes-fit))
+pub put-keeps : (f : Format) (s : List ℕ) (b0 : Trie Stretch) (bs : List (Trie ℕ)) (key : ℕ) → PutKeeps f s b0 bs key
+put-keeps f s b0 bs key rs r narrow low fit =
+    let p = put-step f s b0 bs r key narrow rs low fit in
+    let k : Key = bits (width f) key in
+    let same : numbers b0 ≡ numbers (replacedAt f b0 key (leaf (stretchAt f b0 key .0, rs))) =
+    sym (numbers-graft b0 k (leaf (stretchAt f b0 key .0, rs)) ∙ ap (λ n. graft (numbers b0) k (leaf n)) (sym (leafAt-relabel (λ x. x .0) b0 k)) ∙ graft-leafAt (numbers b0) k) in
+    stepped f s b0 _ bs r _ p _ 0 bs
+    (rounded-same (headOf s .theta) (wordStore f (headOf s .theta)) same refl
+    (record {
+      directory = step-directory f s b0 _ bs r _ p;
+      changed = record { ok = step-ok f s b0 _ bs r _ p; now = omega arith; cap-same = refl; others-same = refl; fresh = λ x l h. refl };
+    }))
+    (omega (arith, r .nodes-fit))
 
 pub take-keeps : (f : Format) (I : NodeOps) (s : List ℕ) (b0 : Trie Stretch) (b : Trie ℕ) (bs : List (Trie ℕ)) (key : ℕ) → TakeKeeps f I s b0 b bs key
 take-keeps f I s b0 b bs key rs laws r narrow null room fit =

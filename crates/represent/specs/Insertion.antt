@@ -157,11 +157,13 @@ module _ (f : Format) (I : NodeOps) (s : List ℕ) (b0 : Trie Stretch) (bs : Lis
       → Stepped f s (rounded (takeItems f C (putItems f C s (own .0) low) m high) (own .0) m)
       (replacedAt f b0 key (pair (own .0, low) (m, high))) levelsAfter
 
-  -- "At a page below C: put the record in order."
+-- "At a page below C: put the record in order."
+module _ (f : Format) (s : List ℕ) (b0 : Trie Stretch) (bs : List (Trie ℕ)) (key : ℕ) where
   abbrev pub PutKeeps : Type 0
   PutKeeps =
-      (rs : List Item) → Rep f s b0 bs → key < 2 ^ width f → 1 ≤ own .0 → Fit f (headOf s .capacity) (leftAt f b0 key) (prefixAt f b0 key) rs
-      → Stepped f s (putItems f (headOf s .capacity) s (own .0) rs) (replacedAt f b0 key (leaf (own .0, rs))) bs
+      let n : ℕ = stretchAt f b0 key .0 in
+      (rs : List Item) → Rep f s b0 bs → key < 2 ^ width f → 1 ≤ n → Fit f (headOf s .capacity) (leftAt f b0 key) (prefixAt f b0 key) rs
+      → Stepped f s (putItems f (headOf s .capacity) s n rs) (replacedAt f b0 key (leaf (n, rs))) bs
 
 -- "Enter, at a null entry: take a page for the whole run."
 module _ (f : Format) (I : NodeOps) (s : List ℕ) (b0 : Trie Stretch) (b : Trie ℕ) (bs : List (Trie ℕ)) (key : ℕ) where

@@ -2,7 +2,7 @@
 -- The tree is given by tries: b0 for the level-0 stretches, each leaf with its page's number (0 for null) and its records; bs for the levels
 -- 1, 2, .., each leaf with its node's number.
 --   numbers b0, contents b0 == the page numbers, and the records, of b0
---   Nodes node root levels k u bs == the nodes of the levels above k: each shows what stands below it; u is level k, and root and levels end the tower
+--   Nodes θ node root levels k u bs == the nodes of the levels above k: each shows what stands below it; u is level k, and root and levels end the tower
 --   Links node bs     == the links of all nodes
 --   Directory θ node root levels taken u bs == the node blocks in use are those of the levels bs over u
 --   PageIs f s h x    == the page block of a level-0 stretch x
@@ -46,13 +46,7 @@ abbrev pub keyOf : Item → ℕ
 keyOf it = it .key
 
 -- node n is the block `node n`
-module _ (θ : ℕ) (node : ℕ → List ℕ) where
-  -- "its levels are the tree's", "the root for all keys; each node with its level, its largest h as H, its runs in key order, each with its h
-  -- and pointing to its stretch's block"
-  abbrev pub Nodes : ℕ → ℕ → ℕ → Trie ℕ → List (Trie ℕ) → Type 0
-  Nodes root levels k u [] = (u ≡ leaf root) × (levels ≡ k)
-  Nodes root levels k u (b ∷ bs) = Over (λ n v. NodeIs θ (node n) (suc k) v) b u × Nodes root levels (suc k) b bs
-
+module _ (node : ℕ → List ℕ) where
   abbrev pub backOf : ℕ → ℕ
   backOf n = backWord (node n) 0
 
@@ -68,9 +62,16 @@ module _ (θ : ℕ) (node : ℕ → List ℕ) where
   Links [] = ⊥
   Links (b ∷ bs) = Linked backOf forwardOf 0 (labels b) × ((n : ℕ) → 1 ≤ occs n bs → Unlinked n)
 
+module _ (θ : ℕ) (node : ℕ → List ℕ) where
+  -- "its levels are the tree's", "the root for all keys; each node with its level, its largest h as H, its runs in key order, each with its h
+  -- and pointing to its stretch's block"
+  abbrev pub Nodes : ℕ → ℕ → ℕ → Trie ℕ → List (Trie ℕ) → Type 0
+  Nodes root levels k u [] = (u ≡ leaf root) × (levels ≡ k)
+  Nodes root levels k u (b ∷ bs) = Over (λ n v. NodeIs θ (node n) (suc k) v) b u × Nodes root levels (suc k) b bs
+
   pub record Directory (root levels taken : ℕ) (u : Trie ℕ) (bs : List (Trie ℕ)) : Type 0 where
     pub nodes : Nodes root levels 0 u bs
-    pub links : Links bs
+    pub links : Links node bs
     -- "its blocks in use, here all taken ones, are the tree's nodes and pages, one for one"
     pub oneForOne : OneForOne taken (λ n. occs n bs)
     pub positive : occs 0 bs ≡ 0
