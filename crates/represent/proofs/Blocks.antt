@@ -40,9 +40,6 @@ module _ {θ : ℕ} {I : NodeOps} (A : NodeLaws θ I) where
     abbrev forward : ℕ
     forward = forwardWord ws 0
 
-    pub room-node : (k : Key) → I .room ws k ≡ ltb (depth v k) θ
-    room-node k = ap (λ (w : List ℕ). I .room w k) (h .image) ∙ A .room-is level back forward v k (h .low)
-
     pub grow-written : (k : Key) (a c : ℕ) → depth v k < θ → Written θ (I .grow ws k a c) level back forward (graft v k (pair a c))
     grow-written k a c d =
         image-written θ _ level back forward _ (omega (arith, h .low, height-split v k a c))

@@ -19,17 +19,17 @@ use Rattle.represent.proofs.Blocks.{Written, top-written}
 use Rattle.represent.proofs.Writes.{kept-refl, put-kept, advanced}
 use Rattle.represent.proofs.Level.{is-moved, unlinked-same, unlinked-moved, written-unlinked, Plain, plain-cons, Ready, ready-low, ready-high, here-in, key-low}
 use Rattle.represent.proofs.Splits.{Split, parts, Parted, parted, parted-split}
-use Rattle.represent.proofs.Rise.{ClimbKeeps, room-here, grown-climbed, grown-links, lower-here, upper-here, rise}
+use Rattle.represent.proofs.Rise.{ClimbKeeps, grown-climbed, grown-links, lower-here, upper-here, rise}
 
-module _ (I : NodeOps) (O : StoreOps) (s : O .S) (p : Step) (a c : ℕ) where
-  climb-room : (path : List Step) → I .room (O .node s (p .at)) (p .bits) ≡ true → climb I O s (p ∷ path) a c ≡ grown I O s p a c
+module _ (I : NodeOps) (O : StoreOps) (θ : ℕ) (s : O .S) (p : Step) (a c : ℕ) where
+  climb-room : (path : List Step) → p .depth < θ → climb I O θ s (p ∷ path) a c ≡ grown I O s p a c
   unfolding climb
-  climb-room path e = rw (e, climb)
+  climb-room path h = rw (lt-ltb (p .depth) θ h, climb)
 
-  climb-full : (path : List Step) → I .room (O .node s (p .at)) (p .bits) ≡ false
-      → climb I O s (p ∷ path) a c ≡ climb I O (halve I O s p a c) path (p .at) (suc (O .taken s))
+  climb-full : (path : List Step) → θ ≤ p .depth
+      → climb I O θ s (p ∷ path) a c ≡ climb I O θ (halve I O s p a c) path (p .at) (suc (O .taken s))
   unfolding climb
-  climb-full path e = rw (e, climb)
+  climb-full path h = rw (le-ltb (p .depth) θ h, climb)
 
   -- a node above level 1 splits with no node behind it
   halve-parts : halve I O s p a c ≡ parts I O s (p .at) (I .lower (O .node s (p .at)) (p .bits) a c) (I .upper (O .node s (p .at)) (p .bits) a c) 0
@@ -47,7 +47,7 @@ module _ {θ : ℕ} {I : NodeOps} {O : StoreOps} (A : NodeLaws θ I) (B : StoreL
       n = leafAt b key
 
       abbrev s₁ : S
-      s₁ = halve I O s (stepAt b key) a c
+      s₁ = halve I O s (stepAt u b key) a c
 
       low : Written θ (I .lower (node s n) (rest b key) a c) (suc k) (backOf (node s) n) (forwardOf (node s) n) l
       low = lower-here A B y key a c e full
@@ -60,7 +60,7 @@ module _ {θ : ℕ} {I : NodeOps} {O : StoreOps} (A : NodeLaws θ I) (B : StoreL
 
       halve-parted : Parted I O s s₁ n (I .lower (node s n) (rest b key) a c) (I .upper (node s n) (rest b key) a c) 0
       halve-parted =
-          rw (halve-parts I O s (stepAt b key) a c)
+          rw (halve-parts I O θ s (stepAt u b key) a c)
           (parted A B y key (low .is) (high .is) 0 not-null (λ i. absurd (i refl)) more)
 
       halve-split : Split θ O s s₁ (suc k) b n l r
@@ -112,7 +112,7 @@ module _ {θ : ℕ} {I : NodeOps} {O : StoreOps} (A : NodeLaws θ I) (B : StoreL
       elim (decLt (depth u key - depth b key) θ) [
         | yes small ↦
             rw (
-              climb-room I O s (stepAt b key) a c (pathOf bs key) (room-here A B y key ∙ lt-ltb (depth u key - depth b key) θ small),
+              climb-room I O θ s (stepAt u b key) a c (pathOf b bs key) small,
               carried-slack θ (taken s) u b bs key small,
               bump-slack θ (depth u key - depth b key) (locals b bs key) small .1,
             )
@@ -122,12 +122,12 @@ module _ {θ : ℕ} {I : NodeOps} {O : StoreOps} (A : NodeLaws θ I) (B : StoreL
             let cost = bump-full θ (depth u key - depth b key) (locals b bs key) full .1 in
             let more : taken s < cap s = omega (arith, cost) in
             let t = forked (under b u key) (rest b key) a c in
-            let s₁ : S = halve I O s (stepAt b key) a c in
-            let s′ : S = climb I O s₁ (pathOf bs key) (leafAt b key) (suc (taken s)) in
+            let s₁ : S = halve I O s (stepAt u b key) a c in
+            let s′ : S = climb I O θ s₁ (pathOf b bs key) (leafAt b key) (suc (taken s)) in
             let w = halve-split y key a c (t .2) full more in
             let z = rise A B y key a c (t .2) w (climb-keeps h bs) (omega (arith, cost)) (λ x o. f x (omega arith)) in
             rw (
-              climb-full I O s (stepAt b key) a c (pathOf bs key) (room-here A B y key ∙ le-ltb (depth u key - depth b key) θ full),
+              climb-full I O θ s (stepAt u b key) a c (pathOf b bs key) full,
               carried-full θ (taken s) u b bs key full,
               cost,
             ) (

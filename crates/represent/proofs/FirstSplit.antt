@@ -49,7 +49,7 @@ module _ {θ : ℕ} {I : NodeOps} {O : StoreOps} (A : NodeLaws θ I) (B : StoreL
         (full : θ ≤ depth u key - depth b key) (more : taken s < cap s)
       where
         abbrev s₁ : S
-        s₁ = halveFirst I O s (stepAt b key) a c
+        s₁ = halveFirst I O s (stepAt u b key) a c
 
         abbrev ws : List ℕ
         ws = I .linked (I .lower (node s n) (rest b key) a c) (backOf (node s) n) m

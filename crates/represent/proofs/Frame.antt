@@ -18,15 +18,10 @@ use Rattle.store.specs.Head.{word, zeros, headOf, nodeWords, pageWords, nodeSta
 use Rattle.represent.specs.Image.{nodeAt}
 use Rattle.represent.specs.Rep.{sizeOf, Sized}
 use Rattle.represent.specs.Frame.{nodeOf, pageOf, putNode, putPage, putHead, putFilled}
+use Rattle.represent.specs.Insertion.{SameSizes}
 use Rattle.represent.proofs.Places.{node-start, node-end, nodes-apart, nodes-end, page-start, page-end, pages-apart}
 
--- all that a store's layout goes by
-pub record SameSizes (h h′ : Head) : Type 0 where
-  pub theta : h′ .theta ≡ h .theta
-  pub capacity : h′ .capacity ≡ h .capacity
-  pub nodes : h′ .nodes ≡ h .nodes
-  pub pages : h′ .pages ≡ h .pages
-
+-- all that a store's layout goes by are its sizes
 node-layout : (s : List ℕ) (h h′ : Head) (n : ℕ) → SameSizes h h′ → nodeAt s h′ n ≡ nodeAt s h n
 unfolding nodeAt nodeStart
 node-layout s h h′ n k = rw (k .theta)

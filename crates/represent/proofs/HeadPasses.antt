@@ -35,7 +35,7 @@ width-low : (f : Format) → 7 ≤ width f
 unfolding width
 width-low Plots = omega arith
 
-shape-relabel : {A B : Type 0} (g : A → B) (t : Trie A) → shape (relabel g t) ≡ shape t
+pub shape-relabel : {A B : Type 0} (g : A → B) (t : Trie A) → shape (relabel g t) ≡ shape t
 shape-relabel g (leaf x) = refl
 shape-relabel g (fork l r) = rw (shape-relabel g l, shape-relabel g r)
 
@@ -45,7 +45,7 @@ module _ (θ : ℕ) (node : ℕ → List ℕ) (root top : ℕ) where
   root-label k u [] p = rw (p .0) (omega (arith, ind-self root))
   root-label k u (b ∷ bs) p = omega (arith, root-label (suc k) b bs (p .1))
 
-  top-level : (k : ℕ) (u : Trie ℕ) (bs : List (Trie ℕ)) → Nodes θ node root top k u bs → top ≡ k + length bs
+  pub top-level : (k : ℕ) (u : Trie ℕ) (bs : List (Trie ℕ)) → Nodes θ node root top k u bs → top ≡ k + length bs
   top-level k u [] p = omega (arith, p .1)
   top-level k u (b ∷ bs) p = omega (arith, top-level (suc k) b bs (p .1))
 

@@ -35,7 +35,7 @@ pub length-entryWords : (es : List (Entry ℕ)) → length (entryWords es) ≡ 2
 length-entryWords [] = refl
 length-entryWords (e ∷ es) = omega (arith, length-entryWords es)
 
-entry-depth : (es : List (Entry ℕ)) (ws : List ℕ) (j i : ℕ) → j < length es → i ≡ 2 * j → getD (entryWords es ++ ws) i 0 ≡ getD es j (0, 0) .0
+pub entry-depth : (es : List (Entry ℕ)) (ws : List ℕ) (j i : ℕ) → j < length es → i ≡ 2 * j → getD (entryWords es ++ ws) i 0 ≡ getD es j (0, 0) .0
 entry-depth [] ws j i l e = absurd (omega arith)
 entry-depth (x ∷ es) ws zero zero l e = refl
 entry-depth (x ∷ es) ws zero (suc i) l e = absurd (omega arith)
@@ -43,7 +43,7 @@ entry-depth (x ∷ es) ws (suc j) zero l e = absurd (omega arith)
 entry-depth (x ∷ es) ws (suc j) (suc zero) l e = absurd (omega arith)
 entry-depth (x ∷ es) ws (suc j) (suc (suc i)) l e = entry-depth es ws j i (omega arith) (omega arith)
 
-entry-pointer : (es : List (Entry ℕ)) (ws : List ℕ) (j i : ℕ) → j < length es → i ≡ 2 * j + 1 → getD (entryWords es ++ ws) i 0 ≡ getD es j (0, 0) .1
+pub entry-pointer : (es : List (Entry ℕ)) (ws : List ℕ) (j i : ℕ) → j < length es → i ≡ 2 * j + 1 → getD (entryWords es ++ ws) i 0 ≡ getD es j (0, 0) .1
 entry-pointer [] ws j i l e = absurd (omega arith)
 entry-pointer (x ∷ es) ws zero zero l e = absurd (omega arith)
 entry-pointer (x ∷ es) ws zero (suc zero) l e = refl
@@ -101,7 +101,7 @@ module _ (s : List ℕ) (a θ level back forward : ℕ) (v : Trie ℕ) (fits : a
   unfolding nodeWords nodeImage
   image-forward = at 3 (omega arith)
 
-  image-shown : Shown s a θ level v
+  pub image-shown : Shown s a θ level v
   unfolding nodeWords nodeImage zeros
   image-shown =
       record {

@@ -162,11 +162,11 @@ module _ (k : ℕ) where
       ]
 
 module _ (f : Format) (C : ℕ) (pg : List ℕ) (rs : List Item) (is : pg ≡ pageImage f C rs) where
-  page-count : count pg ≡ length rs
+  pub page-count : count pg ≡ length rs
   unfolding pageImage
   page-count = ap (λ ws. word ws 0) is
 
-  page-blank : (j : ℕ) → word pg (1 + words f * length rs + j) ≡ 0
+  pub page-blank : (j : ℕ) → word pg (1 + words f * length rs + j) ≡ 0
   unfolding pageImage
   page-blank j =
       ap (λ ws. word ws (1 + words f * length rs + j)) is
@@ -175,7 +175,7 @@ module _ (f : Format) (C : ℕ) (pg : List ℕ) (rs : List Item) (is : pg ≡ pa
       ∙ getD-zeros (words f * (C - length rs)) j
 
   module _ (lawful : All (λ it. lawfulItem f it ≡ true) rs) where
-    page-item : (i : ℕ) → i < length rs → itemAt f pg i ≡ getD rs i noItem
+    pub page-item : (i : ℕ) → i < length rs → itemAt f pg i ≡ getD rs i noItem
     unfolding pageImage
     page-item i h =
         ap (λ ws. itemAt f ws i) is ∙ item-flat f (length rs) rs (replicate (words f * (C - length rs)) 0) i lawful h

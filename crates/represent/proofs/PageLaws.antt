@@ -89,7 +89,7 @@ pages-frame f s s′ h h′ b0 c e kept pg =
     }
 
 -- a list that loses nothing to a side
-side-whole : {R : Type 0} (key : R → ℕ) (b : Bool) (w : ℕ) (rs : List R) → length (side key b w rs) ≡ length rs → side key b w rs ≡ rs
+pub side-whole : {R : Type 0} (key : R → ℕ) (b : Bool) (w : ℕ) (rs : List R) → length (side key b w rs) ≡ length rs → side key b w rs ≡ rs
 side-whole key b w rs e =
     elim (bool-cases (all (λ r. same b (bit w (key r))) rs)) [
       | inl a ↦ filter-all (λ r. same b (bit w (key r))) rs a
@@ -300,7 +300,7 @@ module _ (f : Format) (C : ℕ) (s : List ℕ) (p : ℕ) (rs : List Item) (ok : 
   pub put-sized : Sized f (putItems f C s p rs)
   put-sized = putPage-sized f s p (pageImage f C rs) ok low high put-length
 
-  put-same : pageOf f (putItems f C s p rs) p ≡ pageImage f C rs
+  pub put-same : pageOf f (putItems f C s p rs) p ≡ pageImage f C rs
   put-same = putPage-same f s p (pageImage f C rs) ok low high put-length
 
   pub put-other : (x : ℕ) → 1 ≤ x → (x ≡ p → ⊥) → pageOf f (putItems f C s p rs) x ≡ pageOf f s x
@@ -312,7 +312,7 @@ module _ (f : Format) (C : ℕ) (s : List ℕ) (p : ℕ) (rs : List Item) (ok : 
   pub take-filled : headOf (takeItems f C s p rs) .filled ≡ p
   take-filled = putFilled-filled (putItems f C s p rs) p (omega (arith, sized-long f (putItems f C s p rs) put-sized))
 
-  take-same : pageOf f (takeItems f C s p rs) p ≡ pageImage f C rs
+  pub take-same : pageOf f (takeItems f C s p rs) p ≡ pageImage f C rs
   take-same = putFilled-pages (putItems f C s p rs) p f p ∙ put-same
 
   pub take-other : (x : ℕ) → 1 ≤ x → (x ≡ p → ⊥) → pageOf f (takeItems f C s p rs) x ≡ pageOf f s x

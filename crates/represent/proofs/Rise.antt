@@ -16,7 +16,7 @@ use Rattle.represent.specs.Round.{NodeOps, NodeLaws, StoreOps, StoreLaws
 use Rattle.represent.proofs.LabelLaws.{ind-other, over-map}
 use Rattle.represent.proofs.Grafts.{occ-split, over-graft}
 use Rattle.represent.proofs.CarriedLaws.{Numbered, numbered-above}
-use Rattle.represent.proofs.Blocks.{Written, room-node, grow-written, lower-written, upper-written}
+use Rattle.represent.proofs.Blocks.{Written, grow-written, lower-written, upper-written}
 use Rattle.represent.proofs.Writes.{changed-then}
 use Rattle.represent.proofs.Level.{At, is-moved, nodes-frame, SameLinks, unlinked-moved, Plain, Ready, Climbed, ready-low, ready-high, here, local-depth, rewritten, rewritten-links}
 use Rattle.represent.proofs.Splits.{Split}
@@ -28,8 +28,8 @@ module _ {θ : ℕ} {I : NodeOps} {O : StoreOps} (A : NodeLaws θ I) (B : StoreL
   ClimbKeeps bs =
       (s : S) (k : ℕ) (u : Trie ℕ) (key : Key) (a c : ℕ)
       → Ready θ O s k u bs → taken s + bumpCost θ (locals u bs key) ≤ cap s → Plain θ (node s) bs
-      → Climbed θ O s (climb I O s (pathOf bs key) a c) k (graft u key (pair a c)) bs (carried θ (taken s) u bs key) (bumpCost θ (locals u bs key))
-      × Plain θ (node (climb I O s (pathOf bs key) a c)) (carried θ (taken s) u bs key)
+      → Climbed θ O s (climb I O θ s (pathOf u bs key) a c) k (graft u key (pair a c)) bs (carried θ (taken s) u bs key) (bumpCost θ (locals u bs key))
+      × Plain θ (node (climb I O θ s (pathOf u bs key) a c)) (carried θ (taken s) u bs key)
 
   module _ {s : S} {k : ℕ} {u b : Trie ℕ} {bs : List (Trie ℕ)} (y : Ready θ O s k u (b ∷ bs)) (key : Key) where
     abbrev n : ℕ
@@ -44,19 +44,16 @@ module _ {θ : ℕ} {I : NodeOps} {O : StoreOps} (A : NodeLaws θ I) (B : StoreL
     abbrev b′ : Trie ℕ
     b′ = graft b key (pair n m)
 
-    pub room-here : I .room (node s n) (rest b key) ≡ ltb (depth u key - depth b key) θ
-    room-here = room-node A (here y key) (rest b key) ∙ ap (λ (d : ℕ). ltb d θ) (local-depth y key)
-
     module _ (a c : ℕ) (small : depth u key - depth b key < θ) where
       grow-here :
           Written θ (I .grow (node s n) (rest b key) a c) (suc k) (backOf (node s) n) (forwardOf (node s) n) (graft v (rest b key) (pair a c))
       grow-here = grow-written A (here y key) (rest b key) a c (omega (arith, local-depth y key))
 
-      pub grown-climbed : Climbed θ O s (grown I O s (stepAt b key) a c) k (graft u key (pair a c)) (b ∷ bs) (b ∷ bs) 0
+      pub grown-climbed : Climbed θ O s (grown I O s (stepAt u b key) a c) k (graft u key (pair a c)) (b ∷ bs) (b ∷ bs) 0
       unfolding grown
       grown-climbed = rewritten y key B (pair a c) grow-here
 
-      pub grown-links : (x : ℕ) → 1 ≤ occs x (b ∷ bs) → SameLinks θ (node s) (node (grown I O s (stepAt b key) a c)) x
+      pub grown-links : (x : ℕ) → 1 ≤ occs x (b ∷ bs) → SameLinks θ (node s) (node (grown I O s (stepAt u b key) a c)) x
       unfolding grown
       grown-links = rewritten-links y key B (pair a c) grow-here
 
@@ -117,7 +114,7 @@ module _ {θ : ℕ} {I : NodeOps} {O : StoreOps} (A : NodeLaws θ I) (B : StoreL
               }
 
         pub rise : ClimbKeeps bs → taken s + suc (bumpCost θ (locals b bs key)) ≤ cap s → Plain θ (node s) bs
-            → Risen (climb I O s₁ (pathOf bs key) n m)
+            → Risen (climb I O θ s₁ (pathOf b bs key) n m)
         rise up fits f =
             let t : taken s₁ ≡ m = omega (arith, w .changed .now) in
             let z =

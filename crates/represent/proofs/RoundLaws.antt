@@ -20,19 +20,19 @@ use Rattle.represent.proofs.Chain.{count-labels, linked-frame}
 use Rattle.represent.proofs.CarriedLaws.{carried-slack, carried-full, carried-levels, carried-one, carried-old, one-numbered}
 use Rattle.represent.proofs.Blocks.{aim-written}
 use Rattle.represent.proofs.Level.{moved-links, links-frame, Ready, Climbed, here, rewritten, rewritten-links}
-use Rattle.represent.proofs.Rise.{room-here, grown-climbed, grown-links, rise}
+use Rattle.represent.proofs.Rise.{grown-climbed, grown-links, rise}
 use Rattle.represent.proofs.Climb.{climb-keeps}
 use Rattle.represent.proofs.FirstSplit.{first-split, first-linked}
 
-module _ (I : NodeOps) (O : StoreOps) (s : O .S) (p : Step) (path : List Step) (a c : ℕ) where
-  round-room : I .room (O .node s (p .at)) (p .bits) ≡ true → round I O s (p ∷ path) a c ≡ grown I O s p a c
+module _ (I : NodeOps) (O : StoreOps) (θ : ℕ) (s : O .S) (p : Step) (path : List Step) (a c : ℕ) where
+  round-room : p .depth < θ → round I O θ s (p ∷ path) a c ≡ grown I O s p a c
   unfolding round
-  round-room e = rw (e, round)
+  round-room h = rw (lt-ltb (p .depth) θ h, round)
 
-  round-full : I .room (O .node s (p .at)) (p .bits) ≡ false
-      → round I O s (p ∷ path) a c ≡ climb I O (halveFirst I O s p a c) path (p .at) (suc (O .taken s))
+  round-full : θ ≤ p .depth
+      → round I O θ s (p ∷ path) a c ≡ climb I O θ (halveFirst I O s p a c) path (p .at) (suc (O .taken s))
   unfolding round
-  round-full e = rw (e, round)
+  round-full h = rw (le-ltb (p .depth) θ h, round)
 
 module _ {θ : ℕ} {O : StoreOps} {s : O .S} {u : Trie ℕ} {bs : List (Trie ℕ)} where
   open StoreOps O using (Ok, node, root, levels, taken, cap)
@@ -45,14 +45,14 @@ module _ {θ : ℕ} {I : NodeOps} {O : StoreOps} (A : NodeLaws θ I) (B : StoreL
 
   round-climbed : (s : S) (u b : Trie ℕ) (bs : List (Trie ℕ)) (key : Key) (a c : ℕ)
       → Ready θ O s 0 u (b ∷ bs) → Links (node s) (b ∷ bs) → taken s + bumpCost θ (locals u (b ∷ bs) key) ≤ cap s
-      → Climbed θ O s (round I O s (pathOf (b ∷ bs) key) a c) 0 (graft u key (pair a c))
+      → Climbed θ O s (round I O θ s (pathOf u (b ∷ bs) key) a c) 0 (graft u key (pair a c))
       (b ∷ bs) (carried θ (taken s) u (b ∷ bs) key) (bumpCost θ (locals u (b ∷ bs) key))
-      × Links (node (round I O s (pathOf (b ∷ bs) key) a c)) (carried θ (taken s) u (b ∷ bs) key)
+      × Links (node (round I O θ s (pathOf u (b ∷ bs) key) a c)) (carried θ (taken s) u (b ∷ bs) key)
   round-climbed s u b bs key a c y links fits =
       elim (decLt (depth u key - depth b key) θ) [
         | yes small ↦
             rw (
-              round-room I O s (stepAt b key) (pathOf bs key) a c (room-here A B y key ∙ lt-ltb (depth u key - depth b key) θ small),
+              round-room I O θ s (stepAt u b key) (pathOf b bs key) a c small,
               carried-slack θ (taken s) u b bs key small,
               bump-slack θ (depth u key - depth b key) (locals b bs key) small .1,
             )
@@ -62,13 +62,13 @@ module _ {θ : ℕ} {I : NodeOps} {O : StoreOps} (A : NodeLaws θ I) (B : StoreL
             let cost = bump-full θ (depth u key - depth b key) (locals b bs key) full .1 in
             let more : taken s < cap s = omega (arith, cost) in
             let t = forked (under b u key) (rest b key) a c in
-            let s₁ : S = halveFirst I O s (stepAt b key) a c in
-            let s′ : S = climb I O s₁ (pathOf bs key) (leafAt b key) (suc (taken s)) in
+            let s₁ : S = halveFirst I O s (stepAt u b key) a c in
+            let s′ : S = climb I O θ s₁ (pathOf b bs key) (leafAt b key) (suc (taken s)) in
             let b′ : Trie ℕ = graft b key (pair (leafAt b key) (suc (taken s))) in
             let w = first-split A B y key a c (links .0) (t .2) full more in
             let z = rise A B y key a c (t .2) w (climb-keeps A B pos bs) (omega (arith, cost)) (links .1) in
             rw (
-              round-full I O s (stepAt b key) (pathOf bs key) a c (room-here A B y key ∙ le-ltb (depth u key - depth b key) θ full),
+              round-full I O θ s (stepAt u b key) (pathOf b bs key) a c full,
               carried-full θ (taken s) u b bs key full,
               cost,
             ) (

@@ -23,10 +23,10 @@ use Rattle.represent.specs.Image.{pageImage}
 use Rattle.represent.specs.Rep.{Stretch, numbers, Directory, Pages, Rep, sizeOf, Sized}
 use Rattle.represent.specs.Round.{NodeOps, StoreOps, Rounded, pathOf, round, carried}
 use Rattle.represent.specs.Frame.{nodeOf, pageOf, putFilled}
-use Rattle.represent.specs.Insertion.{Ok, wordStore, stretchAt, leftAt, prefixAt, halfAt, replacedAt, Fit, putItems, takeItems, Stepped, Roomy, UpperKeeps, LowerKeeps, BothKeep, PutKeeps, TakeKeeps}
+use Rattle.represent.specs.Insertion.{SameSizes, Ok, wordStore, stretchAt, leftAt, prefixAt, halfAt, replacedAt, Fit, putItems, takeItems, Stepped, Roomy, UpperKeeps, LowerKeeps, BothKeep, PutKeeps, TakeKeeps}
 use Rattle.represent.proofs.LabelLaws.{label-low, label-high, leafAt-relabel, relabel-graft}
 use Rattle.represent.proofs.Level.{moved-links, nodes-frame, links-frame}
-use Rattle.represent.proofs.Frame.{SameSizes, putPage-nodes, putPage-beyond}
+use Rattle.represent.proofs.Frame.{putPage-nodes, putPage-beyond}
 use Rattle.represent.proofs.Frame.{putFilled-sizes, putFilled-root, putFilled-levels, putFilled-taken, putFilled-sized, putFilled-nodes, putFilled-beyond}
 use Rattle.represent.proofs.WordStore.{others-sizes, others-filled, others-pages, others-beyond, store-laws}
 use Rattle.represent.proofs.PageLaws.{number-high, half-fits, own-low, put-head, put-length, put-sized, put-other, take-filled, take-other, pages-frame, pages-upper, pages-lower, pages-both, pages-put, pages-take}
@@ -64,7 +64,7 @@ record PageStep (f : Format) (s s′ : List ℕ) (b0 : Trie Stretch) : Type 0 wh
   pages-fit : headOf s′ .filled ≤ headOf s′ .pages
   free-pages : (p : ℕ) → headOf s′ .filled < p → p ≤ headOf s′ .pages → pageOf f s′ p ≡ replicate (pageWords f (headOf s′ .capacity)) 0
 
-size-same : (f : Format) (s s′ : List ℕ) → SameSizes (headOf s) (headOf s′) → sizeOf f s′ ≡ sizeOf f s
+pub size-same : (f : Format) (s s′ : List ℕ) → SameSizes (headOf s) (headOf s′) → sizeOf f s′ ≡ sizeOf f s
 size-same f s s′ e = rw (e .theta, e .capacity, e .nodes, e .pages)
 
 module _ (f : Format) (s : List ℕ) (b0 b0′ : Trie Stretch) (bs : List (Trie ℕ)) (r : Rep f s b0 bs) (s₁ : List ℕ) (p : PageStep f s s₁ b0′) where
@@ -120,6 +120,12 @@ module _ (f : Format) (s : List ℕ) (b0 b0′ : Trie Stretch) (bs : List (Trie 
     stepped =
         record {
           rep = now;
+          sizes-same = record {
+            theta = sizes-now .theta ∙ p .kept .sizes-same .theta;
+            capacity = sizes-now .capacity ∙ p .kept .sizes-same .capacity;
+            nodes = sizes-now .nodes ∙ p .kept .sizes-same .nodes;
+            pages = sizes-now .pages ∙ p .kept .sizes-same .pages;
+          };
           beyond =
               ap (λ n. drop n s₂) (sym (size-same f s₁ s₂ sizes-now ∙ size-same f s s₁ (p .kept .sizes-same)))
               ∙ others-beyond f s₁ s₂ (w .changed .others-same)
@@ -316,7 +322,7 @@ module _ (f : Format) (I : NodeOps) (s : List ℕ) (b0 : Trie Stretch) (bs : Lis
   place = bits (width f) key
 
   halved : (x z : Stretch) (s₁ : List ℕ) → PageStep f s s₁ (replacedAt f b0 key (pair x z))
-      → Stepped f s (round I (wordStore f (headOf s .theta)) s₁ (pathOf bs place) (x .0) (z .0)) (replacedAt f b0 key (pair x z))
+      → Stepped f s (round I (wordStore f (headOf s .theta)) (headOf s .theta) s₁ (pathOf (numbers b0) bs place) (x .0) (z .0)) (replacedAt f b0 key (pair x z))
       (carried (headOf s .theta) (headOf s .taken) (numbers b0) bs place)
   halved x z s₁ p =
       stepped f s b0 (replacedAt f b0 key (pair x z)) bs (y .rep) s₁ p _ (bumpCost (headOf s .theta) (locals (numbers b0) bs place)) _

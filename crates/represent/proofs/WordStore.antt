@@ -15,10 +15,10 @@ use Rattle.store.specs.Head.{headOf, nodeWords, pageWords, size, pageStart, pag
 use Rattle.node.specs.Node.{backWord, forwardWord}
 use Rattle.represent.specs.Image.{NodeIs}
 use Rattle.represent.specs.Round.{StoreLaws}
-use Rattle.represent.specs.Insertion.{Others, nodesEnd, others, Ok, wordStore}
+use Rattle.represent.specs.Insertion.{SameSizes, Others, nodesEnd, others, Ok, wordStore}
 use Rattle.represent.specs.Rep.{sizeOf}
 use Rattle.represent.specs.Frame.{nodeOf, pageOf, putNode, putHead}
-use Rattle.represent.proofs.Frame.{SameSizes, sized-long, putNode-head, putNode-sized, putNode-same, putNode-other, putNode-drop}
+use Rattle.represent.proofs.Frame.{sized-long, putNode-head, putNode-sized, putNode-same, putNode-other, putNode-drop}
 use Rattle.represent.proofs.Frame.{putHead-sizes, putHead-filled, putHead-root, putHead-levels, putHead-taken}
 use Rattle.represent.proofs.Frame.{putHead-sized, putHead-nodes, putHead-drop}
 use Rattle.represent.proofs.Lengths.{length-nodeImage}

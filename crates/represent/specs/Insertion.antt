@@ -12,7 +12,8 @@
 --   Fit f C w q rs     == the records rs may be written into a page, at a place with w bits left and the prefix q
 --   putItems f C s p rs  == the words s with the records rs in page block p, where C is the capacity
 --   takeItems f C s p rs == that, and p as the number of pages taken
---   Stepped f s s′ b0 bs == s′ stands for b0 and bs, and has the words of s beyond the size
+--   SameSizes h h′     == the two heads have the same sizes
+--   Stepped f s s′ b0 bs == s′ stands for b0 and bs, and has the sizes of s and its words beyond them
 --   UpperKeeps, LowerKeeps, BothKeep == a full page halved: no record has the bit clear; none has it set; there are both
 --   PutKeeps, TakeKeeps == a page written anew; a page taken for a null entry
 use mathlib.Core.Path.{_≡_}
@@ -113,8 +114,15 @@ putItems f C s p rs = putPage f s p (pageImage f C rs)
 abbrev pub takeItems : Format → ℕ → List ℕ → ℕ → List Item → List ℕ
 takeItems f C s p rs = putFilled (putItems f C s p rs) p
 
+pub record SameSizes (h h′ : Head) : Type 0 where
+  pub theta : h′ .theta ≡ h .theta
+  pub capacity : h′ .capacity ≡ h .capacity
+  pub nodes : h′ .nodes ≡ h .nodes
+  pub pages : h′ .pages ≡ h .pages
+
 pub record Stepped (f : Format) (s s′ : List ℕ) (b0 : Trie Stretch) (bs : List (Trie ℕ)) : Type 0 where
   pub rep : Rep f s′ b0 bs
+  pub sizes-same : SameSizes (headOf s) (headOf s′)
   pub beyond : drop (sizeOf f s) s′ ≡ drop (sizeOf f s) s
 
 module _ (f : Format) (I : NodeOps) (s : List ℕ) (b0 : Trie Stretch) (bs : List (Trie ℕ)) (key : ℕ) where
@@ -126,7 +134,7 @@ module _ (f : Format) (I : NodeOps) (s : List ℕ) (b0 : Trie Stretch) (bs : Lis
 
   -- the round at the key, on the words t
   abbrev rounded : List ℕ → ℕ → ℕ → List ℕ
-  rounded t a c = round I (wordStore f (headOf s .theta)) t (pathOf bs k) a c
+  rounded t a c = round I (wordStore f (headOf s .theta)) (headOf s .theta) t (pathOf (numbers b0) bs k) a c
 
   abbrev levelsAfter : List (Trie ℕ)
   levelsAfter = carried (headOf s .theta) (headOf s .taken) (numbers b0) bs k
@@ -173,5 +181,5 @@ module _ (f : Format) (I : NodeOps) (s : List ℕ) (b0 : Trie Stretch) (b : Trie
       (rs : List Item) → NodeLaws (headOf s .theta) I → Rep f s b0 (b ∷ bs) → key < 2 ^ width f → stretchAt f b0 key .0 ≡ 0 → m ≤ headOf s .pages
       → Fit f (headOf s .capacity) (leftAt f b0 key) (prefixAt f b0 key) rs
       → Stepped f s
-      (aimAt I (wordStore f (headOf s .theta)) (takeItems f (headOf s .capacity) s m rs) (stepAt b (bits (width f) key)) m)
+      (aimAt I (wordStore f (headOf s .theta)) (takeItems f (headOf s .capacity) s m rs) (stepAt (numbers b0) b (bits (width f) key)) m)
       (replacedAt f b0 key (leaf (m, rs))) (b ∷ bs)

@@ -7,12 +7,13 @@
 --   StoreLaws θ O      == that the operations come to this
 --   Changed s s′ more  == s′ is s with so many nodes more taken, and the same outside its nodes
 --   Rounded            == the same, and s′ has a directory
---   Step               == a node on the way of a key, and the bits of the key that are left there
---   stepAt b k         == the step of the key k at the level b; pathOf bs k: at the levels bs, lowest first
+--   Step               == a node on the way of a key, the bits of the key that are left there, and the local depth of its run
+--   stepAt u b k       == the step of the key k at the level b over u; pathOf u bs k: at the levels bs over u, lowest first
 --   two, relink, advance == two blocks written, the second at the next unused number; a back link; the head with one node more taken
 --   grown, halve, halveFirst, newRoot == one level of a climb: the node has room; it splits; it splits at level 1; a root is put above
---   climb s path a c   == the runs of a path halved, a and c the pointers of the lowest two halves, as far up as nodes split
---   round s path a c   == the same from level 1
+--   climb θ s path a c == the runs of a path halved, a and c the pointers of the lowest two halves, as far up as nodes split
+--   round θ s path a c == the same from level 1
+--   turned θ k m path  == the path of the key k after that, where the numbers up to m are taken
 --   aimAt s p q        == the run at the step p points to q
 --   carried θ m u bs k == the levels bs over u after u's stretch at the key is halved, where the numbers up to m are taken
 --   RoundCarries, AimKeeps == a round, and another pointer at the key, keep the directory
@@ -29,8 +30,6 @@ use Rattle.represent.specs.Rep.{Directory}
 
 -- A block is a list of words; a key is the bits that are left at the node.
 pub record NodeOps : Type 0 where
-  -- the run at the key has a local depth below θ
-  pub room : List ℕ → Key → Bool
   -- the run at the key halved, with two pointers
   pub grow : List ℕ → Key → ℕ → ℕ → List ℕ
   -- the two halves of a split node, in which the run at the key is halved
@@ -44,8 +43,6 @@ pub record NodeOps : Type 0 where
 
 module _ (θ : ℕ) (I : NodeOps) where
   pub record NodeLaws : Type 0 where
-    pub room-is : (level back forward : ℕ) (v : Trie ℕ) (k : Key) → height v ≤ θ
-        → I .room (nodeImage θ level back forward v) k ≡ ltb (depth v k) θ
     -- "A run at h = H < θ first doubles the node."
     pub grow-is : (level back forward : ℕ) (v : Trie ℕ) (k : Key) (a c : ℕ) → height v ≤ θ → depth v k < θ
         → I .grow (nodeImage θ level back forward v) k a c ≡ nodeImage θ level back forward (graft v k (pair a c))
@@ -119,13 +116,32 @@ module _ (θ : ℕ) (O : StoreOps) where
 pub record Step : Type 0 where
   pub at : ℕ
   pub bits : Key
+  pub depth : ℕ
 
-abbrev pub stepAt : Trie ℕ → Key → Step
-stepAt b k = record { at = leafAt b k; bits = rest b k }
+abbrev pub stepAt : Trie ℕ → Trie ℕ → Key → Step
+stepAt u b k = record { at = leafAt b k; bits = rest b k; depth = depth u k - depth b k }
 
-abbrev pub pathOf : List (Trie ℕ) → Key → List Step
-pathOf [] k = []
-pathOf (b ∷ bs) k = stepAt b k ∷ pathOf bs k
+abbrev pub pathOf : Trie ℕ → List (Trie ℕ) → Key → List Step
+pathOf u [] k = []
+pathOf u (b ∷ bs) k = stepAt u b k ∷ pathOf b bs k
+
+-- the label at the bits in a fork of two leaves, and the bits that are left there
+abbrev pub chosen : Key → ℕ → ℕ → ℕ
+chosen k x y = leafAt (pair x y) k
+
+abbrev pub onward : Key → Key
+onward [] = []
+onward (b ∷ k) = k
+
+-- A run with room is halved where it stands: one bit more. A run at θ stays at θ: its node is split, and the half that the key is in takes up the
+-- node's first bit. Above a split root stands the new one.
+unfoldable pub turned : ℕ → Key → ℕ → List Step → List Step
+turned θ k m [] = record { at = suc m; bits = k; depth = 1 } ∷ []
+turned θ k m (p ∷ path) =
+    elim (ltb (p .depth) θ) [
+      | true ↦ record { at = p .at; bits = p .bits; depth = suc (p .depth) } ∷ path
+      | false ↦ record { at = chosen (p .bits) (p .at) (suc m); bits = onward (p .bits); depth = θ } ∷ turned θ k (suc m) path
+    ]
 
 module _ (O : StoreOps) where
   open StoreOps O using (S, root, levels, taken, put, head)
@@ -139,7 +155,7 @@ module _ (O : StoreOps) where
   advance s s′ = head s′ (root s) (levels s) (suc (taken s))
 
 module _ (I : NodeOps) (O : StoreOps) where
-  open NodeOps I using (room, grow, lower, upper, aim, linked, top)
+  open NodeOps I using (grow, lower, upper, aim, linked, top)
   open StoreOps O using (S, node, levels, taken, put, head)
 
   unfoldable pub grown : S → Step → ℕ → ℕ → S
@@ -168,20 +184,21 @@ module _ (I : NodeOps) (O : StoreOps) where
   newRoot s a c = head (put s (suc (taken s)) (top (suc (levels s)) a c)) (suc (taken s)) (suc (levels s)) (suc (taken s))
 
   -- "the parent's run is halved by the same rule", "in a climb, lower levels take first"
-  unfoldable pub climb : S → List Step → ℕ → ℕ → S
-  climb s [] a c = newRoot s a c
-  climb s (p ∷ path) a c =
-      elim (room (node s (p .at)) (p .bits)) [
+  -- (whether a run has room is said by the path: nothing is read again that the descent has read)
+  unfoldable pub climb : ℕ → S → List Step → ℕ → ℕ → S
+  climb θ s [] a c = newRoot s a c
+  climb θ s (p ∷ path) a c =
+      elim (ltb (p .depth) θ) [
         | true ↦ grown s p a c
-        | false ↦ climb (halve s p a c) path (p .at) (suc (taken s))
+        | false ↦ climb θ (halve s p a c) path (p .at) (suc (taken s))
       ]
 
-  unfoldable pub round : S → List Step → ℕ → ℕ → S
-  round s [] a c = s
-  round s (p ∷ path) a c =
-      elim (room (node s (p .at)) (p .bits)) [
+  unfoldable pub round : ℕ → S → List Step → ℕ → ℕ → S
+  round θ s [] a c = s
+  round θ s (p ∷ path) a c =
+      elim (ltb (p .depth) θ) [
         | true ↦ grown s p a c
-        | false ↦ climb (halveFirst s p a c) path (p .at) (suc (taken s))
+        | false ↦ climb θ (halveFirst s p a c) path (p .at) (suc (taken s))
       ]
 
   unfoldable pub aimAt : S → Step → ℕ → S
@@ -205,7 +222,7 @@ module _ (θ : ℕ) (I : NodeOps) (O : StoreOps) where
       NodeLaws θ I → StoreLaws θ O → 1 ≤ θ
       → (s : S) (u : Trie ℕ) (bs : List (Trie ℕ)) (key : Key) (a c : ℕ)
       → Ok s → Directory θ (node s) (root s) (levels s) (taken s) u bs → taken s + bumpCost θ (locals u bs key) ≤ cap s
-      → Rounded θ O s (round I O s (pathOf bs key) a c) (bumpCost θ (locals u bs key)) (graft u key (pair a c)) (carried θ (taken s) u bs key)
+      → Rounded θ O s (round I O θ s (pathOf u bs key) a c) (bumpCost θ (locals u bs key)) (graft u key (pair a c)) (carried θ (taken s) u bs key)
 
   -- "Enter, at a null entry: take a page for the whole run."
   abbrev pub AimKeeps : Type 0
@@ -213,4 +230,4 @@ module _ (θ : ℕ) (I : NodeOps) (O : StoreOps) where
       NodeLaws θ I → StoreLaws θ O
       → (s : S) (u b : Trie ℕ) (bs : List (Trie ℕ)) (key : Key) (q : ℕ)
       → Ok s → taken s ≤ cap s → Directory θ (node s) (root s) (levels s) (taken s) u (b ∷ bs)
-      → Rounded θ O s (aimAt I O s (stepAt b key) q) 0 (graft u key (leaf q)) (b ∷ bs)
+      → Rounded θ O s (aimAt I O s (stepAt u b key) q) 0 (graft u key (leaf q)) (b ∷ bs)

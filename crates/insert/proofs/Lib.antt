@@ -1,0 +1,16 @@
+pub mod EntryLaws
+pub mod BlockLaws
+pub mod PathLaws
+pub mod WayLaws
+pub mod CountLaws
+pub mod PlaceLaws
+pub mod ReachLaws
+pub mod TestLaws
+pub mod PageWords
+pub mod StepLaws
+pub mod Refusals
+pub mod InsideWrites
+pub mod InsideRound
+pub mod InsideWay
+pub mod InsideEnter
+pub mod Promises
