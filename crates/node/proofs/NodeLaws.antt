@@ -73,7 +73,7 @@ module _ (H low high : ℕ) (e : ℕ → Entry ℕ) (i m : ℕ) (w : Passed H lo
       ]
 
 -- links and pointers by the level
-pub link-1 : (h : Head) (level back forward : ℕ) (a b : Bool) → level ≡ 1 → a ≡ leb back (h .taken) → b ≡ leb forward (h .taken) → (a && b) ≡ linkRule h level back forward
+pub link-1 : (h : Head) (level back forward : ℕ) (a b : Bool) → level ≡ 1 → a ≡ leb back (h .nodesTaken) → b ≡ leb forward (h .nodesTaken) → (a && b) ≡ linkRule h level back forward
 unfolding linkRule
 link-1 h level back forward a b e p q = rw (p, q, eq-eqb level 1 e, linkRule)
 
@@ -89,11 +89,11 @@ pub low-above : (level : ℕ) → (level ≡ 1 → ⊥) → 1 ≡ pointerLow lev
 unfolding pointerLow
 low-above level e = rw (ne-eqb level 1 e, pointerLow)
 
-pub high-1 : (h : Head) (level : ℕ) → level ≡ 1 → h .filled ≡ pointerHigh h level
+pub high-1 : (h : Head) (level : ℕ) → level ≡ 1 → h .pagesTaken ≡ pointerHigh h level
 unfolding pointerHigh
 high-1 h level e = rw (eq-eqb level 1 e, pointerHigh)
 
-pub high-above : (h : Head) (level : ℕ) → (level ≡ 1 → ⊥) → h .taken ≡ pointerHigh h level
+pub high-above : (h : Head) (level : ℕ) → (level ≡ 1 → ⊥) → h .nodesTaken ≡ pointerHigh h level
 unfolding pointerHigh
 high-above h level e = rw (ne-eqb level 1 e, pointerHigh)
 

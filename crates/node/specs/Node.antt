@@ -65,7 +65,7 @@ runTest H low high e i =
 unfoldable pub linkRule : Head → ℕ → ℕ → ℕ → Bool
 linkRule h level back forward =
     elim (eqb level 1) [
-      | true ↦ leb back (h .taken) && leb forward (h .taken)
+      | true ↦ leb back (h .nodesTaken) && leb forward (h .nodesTaken)
       | false ↦ eqb back 0 && eqb forward 0
     ]
 
@@ -74,7 +74,7 @@ unfoldable pub pointerLow : ℕ → ℕ
 pointerLow level = elim (eqb level 1) [ true ↦ 0 | false ↦ 1 ]
 
 unfoldable pub pointerHigh : Head → ℕ → ℕ
-pointerHigh h level = elim (eqb level 1) [ true ↦ h .filled | false ↦ h .taken ]
+pointerHigh h level = elim (eqb level 1) [ true ↦ h .pagesTaken | false ↦ h .nodesTaken ]
 
 -- "A visited node must keep every rule above at its level, with pointers and links to taken blocks or, where lawful, 0"
 unfoldable pub nodeRule : Head → List ℕ → ℕ → ℕ → Bool

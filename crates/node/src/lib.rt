@@ -82,10 +82,10 @@ pub fn links_ok(head: Head, level: u32, back: u32, forward: u32) -> bool
     ensures { λ r. ⌜ r ≡ linkRule head level back forward ⌝ }
 {
     if level == 1 {
-        if back > head.taken {
+        if back > head.nodesTaken {
             return false;
         }
-        return forward <= head.taken;
+        return forward <= head.nodesTaken;
     }
     if back != 0 {
         return false;
@@ -108,9 +108,9 @@ pub fn pointer_high(head: Head, level: u32) -> u32
     ensures { λ r. ⌜ r ≡ pointerHigh head level ⌝ }
 {
     if level == 1 {
-        return head.filled;
+        return head.pagesTaken;
     }
-    head.taken
+    head.nodesTaken
 }
 
 // Whether the node block that starts at `at` keeps the rule of a visited node of this level.

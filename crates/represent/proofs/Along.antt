@@ -194,7 +194,7 @@ module _ (f : Format) (s : List ℕ) (b0 : Trie Stretch) (b : Trie ℕ) (bs : Li
   shown : Over (ShownAt s) b u
   shown = over-map Shows (ShownAt s) b u (λ n v o is. rep-shown f s b0 (b ∷ bs) r n 1 v (omega arith) is) over
 
-  few : length (after b key) ≤ headOf s .taken
+  few : length (after b key) ≤ headOf s .nodesTaken
   few =
       omega (
         arith,
@@ -225,8 +225,8 @@ module _ (f : Format) (s : List ℕ) (b0 : Trie Stretch) (b : Trie ℕ) (bs : Li
   after-own strict =
       let w = after-over (ShownAt s) b u key shown in
       sym (own-is f s (headOf s) strict k step refl refl refl refl)
-      ∙ ap (λ n. follow f s (headOf s) strict k n (leafAt b key) start) (add-one (headOf s .taken))
-      ∙ along f s strict k small (headOf s .taken) (leafAt b key) start (after b key) (after (under b u key) (rest b key)) (w .0) own-pointer
+      ∙ ap (λ n. follow f s (headOf s) strict k n (leafAt b key) start) (add-one (headOf s .nodesTaken))
+      ∙ along f s strict k small (headOf s .nodesTaken) (leafAt b key) start (after b key) (after (under b u key) (rest b key)) (w .0) own-pointer
       (rep-next f s b0 b bs r key) (rep-after f s b0 b bs r key) passing (w .2) few
       ∙ ap (λ xs. visited f s strict k (firstPage xs)) (sym (w .1))
 

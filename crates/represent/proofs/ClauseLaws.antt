@@ -127,7 +127,7 @@ module _ (f : Format) (s : List ℕ) (b0 : Trie Stretch) (b : Trie ℕ) (bs : Li
   taken n o =
       record {
         positive = label-low (b ∷ bs) n (r .directory .positive) o;
-        within = label-high (headOf s .taken) (λ x. occs x (b ∷ bs)) n (r .directory .oneForOne .none) o;
+        within = label-high (headOf s .nodesTaken) (λ x. occs x (b ∷ bs)) n (r .directory .oneForOne .none) o;
       }
 
   abbrev At : ℕ → Type 0
@@ -165,7 +165,7 @@ module _ (f : Format) (s : List ℕ) (b0 : Trie Stretch) (b : Trie ℕ) (bs : Li
           | inl z ↦
               inl (
                 at n t .2 .level-is ∙ ap suc (z .0),
-                label-high (headOf s .filled) (λ p. occ p (numbers b0)) (entryPointer s (start s n) i) (r .pages .oneForOne .none) (z .1),
+                label-high (headOf s .pagesTaken) (λ p. occ p (numbers b0)) (entryPointer s (start s n) i) (r .pages .oneForOne .none) (z .1),
               )
           | inr z ↦
               inr (
@@ -177,7 +177,7 @@ module _ (f : Format) (s : List ℕ) (b0 : Trie Stretch) (b : Trie ℕ) (bs : Li
 
     page : levelWord s (start s n) ≡ 1
         → (entryPointer s (start s n) i ≡ 0)
-        ⊎ ((1 ≤ entryPointer s (start s n) i) × (entryPointer s (start s n) i ≤ headOf s .filled)
+        ⊎ ((1 ≤ entryPointer s (start s n) i) × (entryPointer s (start s n) i ≤ headOf s .pagesTaken)
         × (pageRule f (headOf s .capacity) (pageAt f s (headOf s) (entryPointer s (start s n) i)) ≡ true))
     page one =
         elim (ℕ-discrete (entryPointer s (start s n) i) 0) [
@@ -191,7 +191,7 @@ module _ (f : Format) (s : List ℕ) (b0 : Trie Stretch) (b : Trie ℕ) (bs : Li
               let w = each-label _ (numbers b0) (entryPointer s (start s n) i) (each-relabel (λ x. x .0) _ b0 pass) o in
               inr (
                 omega arith,
-                label-high (headOf s .filled) (λ p. occ p (numbers b0)) (entryPointer s (start s n) i) (r .pages .oneForOne .none) o,
+                label-high (headOf s .pagesTaken) (λ p. occ p (numbers b0)) (entryPointer s (start s n) i) (r .pages .oneForOne .none) o,
                 subst (λ p. pageRule f (headOf s .capacity) (pageAt f s (headOf s) p) ≡ true) (w .1) (w .2 (λ q. e (sym (w .1) ∙ q))),
               )
         ]

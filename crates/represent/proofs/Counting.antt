@@ -81,26 +81,26 @@ length-labels (leaf x) = refl
 length-labels (fork l r) = omega (arith, length-append (labels l) (labels r), length-labels l, length-labels r)
 
 -- a level has no more nodes than are taken
-pub rep-leaves : (f : Format) (s : List ℕ) (b0 : Trie Stretch) (b : Trie ℕ) (bs : List (Trie ℕ)) → Rep f s b0 (b ∷ bs) → leaves b ≤ headOf s .taken
+pub rep-leaves : (f : Format) (s : List ℕ) (b0 : Trie Stretch) (b : Trie ℕ) (bs : List (Trie ℕ)) → Rep f s b0 (b ∷ bs) → leaves b ≤ headOf s .nodesTaken
 rep-leaves f s b0 b bs r =
-    leaves-within (headOf s .taken) b
+    leaves-within (headOf s .nodesTaken) b
     (each-of _ b (λ n o. (
       label-low (b ∷ bs) n (r .directory .positive) (omega arith),
-      label-high (headOf s .taken) (λ x. occs x (b ∷ bs)) n (r .directory .oneForOne .none) (omega arith),
+      label-high (headOf s .nodesTaken) (λ x. occs x (b ∷ bs)) n (r .directory .oneForOne .none) (omega arith),
     )))
     (λ x. omega (arith, rep-once f s b0 (b ∷ bs) r x))
 
 module _ (f : Format) (s : List ℕ) (b0 : Trie Stretch) (bs : List (Trie ℕ)) (r : Rep f s b0 bs) where
-  pub rep-nodes : headOf s .taken ≡ allLeaves (map shape bs)
+  pub rep-nodes : headOf s .nodesTaken ≡ allLeaves (map shape bs)
   rep-nodes =
-      sym (upTo-ones (headOf s .taken) (λ x. occs x bs) (r .directory .oneForOne .once))
-      ∙ levels-counted (headOf s .taken) bs (λ n o. (
+      sym (upTo-ones (headOf s .nodesTaken) (λ x. occs x bs) (r .directory .oneForOne .once))
+      ∙ levels-counted (headOf s .nodesTaken) bs (λ n o. (
         label-low bs n (r .directory .positive) o,
-        label-high (headOf s .taken) (λ x. occs x bs) n (r .directory .oneForOne .none) o,
+        label-high (headOf s .nodesTaken) (λ x. occs x bs) n (r .directory .oneForOne .none) o,
       ))
 
-  pub rep-pages : headOf s .filled ≡ pages (contents b0)
+  pub rep-pages : headOf s .pagesTaken ≡ pages (contents b0)
   rep-pages =
-      sym (upTo-ones (headOf s .filled) (λ p. occ p (numbers b0)) (r .pages .oneForOne .once))
-      ∙ pages-counted (headOf s .filled) f s (headOf s) b0 (r .pages .each)
-      (each-of _ (numbers b0) (λ p o. label-high (headOf s .filled) (λ x. occ x (numbers b0)) p (r .pages .oneForOne .none) o))
+      sym (upTo-ones (headOf s .pagesTaken) (λ p. occ p (numbers b0)) (r .pages .oneForOne .once))
+      ∙ pages-counted (headOf s .pagesTaken) f s (headOf s) b0 (r .pages .each)
+      (each-of _ (numbers b0) (λ p o. label-high (headOf s .pagesTaken) (λ x. occ x (numbers b0)) p (r .pages .oneForOne .none) o))

@@ -17,7 +17,7 @@ use Rattle.store.specs.declared.Head.{Head}
 use Rattle.store.specs.Head.{word, zeros, headOf, nodeWords, pageWords, nodeStart, pageStart, pageAt}
 use Rattle.represent.specs.Image.{nodeAt}
 use Rattle.represent.specs.Rep.{sizeOf, Sized}
-use Rattle.represent.specs.Frame.{nodeOf, pageOf, putNode, putPage, putHead, putFilled}
+use Rattle.represent.specs.Frame.{nodeOf, pageOf, putNode, putPage, putHead, putPagesTaken}
 use Rattle.represent.specs.Insertion.{SameSizes}
 use Rattle.represent.proofs.Places.{node-start, node-end, nodes-apart, nodes-end, page-start, page-end, pages-apart}
 
@@ -100,7 +100,7 @@ module _ {a n : ℕ} {s t : List ℕ} (e : Elsewhere 0 a n s t) where
         long = rw (k .theta, k .capacity, k .nodes, k .pages, e .long) (ok .long);
       }
 
-module _ (f : Format) (s : List ℕ) (n : ℕ) (ws : List ℕ) (ok : Sized f s) (low : 1 ≤ n) (high : n ≤ headOf s .nodes)
+module _ (f : Format) (s : List ℕ) (n : ℕ) (ws : List ℕ) (ok : Sized f s) (low : 1 ≤ n) (high : n ≤ headOf s .nodeBlocks)
     (same : length ws ≡ nodeWords (headOf s .theta)) where
   node-fits : nodeStart (headOf s) n + nodeWords (headOf s .theta) ≤ length s
   node-fits = omega (arith, node-end (headOf s) n low high, nodes-end (headOf s) f, ok .long)
@@ -125,10 +125,10 @@ module _ (f : Format) (s : List ℕ) (n : ℕ) (ws : List ℕ) (ok : Sized f s) 
   putNode-other x p ne = node-kept node-write (omega (arith, behind)) x (nodes-apart (headOf s) x n p low ne)
 
   -- all words behind the node blocks
-  pub putNode-drop : (m : ℕ) → 16 + headOf s .nodes * nodeWords (headOf s .theta) ≤ m → drop m (putNode s n ws) ≡ drop m s
+  pub putNode-drop : (m : ℕ) → 16 + headOf s .nodeBlocks * nodeWords (headOf s .theta) ≤ m → drop m (putNode s n ws) ≡ drop m s
   putNode-drop m h = drop-beside 0 node-write m (omega (arith, node-end (headOf s) n low high))
 
-module _ (f : Format) (s : List ℕ) (p : ℕ) (ws : List ℕ) (ok : Sized f s) (low : 1 ≤ p) (high : p ≤ headOf s .pages)
+module _ (f : Format) (s : List ℕ) (p : ℕ) (ws : List ℕ) (ok : Sized f s) (low : 1 ≤ p) (high : p ≤ headOf s .pageBlocks)
     (same : length ws ≡ pageWords f (headOf s .capacity)) where
   page-fits : pageStart f (headOf s) p + pageWords f (headOf s .capacity) ≤ length s
   page-fits = omega (arith, page-end (headOf s) f p low high, ok .long)
@@ -137,7 +137,7 @@ module _ (f : Format) (s : List ℕ) (p : ℕ) (ws : List ℕ) (ok : Sized f s) 
   unfolding putPage
   page-write = elsewhere-replaced 0 (pageStart f (headOf s) p) (pageWords f (headOf s .capacity)) ws s page-fits same
 
-  behind-nodes : 16 + headOf s .nodes * nodeWords (headOf s .theta) ≤ pageStart f (headOf s) p
+  behind-nodes : 16 + headOf s .nodeBlocks * nodeWords (headOf s .theta) ≤ pageStart f (headOf s) p
   behind-nodes = page-start (headOf s) f p
 
   pub putPage-sized : Sized f (putPage f s p ws)
@@ -152,7 +152,7 @@ module _ (f : Format) (s : List ℕ) (p : ℕ) (ws : List ℕ) (ok : Sized f s) 
   pub putPage-other : (x : ℕ) → 1 ≤ x → (x ≡ p → ⊥) → pageOf f (putPage f s p ws) x ≡ pageOf f s x
   putPage-other x q ne = page-kept page-write (omega (arith, behind-nodes)) f x (pages-apart (headOf s) f x p q low ne)
 
-  pub putPage-nodes : (x : ℕ) → 1 ≤ x → x ≤ headOf s .nodes → nodeOf (putPage f s p ws) x ≡ nodeOf s x
+  pub putPage-nodes : (x : ℕ) → 1 ≤ x → x ≤ headOf s .nodeBlocks → nodeOf (putPage f s p ws) x ≡ nodeOf s x
   putPage-nodes x q l = node-kept page-write (omega (arith, behind-nodes)) x (inl (omega (arith, node-end (headOf s) x q l, behind-nodes)))
 
   pub putPage-beyond : drop (sizeOf f s) (putPage f s p ws) ≡ drop (sizeOf f s) s
@@ -173,9 +173,9 @@ module _ (s : List ℕ) (root levels taken : ℕ) where
   pub putHead-sizes : SameSizes (headOf s) (headOf (putHead s root levels taken))
   putHead-sizes = sizes-kept head-write (omega arith)
 
-  pub putHead-filled : headOf (putHead s root levels taken) .filled ≡ headOf s .filled
+  pub putHead-pagesTaken : headOf (putHead s root levels taken) .pagesTaken ≡ headOf s .pagesTaken
   unfolding headOf putHead
-  putHead-filled =
+  putHead-pagesTaken =
       getD-set-other (set (set s 4 taken) 6 root) 7 5 levels 0 (λ e. omega arith)
       ∙ getD-set-other (set s 4 taken) 6 5 root 0 (λ e. omega arith)
       ∙ getD-set-other s 4 5 taken 0 (λ e. omega arith)
@@ -191,7 +191,7 @@ module _ (s : List ℕ) (root levels taken : ℕ) where
   putHead-levels h =
       getD-set-same (set (set s 4 taken) 6 root) 7 levels 0 (omega (arith, length-set s 4 taken, length-set (set s 4 taken) 6 root))
 
-  pub putHead-taken : 8 ≤ length s → headOf (putHead s root levels taken) .taken ≡ taken
+  pub putHead-taken : 8 ≤ length s → headOf (putHead s root levels taken) .nodesTaken ≡ taken
   unfolding headOf putHead
   putHead-taken h =
       getD-set-other (set (set s 4 taken) 6 root) 7 4 levels 0 (λ e. omega arith)
@@ -208,40 +208,40 @@ module _ (s : List ℕ) (root levels taken : ℕ) where
   putHead-drop m h = drop-beside 0 head-write m (omega arith)
 
 module _ (s : List ℕ) (filled : ℕ) where
-  filled-write : Elsewhere 0 5 1 s (putFilled s filled)
-  unfolding putFilled
+  filled-write : Elsewhere 0 5 1 s (putPagesTaken s filled)
+  unfolding putPagesTaken
   filled-write = elsewhere-set 0 5 1 5 filled s s (omega arith) (omega arith) (untouched 5 1 s)
 
-  pub putFilled-sizes : SameSizes (headOf s) (headOf (putFilled s filled))
-  putFilled-sizes = sizes-kept filled-write (omega arith)
+  pub putPagesTaken-sizes : SameSizes (headOf s) (headOf (putPagesTaken s filled))
+  putPagesTaken-sizes = sizes-kept filled-write (omega arith)
 
-  pub putFilled-filled : 8 ≤ length s → headOf (putFilled s filled) .filled ≡ filled
-  unfolding headOf putFilled
-  putFilled-filled h = getD-set-same s 5 filled 0 (omega arith)
+  pub putPagesTaken-is : 8 ≤ length s → headOf (putPagesTaken s filled) .pagesTaken ≡ filled
+  unfolding headOf putPagesTaken
+  putPagesTaken-is h = getD-set-same s 5 filled 0 (omega arith)
 
-  pub putFilled-taken : headOf (putFilled s filled) .taken ≡ headOf s .taken
+  pub putPagesTaken-taken : headOf (putPagesTaken s filled) .nodesTaken ≡ headOf s .nodesTaken
   unfolding headOf
-  putFilled-taken = filled-write .below 4 (omega arith)
+  putPagesTaken-taken = filled-write .below 4 (omega arith)
 
-  pub putFilled-root : headOf (putFilled s filled) .root ≡ headOf s .root
+  pub putPagesTaken-root : headOf (putPagesTaken s filled) .root ≡ headOf s .root
   unfolding headOf
-  putFilled-root = filled-write .above 6 (omega arith)
+  putPagesTaken-root = filled-write .above 6 (omega arith)
 
-  pub putFilled-levels : headOf (putFilled s filled) .levels ≡ headOf s .levels
+  pub putPagesTaken-levels : headOf (putPagesTaken s filled) .levels ≡ headOf s .levels
   unfolding headOf
-  putFilled-levels = filled-write .above 7 (omega arith)
+  putPagesTaken-levels = filled-write .above 7 (omega arith)
 
-  pub putFilled-sized : (f : Format) → Sized f s → Sized f (putFilled s filled)
-  putFilled-sized = sized-kept filled-write (omega arith) (inl (omega arith))
+  pub putPagesTaken-sized : (f : Format) → Sized f s → Sized f (putPagesTaken s filled)
+  putPagesTaken-sized = sized-kept filled-write (omega arith) (inl (omega arith))
 
-  pub putFilled-nodes : (x : ℕ) → nodeOf (putFilled s filled) x ≡ nodeOf s x
-  putFilled-nodes x = node-kept filled-write (omega arith) x (inr (omega (arith, node-start (headOf s) x)))
+  pub putPagesTaken-nodes : (x : ℕ) → nodeOf (putPagesTaken s filled) x ≡ nodeOf s x
+  putPagesTaken-nodes x = node-kept filled-write (omega arith) x (inr (omega (arith, node-start (headOf s) x)))
 
-  pub putFilled-pages : (f : Format) (p : ℕ) → pageOf f (putFilled s filled) p ≡ pageOf f s p
-  putFilled-pages f p = page-kept filled-write (omega arith) f p (inr (omega (arith, page-start (headOf s) f p)))
+  pub putPagesTaken-pages : (f : Format) (p : ℕ) → pageOf f (putPagesTaken s filled) p ≡ pageOf f s p
+  putPagesTaken-pages f p = page-kept filled-write (omega arith) f p (inr (omega (arith, page-start (headOf s) f p)))
 
-  putFilled-drop : (m : ℕ) → 8 ≤ m → drop m (putFilled s filled) ≡ drop m s
-  putFilled-drop m h = drop-beside 0 filled-write m (omega arith)
+  putPagesTaken-drop : (m : ℕ) → 8 ≤ m → drop m (putPagesTaken s filled) ≡ drop m s
+  putPagesTaken-drop m h = drop-beside 0 filled-write m (omega arith)
 
-  pub putFilled-beyond : (f : Format) → drop (sizeOf f s) (putFilled s filled) ≡ drop (sizeOf f s) s
-  putFilled-beyond f = putFilled-drop (sizeOf f s) (omega (arith, nodes-end (headOf s) f))
+  pub putPagesTaken-beyond : (f : Format) → drop (sizeOf f s) (putPagesTaken s filled) ≡ drop (sizeOf f s) s
+  putPagesTaken-beyond f = putPagesTaken-drop (sizeOf f s) (omega (arith, nodes-end (headOf s) f))

@@ -61,7 +61,7 @@ module _ (f : Format) (s : List ℕ) (S : List Item) (w : Holds f s S) where
   abbrev r : Rep f s (w .b0) (w .bs)
   r = w .rep
 
-  limits : Limits (h .theta) (h .capacity) (h .nodes) (h .pages)
+  limits : Limits (h .theta) (h .capacity) (h .nodeBlocks) (h .pageBlocks)
   limits = sizes-limits _ _ _ _ (r .sized .sizes)
 
   -- the shape of the levels' lowest is that of the tree
@@ -93,7 +93,7 @@ module _ (f : Format) (s : List ℕ) (S : List Item) (w : Holds f s S) where
   counts =
       let p = root-in (h .theta) (nodeAt s h) (h .root) (h .levels) (numbers (w .b0)) (w .bs) (r .directory .nodes) (r .directory .links) in
       let low : 1 ≤ h .root = label-low (w .bs) (h .root) (r .directory .positive) (p .0) in
-      let high : h .root ≤ h .taken = label-high (h .taken) (λ n. occs n (w .bs)) (h .root) (r .directory .oneForOne .none) (p .0) in
+      let high : h .root ≤ h .nodesTaken = label-high (h .nodesTaken) (λ n. occs n (w .bs)) (h .root) (r .directory .oneForOne .none) (p .0) in
       record {
         taken-low = omega arith;
         taken = r .nodes-fit;

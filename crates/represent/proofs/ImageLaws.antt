@@ -123,8 +123,8 @@ module _ (s : List ℕ) (a θ level back forward : ℕ) (v : Trie ℕ) (fits : a
           ∙ getD-zeros (2 * (2 ^ θ - 2 ^ height v)) j
 
 -- a node that shows a trie, in place: its words, and its links
-module _ (f : Format) (s : List ℕ) (h : Head) (n level : ℕ) (v : Trie ℕ) (low : 1 ≤ n) (high : n ≤ h .nodes)
-    (room : size f (h .theta) (h .capacity) (h .nodes) (h .pages) ≤ length s) (is : NodeIs (h .theta) (nodeAt s h n) level v) where
+module _ (f : Format) (s : List ℕ) (h : Head) (n level : ℕ) (v : Trie ℕ) (low : 1 ≤ n) (high : n ≤ h .nodeBlocks)
+    (room : size f (h .theta) (h .capacity) (h .nodeBlocks) (h .pageBlocks) ≤ length s) (is : NodeIs (h .theta) (nodeAt s h n) level v) where
   fits : nodeStart h n + nodeWords (h .theta) ≤ length s
   fits = node-fits h f n (length s) low high room
 

@@ -30,7 +30,7 @@ module _ (s : List ℕ) where
 
 -- no label occurs twice
 pub rep-once : (f : Format) (s : List ℕ) (b0 : Trie Stretch) (bs : List (Trie ℕ)) → Rep f s b0 bs → (n : ℕ) → occs n bs ≤ 1
-rep-once f s b0 bs r = one-numbered (headOf s .taken) bs (r .directory .oneForOne) (r .directory .positive) .once
+rep-once f s b0 bs r = one-numbered (headOf s .nodesTaken) bs (r .directory .oneForOne) (r .directory .positive) .once
 
 module _ (f : Format) (s : List ℕ) (b0 : Trie Stretch) (b : Trie ℕ) (bs : List (Trie ℕ)) (r : Rep f s b0 (b ∷ bs)) where
   abbrev h : Head
@@ -71,7 +71,7 @@ module _ (f : Format) (s : List ℕ) (b0 : Trie Stretch) (b : Trie ℕ) (bs : Li
         let o : 1 ≤ occ m b = omega (arith, ind-self m) in
         let w = level-1 m o in
         record {
-          taken = label-high (h .taken) (λ n. occs n (b ∷ bs)) m (r .directory .oneForOne .none) (omega arith);
+          taken = label-high (h .nodesTaken) (λ n. occs n (b ∷ bs)) m (r .directory .oneForOne .none) (omega arith);
           another = λ q. omega (arith, ind-self m, ind-eq m (leafAt b key) q, rep-once f s b0 (b ∷ bs) r m);
           level = rep-shown f s b0 (b ∷ bs) r m 1 (w .0) (omega arith) (w .1) .level-is;
           back = subst (Linked (backAt s) (forwardAt s) (leafAt b key)) e rep-after .0;

@@ -33,7 +33,7 @@ use Rattle.represent.specs.Insertion.{stretchAt, leftAt, prefixAt, nextB
 use Rattle.represent.specs.Frame.{pageOf}
 use Rattle.represent.proofs.Lengths.{length-pageImage}
 use Rattle.represent.proofs.Frame.{sized-long, putPage-head, putPage-sized, putPage-same, putPage-other}
-use Rattle.represent.proofs.Frame.{putFilled-sizes, putFilled-filled, putFilled-pages}
+use Rattle.represent.proofs.Frame.{putPagesTaken-sizes, putPagesTaken-is, putPagesTaken-pages}
 
 count-graft : (p : ℕ) (t : Trie Stretch) (k : Key) (c : Trie Stretch)
     → occ p (numbers (graft t k c)) + ind p (leafAt t k .0) ≡ occ p (numbers t) + occ p (numbers c)
@@ -73,11 +73,11 @@ module _ (f : Format) (s : List ℕ) (h : Head) (s′ : List ℕ) (h′ : Head) 
       → Lawful f s h x → Lawful f s′ h′ x
   lawful-frame x c e l = record { page = page-frame x c e (l .page); fits = rw c (l .fits); lawful = l .lawful; sorted = l .sorted }
 
-number-used : (f : Format) (s : List ℕ) (h : Head) (b0 : Trie Stretch) → Pages f s h b0 → (p : ℕ) → 1 ≤ occ p (numbers b0) → p ≤ h .filled
-number-used f s h b0 pg p o = label-high (h .filled) (λ p. occ p (numbers b0)) p (pg .oneForOne .none) o
+number-used : (f : Format) (s : List ℕ) (h : Head) (b0 : Trie Stretch) → Pages f s h b0 → (p : ℕ) → 1 ≤ occ p (numbers b0) → p ≤ h .pagesTaken
+number-used f s h b0 pg p o = label-high (h .pagesTaken) (λ p. occ p (numbers b0)) p (pg .oneForOne .none) o
 
-pub pages-frame : (f : Format) (s s′ : List ℕ) (h h′ : Head) (b0 : Trie Stretch) → h′ .capacity ≡ h .capacity → h′ .filled ≡ h .filled
-    → ((p : ℕ) → 1 ≤ p → p ≤ h .filled → pageAt f s′ h′ p ≡ pageAt f s h p) → Pages f s h b0 → Pages f s′ h′ b0
+pub pages-frame : (f : Format) (s s′ : List ℕ) (h h′ : Head) (b0 : Trie Stretch) → h′ .capacity ≡ h .capacity → h′ .pagesTaken ≡ h .pagesTaken
+    → ((p : ℕ) → 1 ≤ p → p ≤ h .pagesTaken → pageAt f s′ h′ p ≡ pageAt f s h p) → Pages f s h b0 → Pages f s′ h′ b0
 pages-frame f s s′ h h′ b0 c e kept pg =
     record {
       each =
@@ -129,7 +129,7 @@ module _ (f : Format) (s : List ℕ) (h : Head) (b0 : Trie Stretch) (key : ℕ) 
   pub lawful-at : Lawful f s h (stretchAt f b0 key)
   lawful-at = each-at (Lawful f s h) b0 (bits (width f) key) (pg .each)
 
-  pub number-high : stretchAt f b0 key .0 ≤ h .filled
+  pub number-high : stretchAt f b0 key .0 ≤ h .pagesTaken
   number-high =
       let k : Key = bits (width f) key in
       number-used f s h b0 pg (stretchAt f b0 key .0)
@@ -181,26 +181,26 @@ module _ (f : Format) (s : List ℕ) (h : Head) (b0 : Trie Stretch) (key : ℕ) 
   -- the page numbers with the stretches c at the key: none more, or the next one more
   module _ (c : Trie Stretch) where
     same-count : ((p : ℕ) → 1 ≤ p → occ p (numbers c) ≡ ind p (stretchAt f b0 key .0))
-        → OneForOne (h .filled) (λ p. occ p (numbers (replacedAt f b0 key c)))
+        → OneForOne (h .pagesTaken) (λ p. occ p (numbers (replacedAt f b0 key c)))
     same-count e =
         record {
           once = λ p low high. omega (arith, count-graft p b0 (bits (width f) key) c, e p low, pg .oneForOne .once p low high);
           none = λ p l. omega (arith, count-graft p b0 (bits (width f) key) c, e p (omega arith), pg .oneForOne .none p l);
         }
 
-    next-count : ((p : ℕ) → 1 ≤ p → occ p (numbers c) ≡ ind p (stretchAt f b0 key .0) + ind p (suc (h .filled)))
-        → OneForOne (suc (h .filled)) (λ p. occ p (numbers (replacedAt f b0 key c)))
+    next-count : ((p : ℕ) → 1 ≤ p → occ p (numbers c) ≡ ind p (stretchAt f b0 key .0) + ind p (suc (h .pagesTaken)))
+        → OneForOne (suc (h .pagesTaken)) (λ p. occ p (numbers (replacedAt f b0 key c)))
     next-count e = record { once = once; none = none }
       where
         m : ℕ
-        m = suc (h .filled)
+        m = suc (h .pagesTaken)
 
         count : (p : ℕ) → 1 ≤ p → occ p (numbers (replacedAt f b0 key c)) ≡ occ p (numbers b0) + ind p m
         count p low = omega (arith, count-graft p b0 (bits (width f) key) c, e p low)
 
         once : (p : ℕ) → 1 ≤ p → p ≤ m → occ p (numbers (replacedAt f b0 key c)) ≡ 1
         once p low high =
-            elim (decLe p (h .filled)) [
+            elim (decLe p (h .pagesTaken)) [
               | yes l ↦ omega (arith, count p low, ind-other p m (λ i. omega arith), pg .oneForOne .once p low l)
               | no l ↦ omega (arith, count p low, ind-eq p m (omega arith), pg .oneForOne .none p (omega arith))
             ]
@@ -210,14 +210,14 @@ module _ (f : Format) (s : List ℕ) (h : Head) (b0 : Trie Stretch) (key : ℕ) 
 
   -- new words, in which the other pages are as they were
   module _ (s′ : List ℕ) (h′ : Head) (capacity : h′ .capacity ≡ h .capacity)
-      (kept : (p : ℕ) → 1 ≤ p → p ≤ h .filled → (p ≡ stretchAt f b0 key .0 → ⊥) → pageAt f s′ h′ p ≡ pageAt f s h p) where
+      (kept : (p : ℕ) → 1 ≤ p → p ≤ h .pagesTaken → (p ≡ stretchAt f b0 key .0 → ⊥) → pageAt f s′ h′ p ≡ pageAt f s h p) where
     beside : (x : Stretch) → ind (x .0) (stretchAt f b0 key .0) < occ (x .0) (numbers b0) → 1 ≤ x .0 → pageAt f s′ h′ (x .0) ≡ pageAt f s h (x .0)
     beside x o low =
-        let l : x .0 ≤ h .filled = number-used f s h b0 pg (x .0) (omega arith) in
+        let l : x .0 ≤ h .pagesTaken = number-used f s h b0 pg (x .0) (omega arith) in
         kept (x .0) low l (λ e. omega (arith, ind-eq (x .0) (stretchAt f b0 key .0) e, pg .oneForOne .once (x .0) low l))
 
     pages-graft : (c : Trie Stretch) (m : ℕ) → Each (Lawful f s′ h′) c → Keyed (leftAt f b0 key) (prefixAt f b0 key) c
-        → h′ .filled ≡ m → OneForOne m (λ p. occ p (numbers (replacedAt f b0 key c))) → Pages f s′ h′ (replacedAt f b0 key c)
+        → h′ .pagesTaken ≡ m → OneForOne m (λ p. occ p (numbers (replacedAt f b0 key c))) → Pages f s′ h′ (replacedAt f b0 key c)
     pages-graft c m each place e counted =
         let k : Key = bits (width f) key in
         record {
@@ -231,35 +231,35 @@ module _ (f : Format) (s : List ℕ) (h : Head) (b0 : Trie Stretch) (key : ℕ) 
 
     -- The place takes the records rs, in its own page, or where it has none in the next page.
     put-any : (rs : List Item) → 1 ≤ stretchAt f b0 key .0 → Fit f (h .capacity) (leftAt f b0 key) (prefixAt f b0 key) rs
-        → h′ .filled ≡ h .filled → pageAt f s′ h′ (stretchAt f b0 key .0) ≡ pageImage f (h .capacity) rs
+        → h′ .pagesTaken ≡ h .pagesTaken → pageAt f s′ h′ (stretchAt f b0 key .0) ≡ pageImage f (h .capacity) rs
         → Pages f s′ h′ (replacedAt f b0 key (leaf (stretchAt f b0 key .0, rs)))
     put-any rs low fit filled e =
         let n : ℕ = stretchAt f b0 key .0 in
-        pages-graft (leaf (n, rs)) (h .filled) (lawful-page f s′ h′ (h .capacity) n (leftAt f b0 key) (prefixAt f b0 key) rs capacity fit low e)
+        pages-graft (leaf (n, rs)) (h .pagesTaken) (lawful-page f s′ h′ (h .capacity) n (leftAt f b0 key) (prefixAt f b0 key) rs capacity fit low e)
         (fit .prefix) filled (same-count (leaf (n, rs)) (λ p q. refl))
 
     take-any : (rs : List Item) → stretchAt f b0 key .0 ≡ 0 → Fit f (h .capacity) (leftAt f b0 key) (prefixAt f b0 key) rs
-        → h′ .filled ≡ suc (h .filled) → pageAt f s′ h′ (suc (h .filled)) ≡ pageImage f (h .capacity) rs
-        → Pages f s′ h′ (replacedAt f b0 key (leaf (suc (h .filled), rs)))
+        → h′ .pagesTaken ≡ suc (h .pagesTaken) → pageAt f s′ h′ (suc (h .pagesTaken)) ≡ pageImage f (h .capacity) rs
+        → Pages f s′ h′ (replacedAt f b0 key (leaf (suc (h .pagesTaken), rs)))
     take-any rs null fit filled e =
-        let m : ℕ = suc (h .filled) in
+        let m : ℕ = suc (h .pagesTaken) in
         pages-graft (leaf (m, rs)) m (lawful-page f s′ h′ (h .capacity) m (leftAt f b0 key) (prefixAt f b0 key) rs capacity fit (omega arith) e)
         (fit .prefix) filled (next-count (leaf (m, rs)) (λ p q. omega (arith, ind-other p (stretchAt f b0 key .0) (λ i. omega arith))))
 
     -- neither half is empty: the lower keeps the page, and the upper takes the next one
     both-any : depth b0 (bits (width f) key) < width f → 1 ≤ stretchAt f b0 key .0
-        → 1 ≤ length (halfAt false f b0 key) → 1 ≤ length (halfAt true f b0 key) → h′ .filled ≡ suc (h .filled)
+        → 1 ≤ length (halfAt false f b0 key) → 1 ≤ length (halfAt true f b0 key) → h′ .pagesTaken ≡ suc (h .pagesTaken)
         → pageAt f s′ h′ (stretchAt f b0 key .0) ≡ pageImage f (h .capacity) (halfAt false f b0 key)
-        → pageAt f s′ h′ (suc (h .filled)) ≡ pageImage f (h .capacity) (halfAt true f b0 key)
-        → Pages f s′ h′ (replacedAt f b0 key (pair (stretchAt f b0 key .0, halfAt false f b0 key) (suc (h .filled), halfAt true f b0 key)))
+        → pageAt f s′ h′ (suc (h .pagesTaken)) ≡ pageImage f (h .capacity) (halfAt true f b0 key)
+        → Pages f s′ h′ (replacedAt f b0 key (pair (stretchAt f b0 key .0, halfAt false f b0 key) (suc (h .pagesTaken), halfAt true f b0 key)))
     both-any deep low some₀ some₁ filled e₀ e₁ =
         let w : ℕ = nextBit f b0 key in
         let q : ℕ = key / 2 ^ suc w in
         let x : Stretch = (stretchAt f b0 key .0, halfAt false f b0 key) in
-        let y : Stretch = (suc (h .filled), halfAt true f b0 key) in
+        let y : Stretch = (suc (h .pagesTaken), halfAt true f b0 key) in
         let lower = half-fit false w (2 * q) some₀ (low-prefix deep) in
         let upper = half-fit true w (2 * q + 1) some₁ (high-prefix deep) in
-        pages-graft (pair x y) (suc (h .filled)) (
+        pages-graft (pair x y) (suc (h .pagesTaken)) (
           lawful-page f s′ h′ (h .capacity) (x .0) w (2 * q) (x .1) capacity lower low e₀,
           lawful-page f s′ h′ (h .capacity) (y .0) w (2 * q + 1) (y .1) capacity upper (omega arith) e₁,
         )
@@ -272,7 +272,7 @@ module _ (f : Format) (s : List ℕ) (h : Head) (b0 : Trie Stretch) (key : ℕ) 
       let x : Stretch = stretchAt f b0 key in
       let w : ℕ = nextBit f b0 key in
       let all : halfAt true f b0 key ≡ x .1 = side-whole keyOf true w (x .1) (omega (arith, length-sides keyOf w (x .1), ap length e)) in
-      pages-graft s h refl (λ p a b c. refl) (pair (0, []) x) (h .filled) (lawful-none f s h, lawful-at)
+      pages-graft s h refl (λ p a b c. refl) (pair (0, []) x) (h .pagesTaken) (lawful-none f s h, lawful-at)
       (halves-keyed deep (0, []) x (sym e) (sym all)) refl
       (same-count (pair (0, []) x) (λ p low. omega (arith, ind-other p 0 (λ i. omega arith))))
 
@@ -282,14 +282,14 @@ module _ (f : Format) (s : List ℕ) (h : Head) (b0 : Trie Stretch) (key : ℕ) 
       let x : Stretch = stretchAt f b0 key in
       let w : ℕ = nextBit f b0 key in
       let all : halfAt false f b0 key ≡ x .1 = side-whole keyOf false w (x .1) (omega (arith, length-sides keyOf w (x .1), ap length e)) in
-      pages-graft s h refl (λ p a b c. refl) (pair x (0, [])) (h .filled) (lawful-at, lawful-none f s h)
+      pages-graft s h refl (λ p a b c. refl) (pair x (0, [])) (h .pagesTaken) (lawful-at, lawful-none f s h)
       (halves-keyed deep x (0, []) (sym all) (sym e)) refl
       (same-count (pair x (0, [])) (λ p low. omega (arith, ind-other p 0 (λ i. omega arith))))
 
 abbrev pub PagesOf : Format → List ℕ → Trie Stretch → Type 0
 PagesOf f s b0 = Pages f s (headOf s) b0
 
-module _ (f : Format) (C : ℕ) (s : List ℕ) (p : ℕ) (rs : List Item) (ok : Sized f s) (low : 1 ≤ p) (high : p ≤ headOf s .pages)
+module _ (f : Format) (C : ℕ) (s : List ℕ) (p : ℕ) (rs : List Item) (ok : Sized f s) (low : 1 ≤ p) (high : p ≤ headOf s .pageBlocks)
     (full : headOf s .capacity ≡ C) (fits : length rs ≤ C) where
   pub put-head : headOf (putItems f C s p rs) ≡ headOf s
   put-head = putPage-head f s p (pageImage f C rs) (omega (arith, sized-long f s ok))
@@ -307,53 +307,53 @@ module _ (f : Format) (C : ℕ) (s : List ℕ) (p : ℕ) (rs : List Item) (ok : 
   put-other = putPage-other f s p (pageImage f C rs) ok low high put-length
 
   take-capacity : headOf (takeItems f C s p rs) .capacity ≡ headOf s .capacity
-  take-capacity = putFilled-sizes (putItems f C s p rs) p .capacity ∙ ap (λ (h : Head). h .capacity) put-head
+  take-capacity = putPagesTaken-sizes (putItems f C s p rs) p .capacity ∙ ap (λ (h : Head). h .capacity) put-head
 
-  pub take-filled : headOf (takeItems f C s p rs) .filled ≡ p
-  take-filled = putFilled-filled (putItems f C s p rs) p (omega (arith, sized-long f (putItems f C s p rs) put-sized))
+  pub take-pagesTaken : headOf (takeItems f C s p rs) .pagesTaken ≡ p
+  take-pagesTaken = putPagesTaken-is (putItems f C s p rs) p (omega (arith, sized-long f (putItems f C s p rs) put-sized))
 
   pub take-same : pageOf f (takeItems f C s p rs) p ≡ pageImage f C rs
-  take-same = putFilled-pages (putItems f C s p rs) p f p ∙ put-same
+  take-same = putPagesTaken-pages (putItems f C s p rs) p f p ∙ put-same
 
   pub take-other : (x : ℕ) → 1 ≤ x → (x ≡ p → ⊥) → pageOf f (takeItems f C s p rs) x ≡ pageOf f s x
-  take-other x q ne = putFilled-pages (putItems f C s p rs) p f x ∙ put-other x q ne
+  take-other x q ne = putPagesTaken-pages (putItems f C s p rs) p f x ∙ put-other x q ne
 
 module _ (f : Format) (s : List ℕ) (b0 : Trie Stretch) (key : ℕ) (ok : Sized f s) (pg : PagesOf f s b0) (inside : key < 2 ^ width f) where
-  pub pages-put : (rs : List Item) → headOf s .filled ≤ headOf s .pages → 1 ≤ stretchAt f b0 key .0
+  pub pages-put : (rs : List Item) → headOf s .pagesTaken ≤ headOf s .pageBlocks → 1 ≤ stretchAt f b0 key .0
       → Fit f (headOf s .capacity) (leftAt f b0 key) (prefixAt f b0 key) rs
       → PagesOf f (putItems f (headOf s .capacity) s (stretchAt f b0 key .0) rs) (replacedAt f b0 key (leaf (stretchAt f b0 key .0, rs)))
   pages-put rs room low fit =
       let n : ℕ = stretchAt f b0 key .0 in
       let C : ℕ = headOf s .capacity in
       let s′ : List ℕ = putItems f C s n rs in
-      let high : n ≤ headOf s .pages = omega (arith, number-high f s (headOf s) b0 key pg inside) in
+      let high : n ≤ headOf s .pageBlocks = omega (arith, number-high f s (headOf s) b0 key pg inside) in
       let head : headOf s′ ≡ headOf s = put-head f C s n rs ok low high refl (fit .fits) in
       put-any f s (headOf s) b0 key pg inside s′ (headOf s′) (ap (λ (h : Head). h .capacity) head)
-      (λ p a b c. put-other f C s n rs ok low high refl (fit .fits) p a c) rs low fit (ap (λ (h : Head). h .filled) head)
+      (λ p a b c. put-other f C s n rs ok low high refl (fit .fits) p a c) rs low fit (ap (λ (h : Head). h .pagesTaken) head)
       (put-same f C s n rs ok low high refl (fit .fits))
 
-  pub pages-take : (rs : List Item) → suc (headOf s .filled) ≤ headOf s .pages → stretchAt f b0 key .0 ≡ 0
+  pub pages-take : (rs : List Item) → suc (headOf s .pagesTaken) ≤ headOf s .pageBlocks → stretchAt f b0 key .0 ≡ 0
       → Fit f (headOf s .capacity) (leftAt f b0 key) (prefixAt f b0 key) rs
-      → PagesOf f (takeItems f (headOf s .capacity) s (suc (headOf s .filled)) rs) (replacedAt f b0 key (leaf (suc (headOf s .filled), rs)))
+      → PagesOf f (takeItems f (headOf s .capacity) s (suc (headOf s .pagesTaken)) rs) (replacedAt f b0 key (leaf (suc (headOf s .pagesTaken), rs)))
   pages-take rs room null fit =
-      let m : ℕ = suc (headOf s .filled) in
+      let m : ℕ = suc (headOf s .pagesTaken) in
       let C : ℕ = headOf s .capacity in
       let s′ : List ℕ = takeItems f C s m rs in
       let low : 1 ≤ m = omega arith in
       take-any f s (headOf s) b0 key pg inside s′ (headOf s′) (take-capacity f C s m rs ok low room refl (fit .fits))
       (λ p a b c. take-other f C s m rs ok low room refl (fit .fits) p a (λ e. omega arith)) rs null fit
-      (take-filled f C s m rs ok low room refl (fit .fits)) (take-same f C s m rs ok low room refl (fit .fits))
+      (take-pagesTaken f C s m rs ok low room refl (fit .fits)) (take-same f C s m rs ok low room refl (fit .fits))
 
-  pub pages-both : depth b0 (bits (width f) key) < width f → suc (headOf s .filled) ≤ headOf s .pages
+  pub pages-both : depth b0 (bits (width f) key) < width f → suc (headOf s .pagesTaken) ≤ headOf s .pageBlocks
       → 1 ≤ length (halfAt false f b0 key) → 1 ≤ length (halfAt true f b0 key)
       → PagesOf f
       (takeItems f (headOf s .capacity) (putItems f (headOf s .capacity) s (stretchAt f b0 key .0) (halfAt false f b0 key))
-      (suc (headOf s .filled)) (halfAt true f b0 key))
-      (replacedAt f b0 key (pair (stretchAt f b0 key .0, halfAt false f b0 key) (suc (headOf s .filled), halfAt true f b0 key)))
+      (suc (headOf s .pagesTaken)) (halfAt true f b0 key))
+      (replacedAt f b0 key (pair (stretchAt f b0 key .0, halfAt false f b0 key) (suc (headOf s .pagesTaken), halfAt true f b0 key)))
   pages-both deep room some₀ some₁ =
       both-any f s (headOf s) b0 key pg inside s′ (headOf s′) (take-capacity f C s₁ m o ok₁ low₁ high₁ full fits₁ ∙ full)
       (λ p a b c. take-other f C s₁ m o ok₁ low₁ high₁ full fits₁ p a (λ e. omega arith) ∙ put-other f C s n z ok low high refl fits p a c)
-      deep low some₀ some₁ (take-filled f C s₁ m o ok₁ low₁ high₁ full fits₁)
+      deep low some₀ some₁ (take-pagesTaken f C s₁ m o ok₁ low₁ high₁ full fits₁)
       (take-other f C s₁ m o ok₁ low₁ high₁ full fits₁ n low (λ e. omega (arith, known)) ∙ put-same f C s n z ok low high refl fits)
       (take-same f C s₁ m o ok₁ low₁ high₁ full fits₁)
     where
@@ -361,7 +361,7 @@ module _ (f : Format) (s : List ℕ) (b0 : Trie Stretch) (key : ℕ) (ok : Sized
       n = stretchAt f b0 key .0
 
       m : ℕ
-      m = suc (headOf s .filled)
+      m = suc (headOf s .pagesTaken)
 
       C : ℕ
       C = headOf s .capacity
@@ -381,10 +381,10 @@ module _ (f : Format) (s : List ℕ) (b0 : Trie Stretch) (key : ℕ) (ok : Sized
       low : 1 ≤ n
       low = own-low f s (headOf s) b0 key pg inside false some₀
 
-      known : n ≤ headOf s .filled
+      known : n ≤ headOf s .pagesTaken
       known = number-high f s (headOf s) b0 key pg inside
 
-      high : n ≤ headOf s .pages
+      high : n ≤ headOf s .pageBlocks
       high = omega (arith, known)
 
       fits : length z ≤ C
@@ -399,7 +399,7 @@ module _ (f : Format) (s : List ℕ) (b0 : Trie Stretch) (key : ℕ) (ok : Sized
       low₁ : 1 ≤ m
       low₁ = omega arith
 
-      high₁ : m ≤ headOf s₁ .pages
+      high₁ : m ≤ headOf s₁ .pageBlocks
       high₁ = rw head room
 
       full : headOf s₁ .capacity ≡ C

@@ -84,8 +84,8 @@ module _ (f : Format) (s : List ℕ) (b0 : Trie Stretch) (all : List (Trie ℕ))
   node = nodeAt s h
 
   -- a label of the levels is the number of a taken node
-  taken : (n : ℕ) → 1 ≤ occs n all → (1 ≤ n) × (n ≤ h .taken)
-  taken n o = (label-low all n (r .directory .positive) o, label-high (h .taken) (λ x. occs x all) n (r .directory .oneForOne .none) o)
+  taken : (n : ℕ) → 1 ≤ occs n all → (1 ≤ n) × (n ≤ h .nodesTaken)
+  taken n o = (label-low all n (r .directory .positive) o, label-high (h .nodesTaken) (λ x. occs x all) n (r .directory .oneForOne .none) o)
 
   rule-at : (n level : ℕ) (v : Trie ℕ) → 1 ≤ occs n all → NodeIs (h .theta) (node n) level v
       → ((x : ℕ) → 1 ≤ occ x v → (pointerLow level ≤ x) × (x ≤ pointerHigh h level))
@@ -114,13 +114,13 @@ module _ (f : Format) (s : List ℕ) (b0 : Trie Stretch) (all : List (Trie ℕ))
 module _ (f : Format) (s : List ℕ) (b0 : Trie Stretch) (b : Trie ℕ) (bs : List (Trie ℕ)) (r : Rep f s b0 (b ∷ bs)) where
   abbrev LinksTaken : ℕ → Type 0
   LinksTaken n =
-      (backOf (nodeAt s (headOf s)) n ≤ headOf s .taken) × (forwardOf (nodeAt s (headOf s)) n ≤ headOf s .taken)
+      (backOf (nodeAt s (headOf s)) n ≤ headOf s .nodesTaken) × (forwardOf (nodeAt s (headOf s)) n ≤ headOf s .nodesTaken)
 
   links-taken : Each LinksTaken b
   links-taken =
-      let below : Each (λ n. n ≤ headOf s .taken) b = each-of _ b (λ n o. taken f s b0 (b ∷ bs) r n (omega arith) .1) in
+      let below : Each (λ n. n ≤ headOf s .nodesTaken) b = each-of _ b (λ n o. taken f s b0 (b ∷ bs) r n (omega arith) .1) in
       labels-each LinksTaken b
-      (linked-all _ _ (λ n. n ≤ headOf s .taken) 0 (labels b) (omega arith) (omega arith) (each-labels (λ n. n ≤ headOf s .taken) b below) (r .directory .links .0))
+      (linked-all _ _ (λ n. n ≤ headOf s .nodesTaken) 0 (labels b) (omega arith) (omega arith) (each-labels (λ n. n ≤ headOf s .nodesTaken) b below) (r .directory .links .0))
 
   lowest : Each (λ n. nodeRule (headOf s) s (nodeStart (headOf s) n) 1 ≡ true) b
   lowest =
@@ -128,10 +128,10 @@ module _ (f : Format) (s : List ℕ) (b0 : Trie Stretch) (b : Trie ℕ) (bs : Li
       (λ n v o j is.
       rule-at f s b0 (b ∷ bs) r n 1 v (omega arith) is
       (λ x q.
-      let t = label-high (headOf s .filled) (λ p. occ p (numbers b0)) x (r .pages .oneForOne .none) (omega (arith, j x)) in
+      let t = label-high (headOf s .pagesTaken) (λ p. occ p (numbers b0)) x (r .pages .oneForOne .none) (omega (arith, j x)) in
       (omega (arith, low-1 1 refl), omega (arith, high-1 (headOf s) 1 refl, t)))
       (let l = each-label LinksTaken b n links-taken o in
-      sym (link-1 (headOf s) 1 _ _ true true refl (sym (le-leb _ (headOf s .taken) (l .0))) (sym (le-leb _ (headOf s .taken) (l .1))))))
+      sym (link-1 (headOf s) 1 _ _ true true refl (sym (le-leb _ (headOf s .nodesTaken) (l .0))) (sym (le-leb _ (headOf s .nodesTaken) (l .1))))))
       (r .directory .nodes .0)
 
 pub nodes-pass : NodesPass

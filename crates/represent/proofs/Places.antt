@@ -27,9 +27,9 @@ module _ (h : Head) where
   unfolding nodeStart
   node-start n = omega arith
 
-  pub node-end : (n : ℕ) → 1 ≤ n → n ≤ h .nodes → nodeStart h n + nodeWords (h .theta) ≤ 16 + h .nodes * nodeWords (h .theta)
+  pub node-end : (n : ℕ) → 1 ≤ n → n ≤ h .nodeBlocks → nodeStart h n + nodeWords (h .theta) ≤ 16 + h .nodeBlocks * nodeWords (h .theta)
   unfolding nodeStart
-  node-end n low high = omega (arith, stride (n - 1) (h .nodes) (nodeWords (h .theta)) (omega arith))
+  node-end n low high = omega (arith, stride (n - 1) (h .nodeBlocks) (nodeWords (h .theta)) (omega arith))
 
   pub nodes-apart : (x n : ℕ) → 1 ≤ x → 1 ≤ n → (x ≡ n → ⊥)
       → (nodeStart h x + nodeWords (h .theta) ≤ nodeStart h n) ⊎ (nodeStart h n + nodeWords (h .theta) ≤ nodeStart h x)
@@ -37,23 +37,23 @@ module _ (h : Head) where
   nodes-apart = blocks-apart 16 (nodeWords (h .theta))
 
   module _ (f : Format) where
-    pub nodes-end : 16 + h .nodes * nodeWords (h .theta) ≤ size f (h .theta) (h .capacity) (h .nodes) (h .pages)
+    pub nodes-end : 16 + h .nodeBlocks * nodeWords (h .theta) ≤ size f (h .theta) (h .capacity) (h .nodeBlocks) (h .pageBlocks)
     unfolding size
     nodes-end = omega arith
 
-    pub page-start : (p : ℕ) → 16 + h .nodes * nodeWords (h .theta) ≤ pageStart f h p
+    pub page-start : (p : ℕ) → 16 + h .nodeBlocks * nodeWords (h .theta) ≤ pageStart f h p
     unfolding pageStart
     page-start p = omega arith
 
-    pub page-end : (p : ℕ) → 1 ≤ p → p ≤ h .pages → pageStart f h p + pageWords f (h .capacity) ≤ size f (h .theta) (h .capacity) (h .nodes) (h .pages)
+    pub page-end : (p : ℕ) → 1 ≤ p → p ≤ h .pageBlocks → pageStart f h p + pageWords f (h .capacity) ≤ size f (h .theta) (h .capacity) (h .nodeBlocks) (h .pageBlocks)
     unfolding pageStart size
-    page-end p low high = omega (arith, stride (p - 1) (h .pages) (pageWords f (h .capacity)) (omega arith))
+    page-end p low high = omega (arith, stride (p - 1) (h .pageBlocks) (pageWords f (h .capacity)) (omega arith))
 
     pub pages-apart : (x p : ℕ) → 1 ≤ x → 1 ≤ p → (x ≡ p → ⊥)
         → (pageStart f h x + pageWords f (h .capacity) ≤ pageStart f h p) ⊎ (pageStart f h p + pageWords f (h .capacity) ≤ pageStart f h x)
     unfolding pageStart
-    pages-apart = blocks-apart (16 + h .nodes * nodeWords (h .theta)) (pageWords f (h .capacity))
+    pages-apart = blocks-apart (16 + h .nodeBlocks * nodeWords (h .theta)) (pageWords f (h .capacity))
 
     -- a node block lies in a store that is long enough
-    pub node-fits : (n L : ℕ) → 1 ≤ n → n ≤ h .nodes → size f (h .theta) (h .capacity) (h .nodes) (h .pages) ≤ L → nodeStart h n + nodeWords (h .theta) ≤ L
+    pub node-fits : (n L : ℕ) → 1 ≤ n → n ≤ h .nodeBlocks → size f (h .theta) (h .capacity) (h .nodeBlocks) (h .pageBlocks) ≤ L → nodeStart h n + nodeWords (h .theta) ≤ L
     node-fits n L low high room = omega (arith, node-end n low high, nodes-end)

@@ -19,8 +19,8 @@ module _ (f : Format) (s : List ℕ) (b0 : Trie Stretch) (bs : List (Trie ℕ)) 
   low : 1 ≤ n
   low = label-low bs n (r .directory .positive) o
 
-  high : n ≤ headOf s .nodes
-  high = omega (arith, label-high (headOf s .taken) (λ x. occs x bs) n (r .directory .oneForOne .none) o, r .nodes-fit)
+  high : n ≤ headOf s .nodeBlocks
+  high = omega (arith, label-high (headOf s .nodesTaken) (λ x. occs x bs) n (r .directory .oneForOne .none) o, r .nodes-fit)
 
   pub rep-shown : Shown s (nodeStart (headOf s) n) (headOf s .theta) level v
   rep-shown = node-shown f s (headOf s) n level v low high (r .sized .long) is

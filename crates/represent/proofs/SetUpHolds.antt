@@ -52,7 +52,7 @@ module _ (f : Format) (θ C N P : ℕ) (z : List ℕ) (law : lawfulSizes θ C N 
   s = setUpWords f θ C N P ++ z
 
   abbrev h : Head
-  h = record { theta = θ; capacity = C; nodes = N; pages = P; taken = 1; filled = 0; root = 1; levels = 1 }
+  h = record { theta = θ; capacity = C; nodeBlocks = N; pageBlocks = P; nodesTaken = 1; pagesTaken = 0; root = 1; levels = 1 }
 
   limits : Limits θ C N P
   limits = sizes-limits θ C N P law

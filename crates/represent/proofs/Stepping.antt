@@ -22,20 +22,20 @@ use Rattle.represent.specs.Labelled.{occs}
 use Rattle.represent.specs.Image.{pageImage}
 use Rattle.represent.specs.Rep.{Stretch, numbers, Directory, Pages, Rep, sizeOf, Sized}
 use Rattle.represent.specs.Round.{NodeOps, StoreOps, Rounded, pathOf, round, carried}
-use Rattle.represent.specs.Frame.{nodeOf, pageOf, putFilled}
+use Rattle.represent.specs.Frame.{nodeOf, pageOf, putPagesTaken}
 use Rattle.represent.specs.Insertion.{SameSizes, Ok, wordStore, stretchAt, leftAt, prefixAt, halfAt, replacedAt, Fit, putItems, takeItems, Stepped, Roomy, UpperKeeps, LowerKeeps, BothKeep, PutKeeps, TakeKeeps}
 use Rattle.represent.proofs.LabelLaws.{label-low, label-high, leafAt-relabel, relabel-graft}
 use Rattle.represent.proofs.Level.{moved-links, nodes-frame, links-frame}
 use Rattle.represent.proofs.Frame.{putPage-nodes, putPage-beyond}
-use Rattle.represent.proofs.Frame.{putFilled-sizes, putFilled-root, putFilled-levels, putFilled-taken, putFilled-sized, putFilled-nodes, putFilled-beyond}
-use Rattle.represent.proofs.WordStore.{others-sizes, others-filled, others-pages, others-beyond, store-laws}
-use Rattle.represent.proofs.PageLaws.{number-high, half-fits, own-low, put-head, put-length, put-sized, put-other, take-filled, take-other, pages-frame, pages-upper, pages-lower, pages-both, pages-put, pages-take}
+use Rattle.represent.proofs.Frame.{putPagesTaken-sizes, putPagesTaken-root, putPagesTaken-levels, putPagesTaken-taken, putPagesTaken-sized, putPagesTaken-nodes, putPagesTaken-beyond}
+use Rattle.represent.proofs.WordStore.{others-sizes, others-pagesTaken, others-pages, others-beyond, store-laws}
+use Rattle.represent.proofs.PageLaws.{number-high, half-fits, own-low, put-head, put-length, put-sized, put-other, take-pagesTaken, take-other, pages-frame, pages-upper, pages-lower, pages-both, pages-put, pages-take}
 use Rattle.represent.proofs.RoundLaws.{round-carries, aim-keeps}
 
 -- a directory goes by the node blocks in use alone
 directory-frame : (θ : ℕ) (node node′ : ℕ → List ℕ) (h h′ : Head) (u : Trie ℕ) (bs : List (Trie ℕ))
-    → h′ .root ≡ h .root → h′ .levels ≡ h .levels → h′ .taken ≡ h .taken → ((n : ℕ) → 1 ≤ n → n ≤ h .taken → node′ n ≡ node n)
-    → Directory θ node (h .root) (h .levels) (h .taken) u bs → Directory θ node′ (h′ .root) (h′ .levels) (h′ .taken) u bs
+    → h′ .root ≡ h .root → h′ .levels ≡ h .levels → h′ .nodesTaken ≡ h .nodesTaken → ((n : ℕ) → 1 ≤ n → n ≤ h .nodesTaken → node′ n ≡ node n)
+    → Directory θ node (h .root) (h .levels) (h .nodesTaken) u bs → Directory θ node′ (h′ .root) (h′ .levels) (h′ .nodesTaken) u bs
 directory-frame θ node node′ h h′ u [] r l t e d = absurd (d .links)
 directory-frame θ node node′ h h′ u (b ∷ bs) r l t e d =
     record {
@@ -47,22 +47,22 @@ directory-frame θ node node′ h h′ u (b ∷ bs) r l t e d =
     }
   where
     same : (n : ℕ) → 1 ≤ occs n (b ∷ bs) → node′ n ≡ node n
-    same n o = e n (label-low (b ∷ bs) n (d .positive) o) (label-high (h .taken) (λ x. occs x (b ∷ bs)) n (d .oneForOne .none) o)
+    same n o = e n (label-low (b ∷ bs) n (d .positive) o) (label-high (h .nodesTaken) (λ x. occs x (b ∷ bs)) n (d .oneForOne .none) o)
 
 record NodesKept (f : Format) (s s′ : List ℕ) : Type 0 where
   sized : Sized f s′
   sizes-same : SameSizes (headOf s) (headOf s′)
   root-same : headOf s′ .root ≡ headOf s .root
   levels-same : headOf s′ .levels ≡ headOf s .levels
-  taken-same : headOf s′ .taken ≡ headOf s .taken
-  nodes-same : (n : ℕ) → 1 ≤ n → n ≤ headOf s .nodes → nodeOf s′ n ≡ nodeOf s n
+  taken-same : headOf s′ .nodesTaken ≡ headOf s .nodesTaken
+  nodes-same : (n : ℕ) → 1 ≤ n → n ≤ headOf s .nodeBlocks → nodeOf s′ n ≡ nodeOf s n
   beyond : drop (sizeOf f s) s′ ≡ drop (sizeOf f s) s
 
 record PageStep (f : Format) (s s′ : List ℕ) (b0 : Trie Stretch) : Type 0 where
   kept : NodesKept f s s′
   pages : Pages f s′ (headOf s′) b0
-  pages-fit : headOf s′ .filled ≤ headOf s′ .pages
-  free-pages : (p : ℕ) → headOf s′ .filled < p → p ≤ headOf s′ .pages → pageOf f s′ p ≡ replicate (pageWords f (headOf s′ .capacity)) 0
+  pages-fit : headOf s′ .pagesTaken ≤ headOf s′ .pageBlocks
+  free-pages : (p : ℕ) → headOf s′ .pagesTaken < p → p ≤ headOf s′ .pageBlocks → pageOf f s′ p ≡ replicate (pageWords f (headOf s′ .capacity)) 0
 
 pub size-same : (f : Format) (s s′ : List ℕ) → SameSizes (headOf s) (headOf s′) → sizeOf f s′ ≡ sizeOf f s
 size-same f s s′ e = rw (e .theta, e .capacity, e .nodes, e .pages)
@@ -74,26 +74,26 @@ module _ (f : Format) (s : List ℕ) (b0 b0′ : Trie Stretch) (bs : List (Trie 
   step-ok : Ok f θ s₁
   step-ok = record { theta = p .kept .sizes-same .theta; sized = p .kept .sized }
 
-  step-directory : Directory θ (nodeOf s₁) (headOf s₁ .root) (headOf s₁ .levels) (headOf s₁ .taken) (numbers b0) bs
+  step-directory : Directory θ (nodeOf s₁) (headOf s₁ .root) (headOf s₁ .levels) (headOf s₁ .nodesTaken) (numbers b0) bs
   step-directory =
       directory-frame θ (nodeOf s) (nodeOf s₁) (headOf s) (headOf s₁) (numbers b0) bs (p .kept .root-same) (p .kept .levels-same) (p .kept .taken-same)
       (λ n low high. p .kept .nodes-same n low (omega (arith, r .nodes-fit))) (r .directory)
 
   -- the page step, then a change of nodes
-  module _ (s₂ : List ℕ) (more : ℕ) (bs′ : List (Trie ℕ)) (w : Rounded θ (wordStore f θ) s₁ s₂ more (numbers b0′) bs′) (room : headOf s .taken + more ≤ headOf s .nodes) where
+  module _ (s₂ : List ℕ) (more : ℕ) (bs′ : List (Trie ℕ)) (w : Rounded θ (wordStore f θ) s₁ s₂ more (numbers b0′) bs′) (room : headOf s .nodesTaken + more ≤ headOf s .nodeBlocks) where
     sizes-now : SameSizes (headOf s₁) (headOf s₂)
     sizes-now = others-sizes s₁ s₂ (w .changed .others-same)
 
-    filled-now : headOf s₂ .filled ≡ headOf s₁ .filled
-    filled-now = others-filled s₁ s₂ (w .changed .others-same)
+    filled-now : headOf s₂ .pagesTaken ≡ headOf s₁ .pagesTaken
+    filled-now = others-pagesTaken s₁ s₂ (w .changed .others-same)
 
     page-now : (x : ℕ) → pageOf f s₂ x ≡ pageOf f s₁ x
     page-now x = others-pages f s₁ s₂ x (w .changed .others-same)
 
     -- a node block that no level has
-    free-now : (n : ℕ) → headOf s₂ .taken < n → n ≤ headOf s₂ .nodes → nodeOf s₂ n ≡ replicate (nodeWords (headOf s₂ .theta)) 0
+    free-now : (n : ℕ) → headOf s₂ .nodesTaken < n → n ≤ headOf s₂ .nodeBlocks → nodeOf s₂ n ≡ replicate (nodeWords (headOf s₂ .theta)) 0
     free-now n l h =
-        let high : n ≤ headOf s .nodes = omega (arith, sizes-now .nodes, p .kept .sizes-same .nodes) in
+        let high : n ≤ headOf s .nodeBlocks = omega (arith, sizes-now .nodes, p .kept .sizes-same .nodes) in
         w .changed .fresh n l (omega (arith, p .kept .sizes-same .nodes))
         ∙ p .kept .nodes-same n (omega arith) high
         ∙ r .free-nodes n (omega (arith, w .changed .now, p .kept .taken-same)) high
@@ -106,7 +106,7 @@ module _ (f : Format) (s : List ℕ) (b0 b0′ : Trie Stretch) (bs : List (Trie 
           nodes-fit = omega (arith, w .changed .now, p .kept .taken-same, sizes-now .nodes, p .kept .sizes-same .nodes);
           pages-fit = omega (arith, filled-now, sizes-now .pages, p .pages-fit);
           directory =
-              subst (λ t. Directory t (nodeOf s₂) (headOf s₂ .root) (headOf s₂ .levels) (headOf s₂ .taken) (numbers b0′) bs′)
+              subst (λ t. Directory t (nodeOf s₂) (headOf s₂ .root) (headOf s₂ .levels) (headOf s₂ .nodesTaken) (numbers b0′) bs′)
               (sym (w .changed .ok .theta)) (w .directory);
           pages =
               pages-frame f s₁ s₂ (headOf s₁) (headOf s₂) b0′ (sizes-now .capacity) filled-now (λ x low high. page-now x) (p .pages);
@@ -165,19 +165,19 @@ module _ (f : Format) where
             ap (λ n. drop n v) (sym (size-same f s t (a .sizes-same))) ∙ b .beyond ∙ ap (λ n. drop n t) (size-same f s t (a .sizes-same)) ∙ a .beyond;
       }
 
-  filled-kept : (s : List ℕ) (m : ℕ) → Sized f s → NodesKept f s (putFilled s m)
+  filled-kept : (s : List ℕ) (m : ℕ) → Sized f s → NodesKept f s (putPagesTaken s m)
   filled-kept s m ok =
       record {
-        sized = putFilled-sized s m f ok;
-        sizes-same = putFilled-sizes s m;
-        root-same = putFilled-root s m;
-        levels-same = putFilled-levels s m;
-        taken-same = putFilled-taken s m;
-        nodes-same = λ n low high. putFilled-nodes s m n;
-        beyond = putFilled-beyond s m f;
+        sized = putPagesTaken-sized s m f ok;
+        sizes-same = putPagesTaken-sizes s m;
+        root-same = putPagesTaken-root s m;
+        levels-same = putPagesTaken-levels s m;
+        taken-same = putPagesTaken-taken s m;
+        nodes-same = λ n low high. putPagesTaken-nodes s m n;
+        beyond = putPagesTaken-beyond s m f;
       }
 
-  module _ (C : ℕ) (s : List ℕ) (p : ℕ) (rs : List Item) (ok : Sized f s) (low : 1 ≤ p) (high : p ≤ headOf s .pages)
+  module _ (C : ℕ) (s : List ℕ) (p : ℕ) (rs : List Item) (ok : Sized f s) (low : 1 ≤ p) (high : p ≤ headOf s .pageBlocks)
       (full : headOf s .capacity ≡ C) (fits : length rs ≤ C) where
     items-kept : NodesKept f s (putItems f C s p rs)
     items-kept =
@@ -188,12 +188,12 @@ module _ (f : Format) where
           sizes-same = record {
             theta = ap (λ h. h .theta) e;
             capacity = ap (λ h. h .capacity) e;
-            nodes = ap (λ h. h .nodes) e;
-            pages = ap (λ h. h .pages) e;
+            nodes = ap (λ h. h .nodeBlocks) e;
+            pages = ap (λ h. h .pageBlocks) e;
           };
           root-same = ap (λ h. h .root) e;
           levels-same = ap (λ h. h .levels) e;
-          taken-same = ap (λ h. h .taken) e;
+          taken-same = ap (λ h. h .nodesTaken) e;
           nodes-same = putPage-nodes f s p (pageImage f C rs) ok low high l;
           beyond = putPage-beyond f s p (pageImage f C rs) ok low high l;
         }
@@ -215,12 +215,12 @@ module _ (f : Format) (s : List ℕ) (b0 : Trie Stretch) (bs : List (Trie ℕ)) 
   n = stretchAt f b0 key .0
 
   abbrev m : ℕ
-  m = suc (headOf s .filled)
+  m = suc (headOf s .pagesTaken)
 
   abbrev sized : Sized f s
   sized = r .sized
 
-  n-high : n ≤ headOf s .pages
+  n-high : n ≤ headOf s .pageBlocks
   n-high = omega (arith, number-high f s (headOf s) b0 key (r .pages) narrow, r .pages-fit)
 
   -- no page written; one written anew; the next one taken; one written anew and the next one taken
@@ -237,16 +237,16 @@ module _ (f : Format) (s : List ℕ) (b0 : Trie Stretch) (bs : List (Trie ℕ)) 
         pages-fit = rw e (r .pages-fit);
         free-pages = λ p l h.
             put-other f C s n rs sized low n-high refl (fit .fits) p (omega arith)
-            (λ q. omega (arith, ap (λ h. h .filled) e, number-high f s (headOf s) b0 key (r .pages) narrow))
-            ∙ r .free-pages p (omega (arith, ap (λ h. h .filled) e)) (omega (arith, ap (λ h. h .pages) e))
+            (λ q. omega (arith, ap (λ h. h .pagesTaken) e, number-high f s (headOf s) b0 key (r .pages) narrow))
+            ∙ r .free-pages p (omega (arith, ap (λ h. h .pagesTaken) e)) (omega (arith, ap (λ h. h .pageBlocks) e))
             ∙ ap (λ c. replicate (pageWords f c) 0) (sym (ap (λ h. h .capacity) e));
       }
 
-  take-step : (rs : List Item) → n ≡ 0 → m ≤ headOf s .pages → Fit f C (leftAt f b0 key) (prefixAt f b0 key) rs
+  take-step : (rs : List Item) → n ≡ 0 → m ≤ headOf s .pageBlocks → Fit f C (leftAt f b0 key) (prefixAt f b0 key) rs
       → PageStep f s (takeItems f C s m rs) (replacedAt f b0 key (leaf (m, rs)))
   take-step rs null room fit =
       let kept : NodesKept f s (takeItems f C s m rs) = taken-kept f C s m rs sized (omega arith) room refl (fit .fits) in
-      let filled : headOf (takeItems f C s m rs) .filled ≡ m = take-filled f C s m rs sized (omega arith) room refl (fit .fits) in
+      let filled : headOf (takeItems f C s m rs) .pagesTaken ≡ m = take-pagesTaken f C s m rs sized (omega arith) room refl (fit .fits) in
       record {
         kept = kept;
         pages = pages-take f s b0 key sized (r .pages) narrow rs room null fit;
@@ -257,7 +257,7 @@ module _ (f : Format) (s : List ℕ) (b0 : Trie Stretch) (bs : List (Trie ℕ)) 
             ∙ ap (λ c. replicate (pageWords f c) 0) (sym (kept .sizes-same .capacity));
       }
 
-  both-step : depth b0 k < width f → m ≤ headOf s .pages → 1 ≤ length (halfAt false f b0 key) → 1 ≤ length (halfAt true f b0 key)
+  both-step : depth b0 k < width f → m ≤ headOf s .pageBlocks → 1 ≤ length (halfAt false f b0 key) → 1 ≤ length (halfAt true f b0 key)
       → PageStep f s (takeItems f C (putItems f C s n (halfAt false f b0 key)) m (halfAt true f b0 key))
       (replacedAt f b0 key (pair (n, halfAt false f b0 key) (m, halfAt true f b0 key)))
   both-step deep room some₀ some₁ =
@@ -284,7 +284,7 @@ module _ (f : Format) (s : List ℕ) (b0 : Trie Stretch) (bs : List (Trie ℕ)) 
       low : 1 ≤ n
       low = own-low f s (headOf s) b0 key (r .pages) narrow false some₀
 
-      n-used : n ≤ headOf s .filled
+      n-used : n ≤ headOf s .pagesTaken
       n-used = number-high f s (headOf s) b0 key (r .pages) narrow
 
       fits : length z ≤ C
@@ -299,7 +299,7 @@ module _ (f : Format) (s : List ℕ) (b0 : Trie Stretch) (bs : List (Trie ℕ)) 
       ok₁ : Sized f s₁
       ok₁ = kept₁ .sized
 
-      room₁ : m ≤ headOf s₁ .pages
+      room₁ : m ≤ headOf s₁ .pageBlocks
       room₁ = omega (arith, kept₁ .sizes-same .pages)
 
       full : headOf s₁ .capacity ≡ C
@@ -308,8 +308,8 @@ module _ (f : Format) (s : List ℕ) (b0 : Trie Stretch) (bs : List (Trie ℕ)) 
       kept : NodesKept f s (takeItems f C s₁ m o)
       kept = kept-then f s s₁ (takeItems f C s₁ m o) kept₁ (taken-kept f C s₁ m o ok₁ (omega arith) room₁ full fits₁)
 
-      filled : headOf (takeItems f C s₁ m o) .filled ≡ m
-      filled = take-filled f C s₁ m o ok₁ (omega arith) room₁ full fits₁
+      filled : headOf (takeItems f C s₁ m o) .pagesTaken ≡ m
+      filled = take-pagesTaken f C s₁ m o ok₁ (omega arith) room₁ full fits₁
 
 rounded-same : (θ : ℕ) (O : StoreOps) {s s′ : O .S} {more : ℕ} {u u′ : Trie ℕ} {bs bs′ : List (Trie ℕ)} → u ≡ u′ → bs ≡ bs′
     → Rounded θ O s s′ more u bs → Rounded θ O s s′ more u′ bs′
@@ -323,7 +323,7 @@ module _ (f : Format) (I : NodeOps) (s : List ℕ) (b0 : Trie Stretch) (bs : Lis
 
   halved : (x z : Stretch) (s₁ : List ℕ) → PageStep f s s₁ (replacedAt f b0 key (pair x z))
       → Stepped f s (round I (wordStore f (headOf s .theta)) (headOf s .theta) s₁ (pathOf (numbers b0) bs place) (x .0) (z .0)) (replacedAt f b0 key (pair x z))
-      (carried (headOf s .theta) (headOf s .taken) (numbers b0) bs place)
+      (carried (headOf s .theta) (headOf s .nodesTaken) (numbers b0) bs place)
   halved x z s₁ p =
       stepped f s b0 (replacedAt f b0 key (pair x z)) bs (y .rep) s₁ p _ (bumpCost (headOf s .theta) (locals (numbers b0) bs place)) _
       (rounded-same (headOf s .theta) (wordStore f (headOf s .theta)) (sym (numbers-graft b0 place (pair x z)))
@@ -349,7 +349,7 @@ module _ (f : Format) (I : NodeOps) (s : List ℕ) (b0 : Trie Stretch) (bs : Lis
 
   pub both-keep : BothKeep f I s b0 bs key
   both-keep y room some₀ some₁ =
-      halved f I s b0 bs key y (stretchAt f b0 key .0, halfAt false f b0 key) (suc (headOf s .filled), halfAt true f b0 key) _
+      halved f I s b0 bs key y (stretchAt f b0 key .0, halfAt false f b0 key) (suc (headOf s .pagesTaken), halfAt true f b0 key) _
       (both-step f s b0 bs (y .rep) key (y .narrow) (y .deep) room some₀ some₁)
 
 pub put-keeps : (f : Format) (s : List ℕ) (b0 : Trie Stretch) (bs : List (Trie ℕ)) (key : ℕ) → PutKeeps f s b0 bs key
@@ -371,7 +371,7 @@ take-keeps f I s b0 b bs key rs laws r narrow null room fit =
     let p = take-step f s b0 (b ∷ bs) r key narrow rs null room fit in
     let k : Key = bits (width f) key in
     stepped f s b0 _ (b ∷ bs) r _ p _ 0 (b ∷ bs)
-    (rounded-same (headOf s .theta) (wordStore f (headOf s .theta)) (sym (numbers-graft b0 k (leaf (suc (headOf s .filled), rs)))) refl
-    (aim-keeps (headOf s .theta) I (wordStore f (headOf s .theta)) laws (store-laws f (headOf s .theta)) _ (numbers b0) b bs k (suc (headOf s .filled))
+    (rounded-same (headOf s .theta) (wordStore f (headOf s .theta)) (sym (numbers-graft b0 k (leaf (suc (headOf s .pagesTaken), rs)))) refl
+    (aim-keeps (headOf s .theta) I (wordStore f (headOf s .theta)) laws (store-laws f (headOf s .theta)) _ (numbers b0) b bs k (suc (headOf s .pagesTaken))
     (step-ok f s b0 _ (b ∷ bs) r _ p) (omega (arith, r .nodes-fit, p .kept .taken-same, p .kept .sizes-same .nodes)) (step-directory f s b0 _ (b ∷ bs) r _ p)))
     (omega (arith, r .nodes-fit))

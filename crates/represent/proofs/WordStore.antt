@@ -19,7 +19,7 @@ use Rattle.represent.specs.Insertion.{SameSizes, Others, nodesEnd, other
 use Rattle.represent.specs.Rep.{sizeOf}
 use Rattle.represent.specs.Frame.{nodeOf, pageOf, putNode, putHead}
 use Rattle.represent.proofs.Frame.{sized-long, putNode-head, putNode-sized, putNode-same, putNode-other, putNode-drop}
-use Rattle.represent.proofs.Frame.{putHead-sizes, putHead-filled, putHead-root, putHead-levels, putHead-taken}
+use Rattle.represent.proofs.Frame.{putHead-sizes, putHead-pagesTaken, putHead-root, putHead-levels, putHead-taken}
 use Rattle.represent.proofs.Frame.{putHead-sized, putHead-nodes, putHead-drop}
 use Rattle.represent.proofs.Lengths.{length-nodeImage}
 
@@ -29,12 +29,12 @@ others-sizes s t e =
     record {
       theta = ap (λ (o : Others). o .theta) e;
       capacity = ap (λ (o : Others). o .capacity) e;
-      nodes = ap (λ (o : Others). o .nodes) e;
-      pages = ap (λ (o : Others). o .pages) e;
+      nodes = ap (λ (o : Others). o .nodeBlocks) e;
+      pages = ap (λ (o : Others). o .pageBlocks) e;
     }
 
-pub others-filled : (s t : List ℕ) → others t ≡ others s → headOf t .filled ≡ headOf s .filled
-others-filled s t e = ap (λ (o : Others). o .filled) e
+pub others-pagesTaken : (s t : List ℕ) → others t ≡ others s → headOf t .pagesTaken ≡ headOf s .pagesTaken
+others-pagesTaken s t e = ap (λ (o : Others). o .pagesTaken) e
 
 module _ (f : Format) where
   -- page block p is among the words behind the nodes, and so is what lies beyond the size
@@ -50,11 +50,11 @@ module _ (f : Format) where
   others-pages s t p e = sym (page-in t p) ∙ ap (λ (o : Others). pageIn o p) e ∙ page-in s p
 
   beyondIn : Others → List ℕ
-  beyondIn o = drop (o .pages * pageWords f (o .capacity)) (o .behind)
+  beyondIn o = drop (o .pageBlocks * pageWords f (o .capacity)) (o .behind)
 
   beyond-in : (s : List ℕ) → beyondIn (others s) ≡ drop (sizeOf f s) s
   unfolding beyondIn size
-  beyond-in s = drop-drop (headOf s .pages * pageWords f (headOf s .capacity)) (nodesEnd (headOf s)) s
+  beyond-in s = drop-drop (headOf s .pageBlocks * pageWords f (headOf s .capacity)) (nodesEnd (headOf s)) s
 
   pub others-beyond : (s t : List ℕ) → others t ≡ others s → drop (sizeOf f t) t ≡ drop (sizeOf f s) s
   others-beyond s t e = sym (beyond-in t) ∙ ap beyondIn e ∙ beyond-in s
@@ -75,28 +75,28 @@ module _ (f : Format) (θ : ℕ) where
     pub put-levels : Ok f θ s → headOf (putNode s n ws) .levels ≡ headOf s .levels
     put-levels ok = ap (λ (h : Head). h .levels) (put-head ok)
 
-    pub put-taken : Ok f θ s → headOf (putNode s n ws) .taken ≡ headOf s .taken
-    put-taken ok = ap (λ (h : Head). h .taken) (put-head ok)
+    pub put-taken : Ok f θ s → headOf (putNode s n ws) .nodesTaken ≡ headOf s .nodesTaken
+    put-taken ok = ap (λ (h : Head). h .nodesTaken) (put-head ok)
 
-    pub put-cap : Ok f θ s → headOf (putNode s n ws) .nodes ≡ headOf s .nodes
-    put-cap ok = ap (λ (h : Head). h .nodes) (put-head ok)
+    pub put-cap : Ok f θ s → headOf (putNode s n ws) .nodeBlocks ≡ headOf s .nodeBlocks
+    put-cap ok = ap (λ (h : Head). h .nodeBlocks) (put-head ok)
 
     module _ (level : ℕ) (v : Trie ℕ) where
-      pub put-ok : Ok f θ s → 1 ≤ n → n ≤ headOf s .nodes → NodeIs θ ws level v → Ok f θ (putNode s n ws)
+      pub put-ok : Ok f θ s → 1 ≤ n → n ≤ headOf s .nodeBlocks → NodeIs θ ws level v → Ok f θ (putNode s n ws)
       put-ok ok low high is =
           record {
             theta = ap (λ (h : Head). h .theta) (put-head ok) ∙ ok .theta;
             sized = putNode-sized f s n ws (ok .sized) low high (fills s ws level v ok is);
           }
 
-      pub put-same : Ok f θ s → 1 ≤ n → n ≤ headOf s .nodes → NodeIs θ ws level v → nodeOf (putNode s n ws) n ≡ ws
+      pub put-same : Ok f θ s → 1 ≤ n → n ≤ headOf s .nodeBlocks → NodeIs θ ws level v → nodeOf (putNode s n ws) n ≡ ws
       put-same ok low high is = putNode-same f s n ws (ok .sized) low high (fills s ws level v ok is)
 
-      pub put-other : (x : ℕ) → Ok f θ s → 1 ≤ n → n ≤ headOf s .nodes → NodeIs θ ws level v → 1 ≤ x → x ≤ headOf s .nodes → (x ≡ n → ⊥)
+      pub put-other : (x : ℕ) → Ok f θ s → 1 ≤ n → n ≤ headOf s .nodeBlocks → NodeIs θ ws level v → 1 ≤ x → x ≤ headOf s .nodeBlocks → (x ≡ n → ⊥)
           → nodeOf (putNode s n ws) x ≡ nodeOf s x
       put-other x ok low high is p q ne = putNode-other f s n ws (ok .sized) low high (fills s ws level v ok is) x p ne
 
-      pub put-others : Ok f θ s → 1 ≤ n → n ≤ headOf s .nodes → NodeIs θ ws level v → others (putNode s n ws) ≡ others s
+      pub put-others : Ok f θ s → 1 ≤ n → n ≤ headOf s .nodeBlocks → NodeIs θ ws level v → others (putNode s n ws) ≡ others s
       put-others ok low high is =
           rw (put-head ok, putNode-drop f s n ws (ok .sized) low high (fills s ws level v ok is) (nodesEnd (headOf s)) (omega arith))
 
@@ -114,7 +114,7 @@ module _ (f : Format) (θ : ℕ) where
     head-levels : headOf (putHead s root levels taken) .levels ≡ levels
     head-levels = putHead-levels s root levels taken long
 
-    head-taken : headOf (putHead s root levels taken) .taken ≡ taken
+    head-taken : headOf (putHead s root levels taken) .nodesTaken ≡ taken
     head-taken = putHead-taken s root levels taken long
 
 -- what they leave in any list of words
@@ -122,7 +122,7 @@ module _ (s : List ℕ) (root levels taken : ℕ) where
   head-node : (x : ℕ) → 1 ≤ x → nodeOf (putHead s root levels taken) x ≡ nodeOf s x
   head-node x p = putHead-nodes s root levels taken x
 
-  head-cap : headOf (putHead s root levels taken) .nodes ≡ headOf s .nodes
+  head-cap : headOf (putHead s root levels taken) .nodeBlocks ≡ headOf s .nodeBlocks
   head-cap = putHead-sizes s root levels taken .nodes
 
   head-others : others (putHead s root levels taken) ≡ others s
@@ -133,7 +133,7 @@ module _ (s : List ℕ) (root levels taken : ℕ) where
         k .capacity,
         k .nodes,
         k .pages,
-        putHead-filled s root levels taken,
+        putHead-pagesTaken s root levels taken,
         putHead-drop s root levels taken (nodesEnd (headOf s)) (omega arith),
       )
 

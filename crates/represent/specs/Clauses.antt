@@ -24,7 +24,7 @@ use Rattle.represent.specs.Labelled.{Linked}
 module _ (s : List ℕ) where
   pub record Taken (n : ℕ) : Type 0 where
     pub positive : 1 ≤ n
-    pub within : n ≤ headOf s .taken
+    pub within : n ≤ headOf s .nodesTaken
 
   abbrev pub start : ℕ → ℕ
   start n = nodeStart (headOf s) n
@@ -32,7 +32,7 @@ module _ (s : List ℕ) where
   -- "a directory node or a data page at level l − 1"
   abbrev pub PointsDown : ℕ → ℕ → Type 0
   PointsDown n i =
-      ((levelWord s (start n) ≡ 1) × (entryPointer s (start n) i ≤ headOf s .filled))
+      ((levelWord s (start n) ≡ 1) × (entryPointer s (start n) i ≤ headOf s .pagesTaken))
       ⊎ (Taken (entryPointer s (start n) i) × (suc (levelWord s (start (entryPointer s (start n) i))) ≡ levelWord s (start n)))
 
 abbrev pub NotBefore : ℕ → ℕ → List ℕ → Type 0
@@ -67,5 +67,5 @@ module _ (f : Format) (s : List ℕ) where
     -- 5. "the terminal nodes of the directory, i.e., nodes at level l = 1, contain either data page pointers or are null."
     pub five : (n i : ℕ) → Taken s n → levelWord s (start s n) ≡ 1 → i < 2 ^ depthWord s (start s n)
         → (entryPointer s (start s n) i ≡ 0)
-        ⊎ ((1 ≤ entryPointer s (start s n) i) × (entryPointer s (start s n) i ≤ headOf s .filled)
+        ⊎ ((1 ≤ entryPointer s (start s n) i) × (entryPointer s (start s n) i ≤ headOf s .pagesTaken)
         × (pageRule f (headOf s .capacity) (pageAt f s (headOf s) (entryPointer s (start s n) i)) ≡ true))

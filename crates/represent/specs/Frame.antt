@@ -4,7 +4,7 @@
 --   putNode s n ws   == s with node block n replaced by the words ws
 --   putPage f s p ws == s with page block p replaced by the words ws
 --   putHead s root levels taken == s with these three words of the head
---   putFilled s filled == s with this count of pages taken in the head
+--   putPagesTaken s filled == s with this count of pages taken in the head
 use mathlib.Core.List.{List}
 use Prim.Native.Nat.{ℕ}
 use lib.ListN.{set}
@@ -30,5 +30,5 @@ unfoldable pub putHead : List ℕ → ℕ → ℕ → ℕ → List ℕ
 putHead s root levels taken = set (set (set s 4 taken) 6 root) 7 levels
 
 -- word 5
-unfoldable pub putFilled : List ℕ → ℕ → List ℕ
-putFilled s filled = set s 5 filled
+unfoldable pub putPagesTaken : List ℕ → ℕ → List ℕ
+putPagesTaken s filled = set s 5 filled

@@ -36,30 +36,30 @@ use Rattle.page.specs.Page.{lawfulItem}
 use Rattle.represent.specs.Image.{pageImage}
 use Rattle.represent.specs.Rep.{Stretch, numbers, keyOf, Rep, sizeOf, Sized}
 use Rattle.represent.specs.Round.{NodeOps, NodeLaws, StoreOps, stepAt, pathOf, round, aimAt, carried}
-use Rattle.represent.specs.Frame.{nodeOf, putNode, putPage, putHead, putFilled}
+use Rattle.represent.specs.Frame.{nodeOf, putNode, putPage, putHead, putPagesTaken}
 
 -- all but the node blocks and the three words of the head
 pub record Others : Type 0 where
   pub theta : ℕ
   pub capacity : ℕ
-  pub nodes : ℕ
-  pub pages : ℕ
-  pub filled : ℕ
+  pub nodeBlocks : ℕ
+  pub pageBlocks : ℕ
+  pub pagesTaken : ℕ
   -- the words behind the node blocks
   pub behind : List ℕ
 
 -- the number of the first word behind the node blocks
 abbrev pub nodesEnd : Head → ℕ
-nodesEnd h = 16 + h .nodes * nodeWords (h .theta)
+nodesEnd h = 16 + h .nodeBlocks * nodeWords (h .theta)
 
 abbrev pub others : List ℕ → Others
 others s =
     record {
       theta = headOf s .theta;
       capacity = headOf s .capacity;
-      nodes = headOf s .nodes;
-      pages = headOf s .pages;
-      filled = headOf s .filled;
+      nodeBlocks = headOf s .nodeBlocks;
+      pageBlocks = headOf s .pageBlocks;
+      pagesTaken = headOf s .pagesTaken;
       behind = drop (nodesEnd (headOf s)) s;
     }
 
@@ -75,8 +75,8 @@ wordStore f θ =
       node = nodeOf;
       root = λ s. headOf s .root;
       levels = λ s. headOf s .levels;
-      taken = λ s. headOf s .taken;
-      cap = λ s. headOf s .nodes;
+      taken = λ s. headOf s .nodesTaken;
+      cap = λ s. headOf s .nodeBlocks;
       R = Others;
       others = others;
       put = putNode;
@@ -112,13 +112,13 @@ abbrev pub putItems : Format → ℕ → List ℕ → ℕ → List Item → List
 putItems f C s p rs = putPage f s p (pageImage f C rs)
 
 abbrev pub takeItems : Format → ℕ → List ℕ → ℕ → List Item → List ℕ
-takeItems f C s p rs = putFilled (putItems f C s p rs) p
+takeItems f C s p rs = putPagesTaken (putItems f C s p rs) p
 
 pub record SameSizes (h h′ : Head) : Type 0 where
   pub theta : h′ .theta ≡ h .theta
   pub capacity : h′ .capacity ≡ h .capacity
-  pub nodes : h′ .nodes ≡ h .nodes
-  pub pages : h′ .pages ≡ h .pages
+  pub nodes : h′ .nodeBlocks ≡ h .nodeBlocks
+  pub pages : h′ .pageBlocks ≡ h .pageBlocks
 
 pub record Stepped (f : Format) (s s′ : List ℕ) (b0 : Trie Stretch) (bs : List (Trie ℕ)) : Type 0 where
   pub rep : Rep f s′ b0 bs
@@ -137,7 +137,7 @@ module _ (f : Format) (I : NodeOps) (s : List ℕ) (b0 : Trie Stretch) (bs : Lis
   rounded t a c = round I (wordStore f (headOf s .theta)) (headOf s .theta) t (pathOf (numbers b0) bs k) a c
 
   abbrev levelsAfter : List (Trie ℕ)
-  levelsAfter = carried (headOf s .theta) (headOf s .taken) (numbers b0) bs k
+  levelsAfter = carried (headOf s .theta) (headOf s .nodesTaken) (numbers b0) bs k
 
   -- the place has a bit left, and there are node blocks for the climb
   pub record Roomy : Type 0 where
@@ -145,7 +145,7 @@ module _ (f : Format) (I : NodeOps) (s : List ℕ) (b0 : Trie Stretch) (bs : Lis
     pub rep : Rep f s b0 bs
     pub narrow : key < 2 ^ width f
     pub deep : depth b0 k < width f
-    pub room : headOf s .taken + bumpCost (headOf s .theta) (locals (numbers b0) bs k) ≤ headOf s .nodes
+    pub room : headOf s .nodesTaken + bumpCost (headOf s .theta) (locals (numbers b0) bs k) ≤ headOf s .nodeBlocks
 
   -- "At a full page: halve it on the next bit and try again. The zero half keeps the page, and the other takes a new one. An empty half becomes
   -- null, and the other half keeps the page."
@@ -158,10 +158,10 @@ module _ (f : Format) (I : NodeOps) (s : List ℕ) (b0 : Trie Stretch) (bs : Lis
   abbrev pub BothKeep : Type 0
   BothKeep =
       let C : ℕ = headOf s .capacity in
-      let m : ℕ = suc (headOf s .filled) in
+      let m : ℕ = suc (headOf s .pagesTaken) in
       let low : List Item = halfAt false f b0 key in
       let high : List Item = halfAt true f b0 key in
-      Roomy → m ≤ headOf s .pages → 1 ≤ length low → 1 ≤ length high
+      Roomy → m ≤ headOf s .pageBlocks → 1 ≤ length low → 1 ≤ length high
       → Stepped f s (rounded (takeItems f C (putItems f C s (own .0) low) m high) (own .0) m)
       (replacedAt f b0 key (pair (own .0, low) (m, high))) levelsAfter
 
@@ -177,8 +177,8 @@ module _ (f : Format) (s : List ℕ) (b0 : Trie Stretch) (bs : List (Trie ℕ)) 
 module _ (f : Format) (I : NodeOps) (s : List ℕ) (b0 : Trie Stretch) (b : Trie ℕ) (bs : List (Trie ℕ)) (key : ℕ) where
   abbrev pub TakeKeeps : Type 0
   TakeKeeps =
-      let m : ℕ = suc (headOf s .filled) in
-      (rs : List Item) → NodeLaws (headOf s .theta) I → Rep f s b0 (b ∷ bs) → key < 2 ^ width f → stretchAt f b0 key .0 ≡ 0 → m ≤ headOf s .pages
+      let m : ℕ = suc (headOf s .pagesTaken) in
+      (rs : List Item) → NodeLaws (headOf s .theta) I → Rep f s b0 (b ∷ bs) → key < 2 ^ width f → stretchAt f b0 key .0 ≡ 0 → m ≤ headOf s .pageBlocks
       → Fit f (headOf s .capacity) (leftAt f b0 key) (prefixAt f b0 key) rs
       → Stepped f s
       (aimAt I (wordStore f (headOf s .theta)) (takeItems f (headOf s .capacity) s m rs) (stepAt (numbers b0) b (bits (width f) key)) m)

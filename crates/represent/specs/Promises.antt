@@ -60,8 +60,8 @@ abbrev pub CountsAreTheTrees : Type 0
 CountsAreTheTrees =
     (f : Format) (s : List ℕ) (S : List Item) → Holds f s S
     → (headOf s .levels ≡ levels (headOf s .theta) (shape (build keyOf (headOf s .capacity) (width f) S)))
-    × (headOf s .taken ≡ nodes (headOf s .theta) (shape (build keyOf (headOf s .capacity) (width f) S)))
-    × (headOf s .filled ≡ pages (build keyOf (headOf s .capacity) (width f) S))
+    × (headOf s .nodesTaken ≡ nodes (headOf s .theta) (shape (build keyOf (headOf s .capacity) (width f) S)))
+    × (headOf s .pagesTaken ≡ pages (build keyOf (headOf s .capacity) (width f) S))
 
 -- the node rule at each node of the levels above k
 abbrev pub RulesAbove : Head → List ℕ → ℕ → List (Trie ℕ) → Type 0
@@ -84,7 +84,7 @@ AgreesPasses =
 
 -- what enter looks at, of the node m behind the terminal n
 pub record Neighbour (s : List ℕ) (n m : ℕ) : Type 0 where
-  pub taken : m ≤ headOf s .taken
+  pub taken : m ≤ headOf s .nodesTaken
   pub another : m ≡ n → ⊥
   pub level : levelWord s (nodeStart (headOf s) m) ≡ 1
   pub back : backWord s (nodeStart (headOf s) m) ≡ n

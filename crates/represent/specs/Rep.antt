@@ -100,27 +100,27 @@ module _ (f : Format) (s : List ℕ) (h : Head) where
   pub record Pages (b0 : Trie Stretch) : Type 0 where
     pub each : Each Lawful b0
     pub keyed : Keyed (width f) 0 b0
-    pub oneForOne : OneForOne (h .filled) (λ p. occ p (numbers b0))
+    pub oneForOne : OneForOne (h .pagesTaken) (λ p. occ p (numbers b0))
 
 abbrev pub sizeOf : Format → List ℕ → ℕ
-sizeOf f s = size f (headOf s .theta) (headOf s .capacity) (headOf s .nodes) (headOf s .pages)
+sizeOf f s = size f (headOf s .theta) (headOf s .capacity) (headOf s .nodeBlocks) (headOf s .pageBlocks)
 
 -- "θ (1 to 6), page capacity C (1 to 64), node blocks N and page blocks P (1 to 4,096 each)", "eight zeros", "the slice has the size"
 pub record Sized (f : Format) (s : List ℕ) : Type 0 where
-  pub sizes : lawfulSizes (headOf s .theta) (headOf s .capacity) (headOf s .nodes) (headOf s .pages) ≡ true
+  pub sizes : lawfulSizes (headOf s .theta) (headOf s .capacity) (headOf s .nodeBlocks) (headOf s .pageBlocks) ≡ true
   pub spare : zeros s 8 8 ≡ true
   pub long : sizeOf f s ≤ length s
 
 module _ (f : Format) (s : List ℕ) where
   pub record Rep (b0 : Trie Stretch) (bs : List (Trie ℕ)) : Type 0 where
     pub sized : Sized f s
-    pub nodes-fit : headOf s .taken ≤ headOf s .nodes
-    pub pages-fit : headOf s .filled ≤ headOf s .pages
-    pub directory : Directory (headOf s .theta) (nodeAt s (headOf s)) (headOf s .root) (headOf s .levels) (headOf s .taken) (numbers b0) bs
+    pub nodes-fit : headOf s .nodesTaken ≤ headOf s .nodeBlocks
+    pub pages-fit : headOf s .pagesTaken ≤ headOf s .pageBlocks
+    pub directory : Directory (headOf s .theta) (nodeAt s (headOf s)) (headOf s .root) (headOf s .levels) (headOf s .nodesTaken) (numbers b0) bs
     pub pages : Pages f s (headOf s) b0
     -- "Words not in use are zero."
-    pub free-nodes : (n : ℕ) → headOf s .taken < n → n ≤ headOf s .nodes → nodeAt s (headOf s) n ≡ replicate (nodeWords (headOf s .theta)) 0
-    pub free-pages : (p : ℕ) → headOf s .filled < p → p ≤ headOf s .pages → pageAt f s (headOf s) p ≡ replicate (pageWords f (headOf s .capacity)) 0
+    pub free-nodes : (n : ℕ) → headOf s .nodesTaken < n → n ≤ headOf s .nodeBlocks → nodeAt s (headOf s) n ≡ replicate (nodeWords (headOf s .theta)) 0
+    pub free-pages : (p : ℕ) → headOf s .pagesTaken < p → p ≤ headOf s .pageBlocks → pageAt f s (headOf s) p ≡ replicate (pageWords f (headOf s .capacity)) 0
 
   pub record Holds (S : List Item) : Type 0 where
     pub b0 : Trie Stretch

@@ -15,7 +15,7 @@ use Rattle.scan.specs.Summary.{refused, summed, summingReply, summaryOf}
 
 -- what a store that keeps the head rule has, as the readings ask it
 pub readable : (f : Format) (s : List ℕ) (h : Head) → h ≡ headOf s → headRule f s ≡ true
-    → (h .theta ≤ 6) × (h .capacity ≤ 64) × (h .taken ≤ 4096) × (1 ≤ h .levels) × (h .levels ≤ 32)
+    → (h .theta ≤ 6) × (h .capacity ≤ 64) × (h .nodesTaken ≤ 4096) × (1 ≤ h .levels) × (h .levels ≤ 32)
 readable f s h e r =
     let p = head-facts f s r in
     let t = headOf s in

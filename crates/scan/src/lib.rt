@@ -36,7 +36,7 @@ fn outcome_of(ok: bool, count: u64, more: u64) -> Listing
 
 // The outcome of a range with room for so many records; nothing is written.
 pub fn list(store: &[u32], f: Format, head: Head, low: u64, high: u64, room: u64) -> Listing
-    requires { ⌜ (head .theta ≤ 6) × (head .capacity ≤ 64) × (head .taken ≤ 4096) × (1 ≤ head .levels) × (head .levels ≤ 32) × (low ≤ high) ⌝ }
+    requires { ⌜ (head .theta ≤ 6) × (head .capacity ≤ 64) × (head .nodesTaken ≤ 4096) × (1 ≤ head .levels) × (head .levels ≤ 32) × (low ≤ high) ⌝ }
     ensures { λ r. ⌜ (r ≡ listing (ranged f (now (store .entry)) head low high room)) × (r .count ≤ room) ⌝ }
 {
     let mut strict = false;
@@ -94,7 +94,7 @@ pub fn write_item(part: &mut [u32], f: Format, item: Item)
 
 // Writes the first n records at or above low.
 pub fn fill(store: &[u32], f: Format, head: Head, low: u64, n: u64, out: &mut [u32])
-    requires { ⌜ (head .theta ≤ 6) × (head .capacity ≤ 64) × (head .taken ≤ 4096) × (1 ≤ head .levels) × (head .levels ≤ 32) × (words f * n ≤ length (now out)) × (length (firsts f (now store) head false low n) ≡ n) ⌝ }
+    requires { ⌜ (head .theta ≤ 6) × (head .capacity ≤ 64) × (head .nodesTaken ≤ 4096) × (1 ≤ head .levels) × (head .levels ≤ 32) × (words f * n ≤ length (now out)) × (length (firsts f (now store) head false low n) ≡ n) ⌝ }
     ensures { λ _. ⌜ now (out .exit) ≡ flat f (firsts f (now (store .entry)) head false low n) ++ drop (words f * n) (now (out .entry)) ⌝ }
 {
     let w = store::words_of(f);
@@ -164,7 +164,7 @@ fn summing_of(ok: bool, totals: Totals) -> Summing
 
 // The totals of the records from low to high.
 pub fn sum(store: &[u32], f: Format, head: Head, low: u64, high: u64, today: u32) -> Summing
-    requires { ⌜ (head .theta ≤ 6) × (head .capacity ≤ 64) × (head .taken ≤ 4096) × (1 ≤ head .levels) × (head .levels ≤ 32) × (low ≤ high) × (high < 2 ^ 32) ⌝ }
+    requires { ⌜ (head .theta ≤ 6) × (head .capacity ≤ 64) × (head .nodesTaken ≤ 4096) × (1 ≤ head .levels) × (head .levels ≤ 32) × (low ≤ high) × (high < 2 ^ 32) ⌝ }
     ensures { λ r. ⌜ r ≡ summed f (now (store .entry)) head low high today ⌝ }
 {
     let mut strict = false;

@@ -236,7 +236,7 @@ module _ (f : Format) (s : List ℕ) (h : Head) (strict : Bool) (k : ℕ) where
       b ≡ nodeStart h (t .node) →
       d ≡ depthWord s b →
       start ≡ runAfter d (t .depth) (t .entry) →
-      a ≡ follow f s h strict k (h .taken + 1) (t .node) start →
+      a ≡ follow f s h strict k (h .nodesTaken + 1) (t .node) start →
       a ≡ afterOwn f s h strict k t
   unfolding afterOwn
   own-is t eb ed es ea = rw (es, ed, eb) at ea

@@ -85,7 +85,7 @@ follow f s h strict k (suc left) n i =
 -- "passing null entries and forward links"; the terminal node is that of the first step
 unfoldable pub afterOwn : Format → List ℕ → Head → Bool → ℕ → Step → Sought
 afterOwn f s h strict k t =
-    follow f s h strict k (h .taken + 1) (t .node) (runAfter (depthWord s (nodeStart h (t .node))) (t .depth) (t .entry))
+    follow f s h strict k (h .nodesTaken + 1) (t .node) (runAfter (depthWord s (nodeStart h (t .node))) (t .depth) (t .entry))
 
 unfoldable pub fromDescent : Format → List ℕ → Head → Bool → ℕ → Descent → Sought
 fromDescent f s h strict k d =

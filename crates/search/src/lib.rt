@@ -330,12 +330,12 @@ pub fn follow_from(
     first: u32,
     start: usize,
 ) -> Sought
-    requires { ⌜ (head .theta ≤ 6) × (head .capacity ≤ 64) × (head .taken ≤ 4096) × (start < 2 ^ 40) × (depthWord (now store) (nodeStart head first) ≤ head .theta) ⌝ }
-    ensures { λ r. ⌜ r ≡ follow f (now (store .entry)) head strict key (head .taken + 1) first start ⌝ }
+    requires { ⌜ (head .theta ≤ 6) × (head .capacity ≤ 64) × (head .nodesTaken ≤ 4096) × (start < 2 ^ 40) × (depthWord (now store) (nodeStart head first) ≤ head .theta) ⌝ }
+    ensures { λ r. ⌜ r ≡ follow f (now (store .entry)) head strict key (head .nodesTaken + 1) first start ⌝ }
 {
     let mut n = first;
     let mut i = start;
-    let mut turns = head.taken + 1;
+    let mut turns = head.nodesTaken + 1;
     while turns > 0 {
         turns -= 1;
         let hop = hop_from(store, f, head, strict, key, n, i, turns);
@@ -354,7 +354,7 @@ pub fn follow_from(
 
 // The answer after the sought key's own run in its terminal node.
 pub fn after_own(store: &[u32], f: Format, head: Head, strict: bool, key: u64, t: Step) -> Sought
-    requires { ⌜ (head .theta ≤ 6) × (head .capacity ≤ 64) × (head .taken ≤ 4096) × (depthWord (now store) (nodeStart head (t .node)) ≤ head .theta) ⌝ }
+    requires { ⌜ (head .theta ≤ 6) × (head .capacity ≤ 64) × (head .nodesTaken ≤ 4096) × (depthWord (now store) (nodeStart head (t .node)) ≤ head .theta) ⌝ }
     ensures { λ r. ⌜ r ≡ afterOwn f (now (store .entry)) head strict key t ⌝ }
 {
     let at = store::node_start(head, t.node);
@@ -364,7 +364,7 @@ pub fn after_own(store: &[u32], f: Format, head: Head, strict: bool, key: u64, t
 
 // Next, in a store that keeps the head rule: the first record above the key, or, if not strict, at or above it.
 pub fn next_under(store: &[u32], f: Format, head: Head, strict: bool, key: u64) -> Sought
-    requires { ⌜ (head .theta ≤ 6) × (head .capacity ≤ 64) × (head .taken ≤ 4096) × (1 ≤ head .levels) × (head .levels ≤ 32) ⌝ }
+    requires { ⌜ (head .theta ≤ 6) × (head .capacity ≤ 64) × (head .nodesTaken ≤ 4096) × (1 ≤ head .levels) × (head .levels ≤ 32) ⌝ }
     ensures { λ r. ⌜ r ≡ nextOf f (now (store .entry)) head strict key ⌝ }
 {
     let d = descend(store, f, head, key);

@@ -34,25 +34,25 @@ pub node-start-is : (h : Head) (n a b : ℕ) → a ≡ n - 1 → b ≡ nodeWords
 unfolding nodeStart
 node-start-is h n a b p q = rw (p, q)
 
-pub page-start-is : (f : Format) (h : Head) (p a b c d : ℕ) → a ≡ h .nodes → b ≡ nodeWords (h .theta) → c ≡ p - 1 → d ≡ pageWords f (h .capacity)
+pub page-start-is : (f : Format) (h : Head) (p a b c d : ℕ) → a ≡ h .nodeBlocks → b ≡ nodeWords (h .theta) → c ≡ p - 1 → d ≡ pageWords f (h .capacity)
     → 16 + a * b + c * d ≡ pageStart f h p
 unfolding pageStart
 page-start-is f h p a b c d i j k l = rw (i, j, k, l)
 
 pub head-is : (s : List ℕ) (a b c d e g i j : ℕ) → a ≡ word s 0 → b ≡ word s 1 → c ≡ word s 2 → d ≡ word s 3 → e ≡ word s 4 → g ≡ word s 5 → i ≡ word s 6 → j ≡ word s 7
-    → record { theta = a; capacity = b; nodes = c; pages = d; taken = e; filled = g; root = i; levels = j } ≡ headOf s
+    → record { theta = a; capacity = b; nodeBlocks = c; pageBlocks = d; nodesTaken = e; pagesTaken = g; root = i; levels = j } ≡ headOf s
 unfolding headOf
 head-is s a b c d e g i j p q r t u v w x = rw (p, q, r, t, u, v, w, x)
 
 pub counts-are : (f : Format) (h : Head) (a b c d e g i : Bool)
-    → a ≡ leb 1 (h .taken) → b ≡ leb (h .taken) (h .nodes) → c ≡ leb (h .filled) (h .pages) → d ≡ leb 1 (h .root) → e ≡ leb (h .root) (h .taken)
+    → a ≡ leb 1 (h .nodesTaken) → b ≡ leb (h .nodesTaken) (h .nodeBlocks) → c ≡ leb (h .pagesTaken) (h .pageBlocks) → d ≡ leb 1 (h .root) → e ≡ leb (h .root) (h .nodesTaken)
     → g ≡ leb 1 (h .levels) → i ≡ leb (h .levels) (levelBound (width f) (h .theta) (h .capacity)) → (a && b && c && d && e && g && i) ≡ lawfulCounts f h
 unfolding lawfulCounts
 counts-are f h a b c d e g i p q r t u v w = rw (p, q, r, t, u, v, w)
 
 pub rule-is : (f : Format) (s : List ℕ) (h : Head) (a b c d : Bool) → h ≡ headOf s
-    → a ≡ lawfulSizes (h .theta) (h .capacity) (h .nodes) (h .pages) → b ≡ zeros s 8 8
-    → c ≡ leb (size f (h .theta) (h .capacity) (h .nodes) (h .pages)) (length s) → d ≡ lawfulCounts f h → (a && b && c && d) ≡ headRule f s
+    → a ≡ lawfulSizes (h .theta) (h .capacity) (h .nodeBlocks) (h .pageBlocks) → b ≡ zeros s 8 8
+    → c ≡ leb (size f (h .theta) (h .capacity) (h .nodeBlocks) (h .pageBlocks)) (length s) → d ≡ lawfulCounts f h → (a && b && c && d) ≡ headRule f s
 unfolding headRule
 rule-is f s h a b c d e p q r t = rw (p, q, r, t, e)
 
@@ -98,11 +98,11 @@ unfolding levelBound width
 levels-within Plots θ C low = div-le-of-le-mul θ (omega arith)
 
 pub record Counts (f : Format) (h : Head) : Type 0 where
-  pub taken-low : 1 ≤ h .taken
-  pub taken : h .taken ≤ h .nodes
-  pub filled : h .filled ≤ h .pages
+  pub taken-low : 1 ≤ h .nodesTaken
+  pub taken : h .nodesTaken ≤ h .nodeBlocks
+  pub filled : h .pagesTaken ≤ h .pageBlocks
   pub root-low : 1 ≤ h .root
-  pub root : h .root ≤ h .taken
+  pub root : h .root ≤ h .nodesTaken
   pub levels-low : 1 ≤ h .levels
   pub levels : h .levels ≤ levelBound (width f) (h .theta) (h .capacity)
 
@@ -127,9 +127,9 @@ counts-facts f h e =
 
 -- what a store that keeps the head rule has
 pub record Headed (f : Format) (s : List ℕ) : Type 0 where
-  pub limits : Limits (headOf s .theta) (headOf s .capacity) (headOf s .nodes) (headOf s .pages)
+  pub limits : Limits (headOf s .theta) (headOf s .capacity) (headOf s .nodeBlocks) (headOf s .pageBlocks)
   pub counts : Counts f (headOf s)
-  pub room : size f (headOf s .theta) (headOf s .capacity) (headOf s .nodes) (headOf s .pages) ≤ length s
+  pub room : size f (headOf s .theta) (headOf s .capacity) (headOf s .nodeBlocks) (headOf s .pageBlocks) ≤ length s
 
 pub head-facts : (f : Format) (s : List ℕ) → headRule f s ≡ true → Headed f s
 unfolding headRule

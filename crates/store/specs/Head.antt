@@ -33,10 +33,10 @@ headOf s =
     record {
       theta = word s 0;
       capacity = word s 1;
-      nodes = word s 2;
-      pages = word s 3;
-      taken = word s 4;
-      filled = word s 5;
+      nodeBlocks = word s 2;
+      pageBlocks = word s 3;
+      nodesTaken = word s 4;
+      pagesTaken = word s 5;
       root = word s 6;
       levels = word s 7;
     }
@@ -58,7 +58,7 @@ unfoldable pub nodeStart : Head → ℕ → ℕ
 nodeStart h n = 16 + (n - 1) * nodeWords (h .theta)
 
 unfoldable pub pageStart : Format → Head → ℕ → ℕ
-pageStart f h p = 16 + h .nodes * nodeWords (h .theta) + (p - 1) * pageWords f (h .capacity)
+pageStart f h p = 16 + h .nodeBlocks * nodeWords (h .theta) + (p - 1) * pageWords f (h .capacity)
 
 unfoldable pub pageAt : Format → List ℕ → Head → ℕ → List ℕ
 pageAt f s h p = part s (pageStart f h p) (pageWords f (h .capacity))
@@ -80,11 +80,11 @@ lawfulSizes θ C N P =
 -- "nodes taken is 1 to N, pages taken 0 to P, root is a taken node, and levels is 1 to L."
 unfoldable pub lawfulCounts : Format → Head → Bool
 lawfulCounts f h =
-    leb 1 (h .taken) && leb (h .taken) (h .nodes) && leb (h .filled) (h .pages) && leb 1 (h .root) && leb (h .root) (h .taken)
+    leb 1 (h .nodesTaken) && leb (h .nodesTaken) (h .nodeBlocks) && leb (h .pagesTaken) (h .pageBlocks) && leb 1 (h .root) && leb (h .root) (h .nodesTaken)
     && leb 1 (h .levels) && leb (h .levels) (levelBound (width f) (h .theta) (h .capacity))
 
 -- "Head rule: the limits and the eight zeros above hold, the slice has the size, .."
 unfoldable pub headRule : Format → List ℕ → Bool
 headRule f s =
-    lawfulSizes (headOf s .theta) (headOf s .capacity) (headOf s .nodes) (headOf s .pages) && zeros s 8 8
-    && leb (size f (headOf s .theta) (headOf s .capacity) (headOf s .nodes) (headOf s .pages)) (length s) && lawfulCounts f (headOf s)
+    lawfulSizes (headOf s .theta) (headOf s .capacity) (headOf s .nodeBlocks) (headOf s .pageBlocks) && zeros s 8 8
+    && leb (size f (headOf s .theta) (headOf s .capacity) (headOf s .nodeBlocks) (headOf s .pageBlocks)) (length s) && lawfulCounts f (headOf s)

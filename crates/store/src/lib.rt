@@ -21,14 +21,14 @@ pub struct Item {
     pub last: u32,
 }
 
-// The first eight words: of the node blocks `taken` are taken, of the page blocks `filled`.
+// The first eight words. (A field that definitions name has no underscore.)
 pub struct Head {
     pub theta: u32,
     pub capacity: u32,
-    pub nodes: u32,
-    pub pages: u32,
-    pub taken: u32,
-    pub filled: u32,
+    pub nodeBlocks: u32,
+    pub pageBlocks: u32,
+    pub nodesTaken: u32,
+    pub pagesTaken: u32,
     pub root: u32,
     pub levels: u32,
 }
@@ -104,10 +104,10 @@ pub fn head_of(store: &[u32]) -> Head
     Head {
         theta: word(store, 0),
         capacity: word(store, 1),
-        nodes: word(store, 2),
-        pages: word(store, 3),
-        taken: word(store, 4),
-        filled: word(store, 5),
+        nodeBlocks: word(store, 2),
+        pageBlocks: word(store, 3),
+        nodesTaken: word(store, 4),
+        pagesTaken: word(store, 5),
         root: word(store, 6),
         levels: word(store, 7),
     }
@@ -204,19 +204,19 @@ pub fn counts_ok(f: Format, head: Head) -> bool
     requires { ⌜ (1 ≤ head .theta) × (head .theta ≤ 6) × (1 ≤ head .capacity) × (head .capacity ≤ 64) ⌝ }
     ensures { λ r. ⌜ r ≡ lawfulCounts f head ⌝ }
 {
-    if head.taken < 1 {
+    if head.nodesTaken < 1 {
         return false;
     }
-    if head.taken > head.nodes {
+    if head.nodesTaken > head.nodeBlocks {
         return false;
     }
-    if head.filled > head.pages {
+    if head.pagesTaken > head.pageBlocks {
         return false;
     }
     if head.root < 1 {
         return false;
     }
-    if head.root > head.taken {
+    if head.root > head.nodesTaken {
         return false;
     }
     if head.levels < 1 {
@@ -230,13 +230,13 @@ pub fn head_ok(store: &[u32], f: Format) -> bool
     ensures { λ r. ⌜ r ≡ headRule f (now (store .entry)) ⌝ }
 {
     let head = head_of(store);
-    if !sizes_ok(head.theta, head.capacity, head.nodes, head.pages) {
+    if !sizes_ok(head.theta, head.capacity, head.nodeBlocks, head.pageBlocks) {
         return false;
     }
     if !all_zero(store, 8, 8) {
         return false;
     }
-    if size_of(f, head.theta, head.capacity, head.nodes, head.pages) > store.len() {
+    if size_of(f, head.theta, head.capacity, head.nodeBlocks, head.pageBlocks) > store.len() {
         return false;
     }
     counts_ok(f, head)
@@ -265,7 +265,7 @@ pub fn page_start(f: Format, head: Head, p: u32) -> usize
     requires { ⌜ (head .theta ≤ 6) × (head .capacity ≤ 64) ⌝ }
     ensures { λ r. ⌜ (r ≡ pageStart f head p) × (r < 2 ^ 42) ⌝ }
 {
-    16 + wide(head.nodes) * node_words(head.theta) + from_zero(p) * page_words(f, head.capacity)
+    16 + wide(head.nodeBlocks) * node_words(head.theta) + from_zero(p) * page_words(f, head.capacity)
 }
 
 // The words of a page block, in place.

@@ -13,7 +13,7 @@ use Rattle.search.proofs.follow_from.Tie as tie
 abbrev Inv-loop : tie.InvT-loop
 Inv-loop store f head strict key first start n₀ i₀ turns₀ n i turns =
     (turns ≤ 4097) × (i < 2 ^ 40) × (depthWord store (nodeStart head n) ≤ head .theta)
-    × (follow f store head strict key turns n i ≡ follow f store head strict key (head .taken + 1) first start)
+    × (follow f store head strict key turns n i ≡ follow f store head strict key (head .nodesTaken + 1) first start)
 
 abbrev μ-loop : tie.MeasureT-loop
 μ-loop store f head strict key first start n₀ i₀ turns₀ n i turns = turns
