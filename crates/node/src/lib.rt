@@ -7,7 +7,7 @@ ghost use Rattle.store.specs.Format.{width};
 ghost use Rattle.node.specs.Node.{entryOf, sameRun, goodRuns, linkRule, pointerLow, pointerHigh, runTest, nodeRule, entryNumber};
 
 // Whether n entries of a node from entry i on are all as entry i.
-pub fn same_run(store: &[u32], at: usize, i: usize, n: usize) -> bool
+fn same_run(store: &[u32], at: usize, i: usize, n: usize) -> bool
     requires { ⌜ (at < 2 ^ 40) × (i < 2 ^ 32) × (n < 2 ^ 32) ⌝ }
     ensures { λ r. ⌜ r ≡ sameRun (entryOf (now (store .entry)) at) i n ⌝ }
 {
@@ -27,7 +27,7 @@ pub fn same_run(store: &[u32], at: usize, i: usize, n: usize) -> bool
 }
 
 // Whether the run of a node that starts at entry i is a lawful one.
-pub fn run_ok(store: &[u32], at: usize, depth: u32, low: u32, high: u32, i: usize) -> bool
+fn run_ok(store: &[u32], at: usize, depth: u32, low: u32, high: u32, i: usize) -> bool
     requires { ⌜ (at < 2 ^ 40) × (depth ≤ 6) × (i < 2 ^ 32) ⌝ }
     ensures { λ r. ⌜ r ≡ runTest depth low high (entryOf (now (store .entry)) at) i ⌝ }
 {
@@ -49,7 +49,7 @@ pub fn run_ok(store: &[u32], at: usize, depth: u32, low: u32, high: u32, i: usiz
     same_run(store, at, i, n)
 }
 
-pub fn larger(a: u32, b: u32) -> u32
+fn larger(a: u32, b: u32) -> u32
     ensures { λ r. ⌜ r ≡ max a b ⌝ }
 {
     if a < b {
@@ -59,7 +59,7 @@ pub fn larger(a: u32, b: u32) -> u32
 }
 
 // Whether the entries of a node fall into lawful runs, the largest local depth being the node's. From run to run, so linear in the entries.
-pub fn runs_ok(store: &[u32], at: usize, depth: u32, low: u32, high: u32) -> bool
+fn runs_ok(store: &[u32], at: usize, depth: u32, low: u32, high: u32) -> bool
     requires { ⌜ (at < 2 ^ 40) × (depth ≤ 6) ⌝ }
     ensures { λ r. ⌜ r ≡ goodRuns depth low high (entryOf (now (store .entry)) at) ⌝ }
 {
@@ -78,7 +78,7 @@ pub fn runs_ok(store: &[u32], at: usize, depth: u32, low: u32, high: u32) -> boo
 }
 
 // Whether the links of a node are lawful at its level.
-pub fn links_ok(head: Head, level: u32, back: u32, forward: u32) -> bool
+fn links_ok(head: Head, level: u32, back: u32, forward: u32) -> bool
     ensures { λ r. ⌜ r ≡ linkRule head level back forward ⌝ }
 {
     if level == 1 {
@@ -94,7 +94,7 @@ pub fn links_ok(head: Head, level: u32, back: u32, forward: u32) -> bool
 }
 
 // The least pointer that is lawful at a level.
-pub fn pointer_low(level: u32) -> u32
+fn pointer_low(level: u32) -> u32
     ensures { λ r. ⌜ r ≡ pointerLow level ⌝ }
 {
     if level == 1 {
@@ -104,7 +104,7 @@ pub fn pointer_low(level: u32) -> u32
 }
 
 // The largest pointer that is lawful at a level.
-pub fn pointer_high(head: Head, level: u32) -> u32
+fn pointer_high(head: Head, level: u32) -> u32
     ensures { λ r. ⌜ r ≡ pointerHigh head level ⌝ }
 {
     if level == 1 {

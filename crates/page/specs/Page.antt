@@ -2,6 +2,8 @@
 --   count pg              == how many records the page says that it has
 --   itemAt f pg i         == record number i, counted from 0
 --   keyAt f pg i          == its key
+--   itemWords f it        == the words of a record, as they stand in a page
+--   flat f its            == the words of records, one after another
 --   plotOf it             == the plot record of an item
 --   lawfulItem f it       == the record may be held
 --   ordered f pg n        == the first n records are lawful and their keys ascend
@@ -10,8 +12,8 @@
 --   above strict k x      == the key x is above k, or, if not strict, at or above it
 --   firstAbove f pg strict k == the number of the first record with such a key, or the count where there is none
 use mathlib.Core.Bool.{Bool, true, false, _&&_}
-use mathlib.Core.List.{List}
-use Prim.Native.Nat.{ℕ, zero, suc, _+_, _-_, _*_, _/_, _^_}
+use mathlib.Core.List.{List, [], _∷_, _++_}
+use Prim.Native.Nat.{ℕ, zero, suc, _+_, _-_, _*_, _/_, _%_, _^_}
 use lib.Dec.{leb, ltb, eqb}
 use Rattle.lists.specs.Lists.{every}
 use Rattle.plot.specs.declared.Record.{Record}
@@ -37,6 +39,14 @@ itemAt Plots pg i =
 
 abbrev pub keyAt : Format → List ℕ → ℕ → ℕ
 keyAt f pg i = itemAt f pg i .key
+
+-- (a plot's key is one word)
+unfoldable pub itemWords : Format → Item → List ℕ
+itemWords Plots it = it .key % 2 ^ 32 ∷ it .price ∷ it .lease ∷ it .last ∷ []
+
+unfoldable pub flat : Format → List Item → List ℕ
+flat f [] = []
+flat f (it ∷ its) = itemWords f it ++ flat f its
 
 abbrev pub plotOf : Item → Record
 plotOf it = record { key = it .key; price = it .price; lease = it .lease; last = it .last }

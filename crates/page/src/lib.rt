@@ -3,10 +3,11 @@ use plot::Record;
 use store::Format;
 use store::Item;
 ghost use mathlib.Core.Path.{_≡_};
-ghost use Prim.Native.Nat.{_+_, _/_, _^_, _≤_, _<_};
-ghost use lib.ListN.{getD};
-ghost use Rattle.store.specs.Format.{width};
-ghost use Rattle.page.specs.Page.{itemAt, lawfulItem, ordered, pageRule, agrees, above, firstAbove};
+ghost use mathlib.Core.List.{_++_};
+ghost use Prim.Native.Nat.{_+_, _/_, _%_, _^_, _≤_, _<_};
+ghost use lib.ListN.{length, getD, drop};
+ghost use Rattle.store.specs.Format.{width, words};
+ghost use Rattle.page.specs.Page.{itemAt, itemWords, lawfulItem, ordered, pageRule, agrees, above, firstAbove};
 
 // A reader stands at a record of a page.
 pub struct Reader<'a> {
@@ -20,27 +21,21 @@ pub struct Read<'a> {
     pub rest: Reader<'a>,
 }
 
-fn wide(x: u32) -> u64
-    ensures { λ r. ⌜ (r ≡ x) × (r < 2 ^ 32) ⌝ }
-{
-    x as u64
-}
-
 // How many records a page says that it has.
 pub fn count_of(page: &[u32]) -> usize
     ensures { λ r. ⌜ (r ≡ getD (now (page .entry)) 0 0) × (r < 2 ^ 32) ⌝ }
 {
-    store::wide(store::word(page, 0))
+    store::to_index(store::word(page, 0))
 }
 
 // The work of a step: record number i of a page.
-pub fn item_at(page: &[u32], f: Format, i: usize) -> Item
+fn item_at(page: &[u32], f: Format, i: usize) -> Item
     requires { ⌜ i < 2 ^ 32 ⌝ }
     ensures { λ r. ⌜ r ≡ itemAt f (now (page .entry)) i ⌝ }
 {
     match f {
         Format::Plots => Item {
-            key: wide(store::word(page, 4 * i + 1)),
+            key: store::widen(store::word(page, 4 * i + 1)),
             price: store::word(page, 4 * i + 2),
             lease: store::word(page, 4 * i + 3),
             last: store::word(page, 4 * i + 4),
@@ -49,7 +44,7 @@ pub fn item_at(page: &[u32], f: Format, i: usize) -> Item
 }
 
 // A reader that stands at a record of a page.
-pub fn open<'a>(page: &'a [u32], at: usize) -> Reader<'a>
+fn open<'a>(page: &'a [u32], at: usize) -> Reader<'a>
     ensures { λ r. ⌜ (r .page ≡ page .entry) × (r .at ≡ at) ⌝ }
 {
     Reader { page, at }
@@ -64,7 +59,7 @@ fn after(at: usize) -> usize
 }
 
 // One step: the record at the reader, and the reader at the next one.
-pub fn advance<'a>(r: Reader<'a>, f: Format) -> Read<'a>
+fn advance<'a>(r: Reader<'a>, f: Format) -> Read<'a>
     requires { ⌜ r .at < 2 ^ 32 ⌝ }
     ensures { λ q. ⌜ (q .item ≡ itemAt f (now (r .entry .page)) (r .entry .at)) × (q .rest .page ≡ r .entry .page) × (q .rest .at ≡ r .entry .at + 1) ⌝ }
 {
@@ -88,8 +83,30 @@ pub fn read_one(page: &[u32], f: Format, at: usize) -> Item
     q.item
 }
 
+// The low 32 bits of a key.
+fn low_word(x: u64) -> u32
+    ensures { λ r. ⌜ r ≡ x % 2 ^ 32 ⌝ }
+{
+    (x % 4294967296) as u32
+}
+
+// Writes a record at the front of a part.
+pub fn write_item(part: &mut [u32], f: Format, item: Item)
+    requires { ⌜ words f ≤ length (now part) ⌝ }
+    ensures { λ _. ⌜ now (part .exit) ≡ itemWords f item ++ drop (words f) (now (part .entry)) ⌝ }
+{
+    match f {
+        Format::Plots => {
+            part[0] = low_word(item.key);
+            part[1] = item.price;
+            part[2] = item.lease;
+            part[3] = item.last;
+        }
+    }
+}
+
 // Whether a record may be held.
-pub fn lawful_item(f: Format, item: Item) -> bool
+fn lawful_item(f: Format, item: Item) -> bool
     requires { ⌜ item .key < 2 ^ width f ⌝ }
     ensures { λ r. ⌜ r ≡ lawfulItem f item ⌝ }
 {
@@ -104,7 +121,7 @@ pub fn lawful_item(f: Format, item: Item) -> bool
 }
 
 // Whether the first n records are lawful and their keys ascend.
-pub fn in_order(page: &[u32], f: Format, n: usize) -> bool
+fn in_order(page: &[u32], f: Format, n: usize) -> bool
     requires { ⌜ n < 2 ^ 32 ⌝ }
     ensures { λ r. ⌜ r ≡ ordered f (now (page .entry)) n ⌝ }
 {
@@ -130,7 +147,7 @@ pub fn page_ok(page: &[u32], f: Format, capacity: u32) -> bool
     ensures { λ r. ⌜ r ≡ pageRule f capacity (now (page .entry)) ⌝ }
 {
     let n = count_of(page);
-    let c = store::wide(capacity);
+    let c = store::to_index(capacity);
     if n < 1 {
         return false;
     }
@@ -145,7 +162,7 @@ pub fn page_ok(page: &[u32], f: Format, capacity: u32) -> bool
 }
 
 // A key without its low bits.
-pub fn prefix(key: u64, low: u32) -> u64
+fn prefix(key: u64, low: u32) -> u64
     ensures { λ r. ⌜ r ≡ key / 2 ^ low ⌝ }
 {
     if low >= 64 {

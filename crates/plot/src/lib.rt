@@ -42,7 +42,7 @@ pub fn lawful_day(day: u32) -> bool
 }
 
 // Whether lease days and a last day are within their limits.
-pub fn lawful_term(lease: u32, last: u32) -> bool
+fn lawful_term(lease: u32, last: u32) -> bool
     ensures { λ r. ⌜ r ≡ lawfulTerm lease last ⌝ }
 {
     if lease == 0 {
@@ -65,7 +65,7 @@ pub fn lawful_record(record: Record) -> bool
 }
 
 // The days of a lease that are left today.
-pub fn days_left(lease: u32, last: u32, today: u32) -> u32
+fn days_left(lease: u32, last: u32, today: u32) -> u32
     ensures { λ r. ⌜ r ≡ daysLeft lease last today ⌝ }
 {
     if today >= last {

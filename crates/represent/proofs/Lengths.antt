@@ -12,8 +12,8 @@ use Rattle.store.specs.declared.Format.{Format}
 use Rattle.store.specs.declared.Item.{Item}
 use Rattle.store.specs.Format.{words}
 use Rattle.store.specs.Head.{nodeWords, pageWords}
-use Rattle.scan.specs.Range.{flat}
-use Rattle.scan.proofs.FillLaws.{length-flat}
+use Rattle.page.specs.Page.{flat}
+use Rattle.page.proofs.Flat.{length-flat}
 use Rattle.represent.specs.Image.{entryWords, nodeImage, pageImage}
 use Rattle.represent.proofs.ImageLaws.{length-entryWords}
 

@@ -28,8 +28,8 @@ use Rattle.page.proofs.Laws.{lawful-key, facts-rule, facts-agrees, first-is}
 use Rattle.search.specs.declared.Sought.{Sought}
 use Rattle.search.specs.declared.Sought.the-variants.{Record, Nothing, Damaged}
 use Rattle.search.specs.Find.{inPage, noItem}
-use Rattle.scan.specs.Range.{itemWords, flat}
-use Rattle.scan.proofs.FillLaws.{length-flat}
+use Rattle.page.specs.Page.{itemWords, flat}
+use Rattle.page.proofs.Flat.{length-flat}
 use Rattle.represent.specs.Image.{pageImage}
 use Rattle.represent.specs.Rep.{keyOf}
 use Rattle.represent.specs.Listing.{firstWhere}

@@ -17,7 +17,7 @@ use Rattle.store.specs.declared.Item.{Item}
 use Rattle.store.specs.Format.{words}
 use Rattle.store.specs.Head.{nodeWords, nodeStart}
 use Rattle.node.specs.Node.{backWord, forwardWord}
-use Rattle.scan.specs.Range.{flat}
+use Rattle.page.specs.Page.{flat}
 
 abbrev pub entryWords : List (Entry ℕ) → List ℕ
 entryWords [] = []

@@ -1,6 +1,4 @@
 -- Range. Document 01, "Reading".
---   itemWords f it       == the words of a record, as they stand in a page
---   flat f its           == the words of records, one after another
 --   Ranged               == whether no damage was met, the records to be written, and the first key not written, 0 if none
 --   rangeFrom f s h high fuel strict k room == the records from the key k to high, with room for so many
 --   ranged f s h low high room == the same from low on
@@ -10,28 +8,20 @@
 --   rangeOf f s low high out == what range replies and the output words after it
 use mathlib.Core.Bool.{Bool, true, false}
 use mathlib.Core.List.{List, [], _∷_, _++_}
-use Prim.Native.Nat.{ℕ, zero, suc, _+_, _-_, _*_, _/_, _%_, _^_}
+use Prim.Native.Nat.{ℕ, zero, suc, _+_, _-_, _*_, _/_}
 use lib.Dec.{ltb, eqb}
 use lib.ListN.{length, drop}
 use Rattle.store.specs.declared.Format.{Format}
-use Rattle.store.specs.declared.Format.the-variants.{Plots}
 use Rattle.store.specs.declared.Head.{Head}
 use Rattle.store.specs.declared.Item.{Item}
 use Rattle.store.specs.Format.{words}
 use Rattle.store.specs.Head.{headOf, headRule}
+use Rattle.page.specs.Page.{flat}
 use Rattle.search.specs.declared.Sought.the-variants.{Record, Nothing, Damaged}
 use Rattle.scan.specs.declared.Listing.{Listing}
 use Rattle.scan.specs.declared.RangeAnswer.{RangeAnswer}
 use Rattle.scan.specs.declared.RangeAnswer.the-variants.{Listed, RangeHeadBroken, LowAboveHigh, RangeDamaged}
 use Rattle.search.specs.Next.{nextOf}
-
--- (a plot's key is one word)
-unfoldable pub itemWords : Format → Item → List ℕ
-itemWords Plots it = it .key % 2 ^ 32 ∷ it .price ∷ it .lease ∷ it .last ∷ []
-
-unfoldable pub flat : Format → List Item → List ℕ
-flat f [] = []
-flat f (it ∷ its) = itemWords f it ++ flat f its
 
 pub record Ranged : Type 0 where
   pub ok : Bool

@@ -7,10 +7,11 @@ use totals::Totals;
 ghost use mathlib.Core.Path.{_≡_};
 ghost use mathlib.Core.Bool.{false};
 ghost use mathlib.Core.List.{_++_};
-ghost use Prim.Native.Nat.{_*_, _%_, _^_, _≤_, _<_};
+ghost use Prim.Native.Nat.{_*_, _^_, _≤_, _<_};
 ghost use lib.ListN.{length, drop};
 ghost use Rattle.store.specs.Format.{words};
-ghost use Rattle.scan.specs.Range.{itemWords, flat, ranged, listing, firsts, rangeReply, rangeOf};
+ghost use Rattle.page.specs.Page.{flat};
+ghost use Rattle.scan.specs.Range.{ranged, listing, firsts, rangeReply, rangeOf};
 ghost use Rattle.scan.specs.Summary.{summed, summaryReply, summaryOf};
 
 pub enum RangeAnswer {
@@ -35,7 +36,7 @@ fn outcome_of(ok: bool, count: u64, more: u64) -> Listing
 }
 
 // The outcome of a range with room for so many records; nothing is written.
-pub fn list(store: &[u32], f: Format, head: Head, low: u64, high: u64, room: u64) -> Listing
+fn list(store: &[u32], f: Format, head: Head, low: u64, high: u64, room: u64) -> Listing
     requires { ⌜ (head .theta ≤ 6) × (head .capacity ≤ 64) × (head .nodesTaken ≤ 4096) × (1 ≤ head .levels) × (head .levels ≤ 32) × (low ≤ high) ⌝ }
     ensures { λ r. ⌜ (r ≡ listing (ranged f (now (store .entry)) head low high room)) × (r .count ≤ room) ⌝ }
 {
@@ -70,30 +71,8 @@ pub fn list(store: &[u32], f: Format, head: Head, low: u64, high: u64, room: u64
     outcome_of(true, count, 0)
 }
 
-// The low 32 bits of a key.
-fn low_word(x: u64) -> u32
-    ensures { λ r. ⌜ r ≡ x % 2 ^ 32 ⌝ }
-{
-    (x % 4294967296) as u32
-}
-
-// Writes a record at the front of a part.
-pub fn write_item(part: &mut [u32], f: Format, item: Item)
-    requires { ⌜ words f ≤ length (now part) ⌝ }
-    ensures { λ _. ⌜ now (part .exit) ≡ itemWords f item ++ drop (words f) (now (part .entry)) ⌝ }
-{
-    match f {
-        Format::Plots => {
-            part[0] = low_word(item.key);
-            part[1] = item.price;
-            part[2] = item.lease;
-            part[3] = item.last;
-        }
-    }
-}
-
 // Writes the first n records at or above low.
-pub fn fill(store: &[u32], f: Format, head: Head, low: u64, n: u64, out: &mut [u32])
+fn fill(store: &[u32], f: Format, head: Head, low: u64, n: u64, out: &mut [u32])
     requires { ⌜ (head .theta ≤ 6) × (head .capacity ≤ 64) × (head .nodesTaken ≤ 4096) × (1 ≤ head .levels) × (head .levels ≤ 32) × (words f * n ≤ length (now out)) × (length (firsts f (now store) head false low n) ≡ n) ⌝ }
     ensures { λ _. ⌜ now (out .exit) ≡ flat f (firsts f (now (store .entry)) head false low n) ++ drop (words f * n) (now (out .entry)) ⌝ }
 {
@@ -106,7 +85,7 @@ pub fn fill(store: &[u32], f: Format, head: Head, low: u64, n: u64, out: &mut [u
         let a = search::next_under(store, f, head, strict, k);
         match a {
             Sought::Record(item) => {
-                write_item(&mut out[at..], f, item);
+                page::write_item(&mut out[at..], f, item);
                 k = item.key;
                 strict = true;
                 at += w;
@@ -163,7 +142,7 @@ fn summing_of(ok: bool, totals: Totals) -> Summing
 }
 
 // The totals of the records from low to high.
-pub fn sum(store: &[u32], f: Format, head: Head, low: u64, high: u64, today: u32) -> Summing
+fn sum(store: &[u32], f: Format, head: Head, low: u64, high: u64, today: u32) -> Summing
     requires { ⌜ (head .theta ≤ 6) × (head .capacity ≤ 64) × (head .nodesTaken ≤ 4096) × (1 ≤ head .levels) × (head .levels ≤ 32) × (low ≤ high) × (high < 2 ^ 32) ⌝ }
     ensures { λ r. ⌜ r ≡ summed f (now (store .entry)) head low high today ⌝ }
 {
@@ -195,12 +174,6 @@ pub fn sum(store: &[u32], f: Format, head: Head, low: u64, high: u64, today: u32
     summing_of(true, t)
 }
 
-fn wide(x: u32) -> u64
-    ensures { λ r. ⌜ (r ≡ x) × (r < 2 ^ 32) ⌝ }
-{
-    x as u64
-}
-
 // Counts the records from low to high, adds up their balances today, and names the earliest to end.
 pub fn summary(store: &[u32], f: Format, low: u32, high: u32, today: u32) -> SummaryAnswer
     ensures { λ r. ⌜ summaryReply r ≡ summaryOf f (now (store .entry)) low high today ⌝ }
@@ -218,8 +191,8 @@ pub fn summary(store: &[u32], f: Format, low: u32, high: u32, today: u32) -> Sum
         store,
         f,
         store::head_of(store),
-        wide(low),
-        wide(high),
+        store::widen(low),
+        store::widen(high),
         today,
     );
     if !r.ok {

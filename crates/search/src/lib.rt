@@ -54,7 +54,7 @@ pub enum FindAnswer {
 }
 
 // Visits node n at this level, after the used bits.
-pub fn visit_node(
+fn visit_node(
     store: &[u32],
     f: Format,
     head: Head,
@@ -112,7 +112,7 @@ fn lost_way() -> Descent
 }
 
 // The way of a key from the root down to its page.
-pub fn descend(store: &[u32], f: Format, head: Head, key: u64) -> Descent
+fn descend(store: &[u32], f: Format, head: Head, key: u64) -> Descent
     requires { ⌜ (head .theta ≤ 6) × (head .levels ≤ 32) ⌝ }
     ensures { λ r. ⌜ (r ≡ descent f (now (store .entry)) head key) × (r .used ≤ width f) ⌝ }
 {
@@ -125,7 +125,7 @@ pub fn descend(store: &[u32], f: Format, head: Head, key: u64) -> Descent
     let mut steps = [blank; 32];
     let mut node = head.root;
     let mut used: u32 = 0;
-    let mut level = store::wide(head.levels);
+    let mut level = store::to_index(head.levels);
     while level > 0 {
         let v = visit_node(store, f, head, key, level as u32, node, used);
         if !v.ok {
@@ -150,7 +150,7 @@ pub fn descend(store: &[u32], f: Format, head: Head, key: u64) -> Descent
 }
 
 // Whether the sought key's own page is sound.
-pub fn page_sound(page: &[u32], f: Format, head: Head, key: u64, used: u32) -> bool
+fn page_sound(page: &[u32], f: Format, head: Head, key: u64, used: u32) -> bool
     requires { ⌜ (head .capacity ≤ 64) × (used ≤ width f) ⌝ }
     ensures { λ r. ⌜ r ≡ soundPage f head (now (page .entry)) key used ⌝ }
 {
@@ -161,7 +161,7 @@ pub fn page_sound(page: &[u32], f: Format, head: Head, key: u64, used: u32) -> b
 }
 
 // The record with the key in a page, or none.
-pub fn find_in(page: &[u32], f: Format, key: u64) -> Sought
+fn find_in(page: &[u32], f: Format, key: u64) -> Sought
     ensures { λ r. ⌜ r ≡ inPage f (now (page .entry)) key ⌝ }
 {
     let i = page::first_above(page, f, false, key);
@@ -176,7 +176,7 @@ pub fn find_in(page: &[u32], f: Format, key: u64) -> Sought
 }
 
 // Find, in a store that keeps the head rule.
-pub fn find_under(store: &[u32], f: Format, head: Head, key: u64) -> Sought
+fn find_under(store: &[u32], f: Format, head: Head, key: u64) -> Sought
     requires { ⌜ (head .theta ≤ 6) × (head .capacity ≤ 64) × (head .levels ≤ 32) ⌝ }
     ensures { λ r. ⌜ r ≡ findOf f (now (store .entry)) head key ⌝ }
 {
@@ -195,7 +195,7 @@ pub fn find_under(store: &[u32], f: Format, head: Head, key: u64) -> Sought
 }
 
 // An answer of find or next from what was sought.
-pub fn answer_of(sought: Sought) -> FindAnswer
+fn answer_of(sought: Sought) -> FindAnswer
     ensures { λ r. ⌜ reply r ≡ soughtReply sought ⌝ }
 {
     match sought {
@@ -216,7 +216,7 @@ pub fn find(store: &[u32], f: Format, key: u64) -> FindAnswer
 }
 
 // x - y, and 0 where that is below 0.
-pub fn less(x: u32, y: u32) -> u32
+fn less(x: u32, y: u32) -> u32
     ensures { λ r. ⌜ r ≡ x - y ⌝ }
 {
     if x < y {
@@ -226,7 +226,7 @@ pub fn less(x: u32, y: u32) -> u32
 }
 
 // The first pointer of a node that is not null, from entry i on; 0 if there is none.
-pub fn first_pointer(store: &[u32], at: usize, depth: u32, start: usize) -> u32
+fn first_pointer(store: &[u32], at: usize, depth: u32, start: usize) -> u32
     requires { ⌜ (at < 2 ^ 40) × (depth ≤ 6) × (start < 2 ^ 40) ⌝ }
     ensures { λ r. ⌜ r ≡ firstPointer (now (store .entry)) at depth 64 start ⌝ }
 {
@@ -243,17 +243,17 @@ pub fn first_pointer(store: &[u32], at: usize, depth: u32, start: usize) -> u32
 }
 
 // Where the run after that of entry i starts.
-pub fn run_after(depth: u32, local: u32, i: u32) -> usize
+fn run_after(depth: u32, local: u32, i: u32) -> usize
     requires { ⌜ depth ≤ 6 ⌝ }
     ensures { λ r. ⌜ (r ≡ runAfter depth local i) × (r < 2 ^ 33) ⌝ }
 {
     let n = store::pow2(less(depth, local));
-    let at = store::wide(i);
+    let at = store::to_index(i);
     at - at % n + n
 }
 
 // What a page gives that is read after the sought key's own. Its keys ascend, so the first one speaks for all.
-pub fn visit_after(store: &[u32], f: Format, head: Head, strict: bool, key: u64, p: u32) -> Sought
+fn visit_after(store: &[u32], f: Format, head: Head, strict: bool, key: u64, p: u32) -> Sought
     requires { ⌜ (head .theta ≤ 6) × (head .capacity ≤ 64) ⌝ }
     ensures { λ r. ⌜ r ≡ visitAfter f (now (store .entry)) head strict key p ⌝ }
 {
@@ -269,7 +269,7 @@ pub fn visit_after(store: &[u32], f: Format, head: Head, strict: bool, key: u64,
 }
 
 // Whether node m, reached by a forward link, is sound and links back to n.
-pub fn is_linked(store: &[u32], head: Head, m: u32, n: u32) -> bool
+fn is_linked(store: &[u32], head: Head, m: u32, n: u32) -> bool
     requires { ⌜ head .theta ≤ 6 ⌝ }
     ensures { λ r. ⌜ r ≡ linked head (now (store .entry)) m n ⌝ }
 {
@@ -281,7 +281,7 @@ pub fn is_linked(store: &[u32], head: Head, m: u32, n: u32) -> bool
 }
 
 // The node after n, with so many links left, or an end.
-pub fn go_on(store: &[u32], head: Head, n: u32, left: u32) -> Hop
+fn go_on(store: &[u32], head: Head, n: u32, left: u32) -> Hop
     requires { ⌜ head .theta ≤ 6 ⌝ }
     ensures { λ r. ⌜ r ≡ onward head (now (store .entry)) n left ⌝ }
 {
@@ -299,7 +299,7 @@ pub fn go_on(store: &[u32], head: Head, n: u32, left: u32) -> Hop
 }
 
 // What node n gives from entry i on, with so many links left.
-pub fn hop_from(
+fn hop_from(
     store: &[u32],
     f: Format,
     head: Head,
@@ -321,7 +321,7 @@ pub fn hop_from(
 }
 
 // The answer from an entry of a node on, along the forward links.
-pub fn follow_from(
+fn follow_from(
     store: &[u32],
     f: Format,
     head: Head,
@@ -353,7 +353,7 @@ pub fn follow_from(
 }
 
 // The answer after the sought key's own run in its terminal node.
-pub fn after_own(store: &[u32], f: Format, head: Head, strict: bool, key: u64, t: Step) -> Sought
+fn after_own(store: &[u32], f: Format, head: Head, strict: bool, key: u64, t: Step) -> Sought
     requires { ⌜ (head .theta ≤ 6) × (head .capacity ≤ 64) × (head .nodesTaken ≤ 4096) × (depthWord (now store) (nodeStart head (t .node)) ≤ head .theta) ⌝ }
     ensures { λ r. ⌜ r ≡ afterOwn f (now (store .entry)) head strict key t ⌝ }
 {

@@ -58,10 +58,17 @@ pub fn words_of(f: Format) -> usize
 }
 
 // A word as an index.
-pub fn wide(x: u32) -> usize
+pub fn to_index(x: u32) -> usize
     ensures { λ r. ⌜ (r ≡ x) × (r < 2 ^ 32) ⌝ }
 {
     x as usize
+}
+
+// A word in 64 bits.
+pub fn widen(x: u32) -> u64
+    ensures { λ r. ⌜ (r ≡ x) × (r < 2 ^ 32) ⌝ }
+{
+    x as u64
 }
 
 // A word of the store, 0 past its end.
@@ -114,7 +121,7 @@ pub fn head_of(store: &[u32]) -> Head
 }
 
 // Whether θ, C, N and P are within their limits.
-pub fn sizes_ok(theta: u32, capacity: u32, nodes: u32, pages: u32) -> bool
+fn sizes_ok(theta: u32, capacity: u32, nodes: u32, pages: u32) -> bool
     ensures { λ r. ⌜ r ≡ lawfulSizes theta capacity nodes pages ⌝ }
 {
     if theta < 1 {
@@ -142,7 +149,7 @@ pub fn sizes_ok(theta: u32, capacity: u32, nodes: u32, pages: u32) -> bool
 }
 
 // The words of a node block.
-pub fn node_words(theta: u32) -> usize
+fn node_words(theta: u32) -> usize
     requires { ⌜ theta ≤ 6 ⌝ }
     ensures { λ r. ⌜ (r ≡ nodeWords theta) × (6 ≤ r) × (r ≤ 132) ⌝ }
 {
@@ -150,23 +157,23 @@ pub fn node_words(theta: u32) -> usize
 }
 
 // The words of a page block.
-pub fn page_words(f: Format, capacity: u32) -> usize
+fn page_words(f: Format, capacity: u32) -> usize
     requires { ⌜ capacity ≤ 64 ⌝ }
     ensures { λ r. ⌜ (r ≡ pageWords f capacity) × (r ≤ 257) ⌝ }
 {
-    1 + words_of(f) * wide(capacity)
+    1 + words_of(f) * to_index(capacity)
 }
 
 // The words of a store.
-pub fn size_of(f: Format, theta: u32, capacity: u32, nodes: u32, pages: u32) -> usize
+fn size_of(f: Format, theta: u32, capacity: u32, nodes: u32, pages: u32) -> usize
     requires { ⌜ (theta ≤ 6) × (capacity ≤ 64) × (nodes ≤ 4096) × (pages ≤ 4096) ⌝ }
     ensures { λ r. ⌜ (r ≡ size f theta capacity nodes pages) × (r < 2 ^ 21) ⌝ }
 {
-    16 + wide(nodes) * node_words(theta) + wide(pages) * page_words(f, capacity)
+    16 + to_index(nodes) * node_words(theta) + to_index(pages) * page_words(f, capacity)
 }
 
 // The largest f with 2^f ≤ c.
-pub fn floor_log2(c: u32) -> u32
+fn floor_log2(c: u32) -> u32
     requires { ⌜ (1 ≤ c) × (c ≤ 64) ⌝ }
     ensures { λ r. ⌜ (r ≡ log2 c) × (r ≤ 6) ⌝ }
 {
@@ -192,7 +199,7 @@ pub fn floor_log2(c: u32) -> u32
 }
 
 // The bound on the levels, document 01's L.
-pub fn level_bound(f: Format, theta: u32, capacity: u32) -> u32
+fn level_bound(f: Format, theta: u32, capacity: u32) -> u32
     requires { ⌜ (1 ≤ theta) × (theta ≤ 6) × (1 ≤ capacity) × (capacity ≤ 64) ⌝ }
     ensures { λ r. ⌜ r ≡ levelBound (width f) theta capacity ⌝ }
 {
@@ -200,7 +207,7 @@ pub fn level_bound(f: Format, theta: u32, capacity: u32) -> u32
 }
 
 // Whether the counts, the root and the levels of a head are within their limits.
-pub fn counts_ok(f: Format, head: Head) -> bool
+fn counts_ok(f: Format, head: Head) -> bool
     requires { ⌜ (1 ≤ head .theta) × (head .theta ≤ 6) × (1 ≤ head .capacity) × (head .capacity ≤ 64) ⌝ }
     ensures { λ r. ⌜ r ≡ lawfulCounts f head ⌝ }
 {
@@ -236,7 +243,15 @@ pub fn head_ok(store: &[u32], f: Format) -> bool
     if !all_zero(store, 8, 8) {
         return false;
     }
-    if size_of(f, head.theta, head.capacity, head.nodeBlocks, head.pageBlocks) > store.len() {
+    if size_of(
+        f,
+        head.theta,
+        head.capacity,
+        head.nodeBlocks,
+        head.pageBlocks,
+    )
+        > store.len()
+    {
         return false;
     }
     counts_ok(f, head)
@@ -249,7 +264,7 @@ fn from_zero(n: u32) -> usize
     if n == 0 {
         return 0;
     }
-    wide(n - 1)
+    to_index(n - 1)
 }
 
 // The first word of a node block.
@@ -261,11 +276,13 @@ pub fn node_start(head: Head, n: u32) -> usize
 }
 
 // The first word of a page block.
-pub fn page_start(f: Format, head: Head, p: u32) -> usize
+fn page_start(f: Format, head: Head, p: u32) -> usize
     requires { ⌜ (head .theta ≤ 6) × (head .capacity ≤ 64) ⌝ }
     ensures { λ r. ⌜ (r ≡ pageStart f head p) × (r < 2 ^ 42) ⌝ }
 {
-    16 + wide(head.nodeBlocks) * node_words(head.theta) + from_zero(p) * page_words(f, head.capacity)
+    16
+        + to_index(head.nodeBlocks) * node_words(head.theta)
+        + from_zero(p) * page_words(f, head.capacity)
 }
 
 // The words of a page block, in place.

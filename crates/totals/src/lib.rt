@@ -13,12 +13,6 @@ pub struct Totals {
     pub last: u32,
 }
 
-fn wide(x: u32) -> u64
-    ensures { λ r. ⌜ (r ≡ x) × (r < 2 ^ 32) ⌝ }
-{
-    x as u64
-}
-
 pub fn no_totals() -> Totals
     ensures { λ r. ⌜ r ≡ noTotals ⌝ }
 {
@@ -31,18 +25,18 @@ pub fn no_totals() -> Totals
 }
 
 // The balance of a record.
-pub fn worth_of(item: Item, today: u32) -> u64
+fn worth_of(item: Item, today: u32) -> u64
     ensures { λ r. ⌜ (r ≡ worth item today) × (r < 2 ^ 32) ⌝ }
 {
     let answer = plot::balance(item.price, item.lease, item.last, today);
     match answer {
-        BalanceAnswer::Pence(p) => wide(p),
+        BalanceAnswer::Pence(p) => store::widen(p),
         BalanceAnswer::OutsideLimits => 0,
     }
 }
 
 // Whether a record has the earliest last day so far.
-pub fn is_earlier(totals: Totals, item: Item) -> bool
+fn is_earlier(totals: Totals, item: Item) -> bool
     ensures { λ r. ⌜ r ≡ earlier totals item ⌝ }
 {
     if item.lease == 0 {
@@ -55,7 +49,7 @@ pub fn is_earlier(totals: Totals, item: Item) -> bool
 }
 
 // The work: the totals with a record added.
-pub fn updated(totals: Totals, item: Item, today: u32) -> Totals
+fn updated(totals: Totals, item: Item, today: u32) -> Totals
     requires { ⌜ Room totals ⌝ }
     ensures { λ r. ⌜ r ≡ updatedOf totals item today ⌝ }
 {
@@ -78,7 +72,7 @@ pub fn updated(totals: Totals, item: Item, today: u32) -> Totals
 }
 
 // The totals are lent, and the update is handed through.
-pub fn add(totals: &mut Totals, item: Item, today: u32)
+fn add(totals: &mut Totals, item: Item, today: u32)
     requires { ⌜ Room (now totals) ⌝ }
     ensures { λ _. ⌜ now (totals .exit) ≡ updatedOf (now (totals .entry)) item today ⌝ }
 {

@@ -29,8 +29,8 @@ add-word c = search needs
 word-requires : tie.Need-word-requires
 word-requires c κs = search needs
 
-wide-requires : tie.Need-wide-requires
-wide-requires c κs = search needs
+widen-requires : tie.Need-widen-requires
+widen-requires c κs = search needs
 
 mul-word-2 : tie.Need-mul-word-2
 mul-word-2 c = search needs
@@ -62,7 +62,7 @@ word-requires-4 c κs = search needs
 returns : tie.Need-returns
 returns c =
     plots (c .before .before .before .before .before .before .args .f) _ _
-    (c .before .before .before .wide .ensures .0 ∙ c .before .before .before .before .word .ensures)
+    (c .before .before .before .widen .ensures .0 ∙ c .before .before .before .before .word .ensures)
     (c .before .before .word2 .ensures)
     (c .before .word3 .ensures)
     (c .word4 .ensures)
@@ -74,7 +74,7 @@ item-at-spec =
     mul-word
     add-word
     word-requires
-    wide-requires
+    widen-requires
     mul-word-2
     add-word-2
     word-requires-2

@@ -48,8 +48,8 @@ module _ (w x : ℕ) (few : w ≤ 4) (fit : x ≤ 64) where
 count-of-requires : tie.Need-count-of-requires
 count-of-requires c κs = search needs
 
-wide-requires : tie.Need-wide-requires
-wide-requires c κs = search needs
+to-index-requires : tie.Need-to-index-requires
+to-index-requires c κs = search needs
 
 returns : tie.Need-returns
 returns c = broken _ _ _ (λ h. omega (arith, h .some))
@@ -83,7 +83,7 @@ all-zero-requires c κs = end _ _ (c .words-of .ensures .2) (omega arith) _ (ome
 returns-4 : tie.Need-returns-4
 returns-4 c =
     blanks _ _ _ (c .before .before .before .before .before .before .before .count-of .ensures .0)
-    (c .before .before .before .before .before .before .wide .ensures .0)
+    (c .before .before .before .before .before .before .to-index .ensures .0)
     (c .before .words-of .ensures .0)
     (omega arith)
     (omega arith)
@@ -95,7 +95,7 @@ page-ok-spec =
     tie.close
     (tie.spec
     count-of-requires
-    wide-requires
+    to-index-requires
     returns
     returns-2
     in-order-requires

@@ -9,7 +9,8 @@ use lib.ListN.{length, drop, length-append}
 use Rattle.store.specs.declared.Format.{Format}
 use Rattle.store.specs.declared.Item.{Item}
 use Rattle.store.specs.Format.{words}
-use Rattle.scan.specs.Range.{flat, firsts}
+use Rattle.page.specs.Page.{flat}
+use Rattle.scan.specs.Range.{firsts}
 use Rattle.scan.proofs.FillLaws.{firsts-none, firsts-lost, room-more, part-room, length-filled, fill-more, walk-more, walk-short, walk-end, fill-end}
 use Rattle.scan.proofs.fill.Statement.{statement}
 use Rattle.scan.proofs.fill.Tie as tie

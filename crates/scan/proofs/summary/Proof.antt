@@ -26,20 +26,20 @@ returns-3 c = summary-day _ _ _ _ _ (passed (c .before .before .before .before .
 head-of-requires : tie.Need-head-of-requires
 head-of-requires c κs = search needs
 
-wide-requires : tie.Need-wide-requires
-wide-requires c κs = search needs
+widen-requires : tie.Need-widen-requires
+widen-requires c κs = search needs
 
-wide-requires-2 : tie.Need-wide-requires-2
-wide-requires-2 c κs = search needs
+widen-requires-2 : tie.Need-widen-requires-2
+widen-requires-2 c κs = search needs
 
 sum-requires : tie.Need-sum-requires
 sum-requires c κs = let p = readable _ _ _ (c .before .before .head-of .ensures) (passed (c .before .before .before .before .before .before .before .head-ok .ensures) (c .before .before .before .before .before .before .if1 .left)) in (p .0, p .1, p .2, p .3, p .4, omega arith, omega arith)
 
 returns-4 : tie.Need-returns-4
-returns-4 c = summing-bad (c .before .before .sum .result) (not-true _ (c .if4 .taken)) ∙ summary-is _ _ _ _ _ (passed (c .before .before .before .before .before .before .before .before .before .before .head-ok .ensures) (c .before .before .before .before .before .before .before .before .before .if1 .left)) (c .before .before .before .before .before .before .before .before .if2 .left) (passed (c .before .before .before .before .before .before .before .lawful-day .ensures) (c .before .before .before .before .before .before .if3 .left)) _ (rw (c .before .before .before .before .before .head-of .ensures, c .before .before .before .before .wide .ensures .0, c .before .before .before .wide2 .ensures .0) at (c .before .before .sum .ensures))
+returns-4 c = summing-bad (c .before .before .sum .result) (not-true _ (c .if4 .taken)) ∙ summary-is _ _ _ _ _ (passed (c .before .before .before .before .before .before .before .before .before .before .head-ok .ensures) (c .before .before .before .before .before .before .before .before .before .if1 .left)) (c .before .before .before .before .before .before .before .before .if2 .left) (passed (c .before .before .before .before .before .before .before .lawful-day .ensures) (c .before .before .before .before .before .before .if3 .left)) _ (rw (c .before .before .before .before .before .head-of .ensures, c .before .before .before .before .widen .ensures .0, c .before .before .before .widen2 .ensures .0) at (c .before .before .sum .ensures))
 
 returns-5 : tie.Need-returns-5
-returns-5 c = summing-good (c .before .before .before .sum .result) (not-false _ (c .before .if4 .left)) ∙ summary-is _ _ _ _ _ (passed (c .before .before .before .before .before .before .before .before .before .before .before .head-ok .ensures) (c .before .before .before .before .before .before .before .before .before .before .if1 .left)) (c .before .before .before .before .before .before .before .before .before .if2 .left) (passed (c .before .before .before .before .before .before .before .before .lawful-day .ensures) (c .before .before .before .before .before .before .before .if3 .left)) _ (rw (c .before .before .before .before .before .before .head-of .ensures, c .before .before .before .before .before .wide .ensures .0, c .before .before .before .before .wide2 .ensures .0) at (c .before .before .before .sum .ensures))
+returns-5 c = summing-good (c .before .before .before .sum .result) (not-false _ (c .before .if4 .left)) ∙ summary-is _ _ _ _ _ (passed (c .before .before .before .before .before .before .before .before .before .before .before .head-ok .ensures) (c .before .before .before .before .before .before .before .before .before .before .if1 .left)) (c .before .before .before .before .before .before .before .before .before .if2 .left) (passed (c .before .before .before .before .before .before .before .before .lawful-day .ensures) (c .before .before .before .before .before .before .before .if3 .left)) _ (rw (c .before .before .before .before .before .before .head-of .ensures, c .before .before .before .before .before .widen .ensures .0, c .before .before .before .before .widen2 .ensures .0) at (c .before .before .before .sum .ensures))
 
 pub summary-spec : {M : Type 1} → statement M
 summary-spec =
@@ -51,8 +51,8 @@ summary-spec =
     lawful-day-requires
     returns-3
     head-of-requires
-    wide-requires
-    wide-requires-2
+    widen-requires
+    widen-requires-2
     sum-requires
     returns-4
     returns-5)

@@ -18,12 +18,12 @@ Inv-loop store f head key steps₀ node₀ used₀ level₀ steps node used leve
 abbrev μ-loop : tie.MeasureT-loop
 μ-loop store f head key steps₀ node₀ used₀ level₀ steps node used level = level
 
-wide-requires : tie.Need-wide-requires Inv-loop μ-loop
-wide-requires c κs = search needs
+to-index-requires : tie.Need-to-index-requires Inv-loop μ-loop
+to-index-requires c κs = search needs
 
 loop-holds : tie.Need-loop-holds Inv-loop μ-loop
 unfolding descent noSteps
-loop-holds c = (omega arith, omega arith, rw (c .wide .ensures .0))
+loop-holds c = (omega arith, omega arith, rw (c .to-index .ensures .0))
 
 cast-visit-node : tie.Need-cast-visit-node Inv-loop μ-loop
 cast-visit-node c = search needs
@@ -70,7 +70,7 @@ descend-spec =
     (tie.spec
     Inv-loop
     μ-loop
-    wide-requires
+    to-index-requires
     loop-holds
     cast-visit-node
     visit-node-requires

@@ -12,22 +12,22 @@ less-requires c κs = search needs
 pow2-requires : tie.Need-pow2-requires
 pow2-requires c κs = search needs
 
-wide-requires : tie.Need-wide-requires
-wide-requires c κs = search needs
+to-index-requires : tie.Need-to-index-requires
+to-index-requires c κs = search needs
 
 rem-result : tie.Need-rem-result
 rem-result c = search needs
 
 sub-result : tie.Need-sub-result
-sub-result c = omega (arith, mod-le (c .wide .result) (c .before .pow2 .result))
+sub-result c = omega (arith, mod-le (c .to-index .result) (c .before .pow2 .result))
 
 add-result : tie.Need-add-result
 add-result c = search needs
 
 returns : tie.Need-returns
-returns c = run-after-is _ _ _ _ _ _ (c .before .before .less .ensures) (c .before .pow2 .ensures .0) (c .wide .ensures .0) (c .before .pow2 .ensures .2) (omega arith)
+returns c = run-after-is _ _ _ _ _ _ (c .before .before .less .ensures) (c .before .pow2 .ensures .0) (c .to-index .ensures .0) (c .before .pow2 .ensures .2) (omega arith)
 
 pub run-after-spec : {M : Type 1} → statement M
 run-after-spec =
     tie.close
-    (tie.spec less-requires pow2-requires wide-requires rem-result sub-result add-result returns)
+    (tie.spec less-requires pow2-requires to-index-requires rem-result sub-result add-result returns)

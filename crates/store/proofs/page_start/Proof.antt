@@ -7,14 +7,14 @@ use Rattle.store.proofs.HeadLaws.{page-start-is}
 use Rattle.store.proofs.page_start.Statement.{statement}
 use Rattle.store.proofs.page_start.Tie as tie
 
-nodes : (c : tie.After-node-words) → c .before .wide .result * c .node-words .result ≤ 2 ^ 32 * 132
-nodes c = times-lt _ _ (2 ^ 32) 132 (c .before .wide .ensures .1) (c .node-words .ensures .2)
+nodes : (c : tie.After-node-words) → c .before .to-index .result * c .node-words .result ≤ 2 ^ 32 * 132
+nodes c = times-lt _ _ (2 ^ 32) 132 (c .before .to-index .ensures .1) (c .node-words .ensures .2)
 
 pages : (c : tie.After-page-words) → c .before .from-zero .result * c .page-words .result ≤ 2 ^ 32 * 257
 pages c = times-lt _ _ (2 ^ 32) 257 (c .before .from-zero .ensures .1) (c .page-words .ensures .1)
 
-wide-requires : tie.Need-wide-requires
-wide-requires c κs = search needs
+to-index-requires : tie.Need-to-index-requires
+to-index-requires c κs = search needs
 
 node-words-requires : tie.Need-node-words-requires
 node-words-requires c κs = search needs
@@ -38,13 +38,13 @@ add-result-2 : tie.Need-add-result-2
 add-result-2 c = omega (arith, nodes (c .before .before), pages c)
 
 returns : tie.Need-returns
-returns c = (page-start-is _ _ _ _ _ _ _ (c .before .before .before .wide .ensures .0) (c .before .before .node-words .ensures .0) (c .before .from-zero .ensures .0) (c .page-words .ensures .0), omega (arith, nodes (c .before .before), pages c))
+returns c = (page-start-is _ _ _ _ _ _ _ (c .before .before .before .to-index .ensures .0) (c .before .before .node-words .ensures .0) (c .before .from-zero .ensures .0) (c .page-words .ensures .0), omega (arith, nodes (c .before .before), pages c))
 
 pub page-start-spec : {M : Type 1} → statement M
 page-start-spec =
     tie.close
     (tie.spec
-    wide-requires
+    to-index-requires
     node-words-requires
     mul-result
     add-result

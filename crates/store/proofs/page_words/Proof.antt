@@ -7,14 +7,14 @@ use Rattle.store.proofs.HeadLaws.{page-words-is}
 use Rattle.store.proofs.page_words.Statement.{statement}
 use Rattle.store.proofs.page_words.Tie as tie
 
-within : (c : tie.After-wide) → c .before .words-of .result * c .wide .result ≤ 4 * 64
+within : (c : tie.After-to-index) → c .before .words-of .result * c .to-index .result ≤ 4 * 64
 within c = times-le _ _ 4 64 (c .before .words-of .ensures .2) (omega arith)
 
 words-of-requires : tie.Need-words-of-requires
 words-of-requires c κs = search needs
 
-wide-requires : tie.Need-wide-requires
-wide-requires c κs = search needs
+to-index-requires : tie.Need-to-index-requires
+to-index-requires c κs = search needs
 
 mul-result : tie.Need-mul-result
 mul-result c = omega (arith, within c)
@@ -23,8 +23,8 @@ add-result : tie.Need-add-result
 add-result c = omega (arith, within c)
 
 returns : tie.Need-returns
-returns c = (page-words-is _ _ _ _ (c .before .words-of .ensures .0) (c .wide .ensures .0), omega (arith, within c))
+returns c = (page-words-is _ _ _ _ (c .before .words-of .ensures .0) (c .to-index .ensures .0), omega (arith, within c))
 
 pub page-words-spec : {M : Type 1} → statement M
 page-words-spec =
-    tie.close (tie.spec words-of-requires wide-requires mul-result add-result returns)
+    tie.close (tie.spec words-of-requires to-index-requires mul-result add-result returns)

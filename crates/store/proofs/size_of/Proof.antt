@@ -7,14 +7,14 @@ use Rattle.store.proofs.HeadLaws.{size-is}
 use Rattle.store.proofs.size_of.Statement.{statement}
 use Rattle.store.proofs.size_of.Tie as tie
 
-nodes : (c : tie.After-node-words) → c .before .wide .result * c .node-words .result ≤ 4096 * 132
+nodes : (c : tie.After-node-words) → c .before .to-index .result * c .node-words .result ≤ 4096 * 132
 nodes c = times-le _ _ 4096 132 (omega arith) (c .node-words .ensures .2)
 
-pages : (c : tie.After-page-words) → c .before .wide2 .result * c .page-words .result ≤ 4096 * 257
+pages : (c : tie.After-page-words) → c .before .to-index2 .result * c .page-words .result ≤ 4096 * 257
 pages c = times-le _ _ 4096 257 (omega arith) (c .page-words .ensures .1)
 
-wide-requires : tie.Need-wide-requires
-wide-requires c κs = search needs
+to-index-requires : tie.Need-to-index-requires
+to-index-requires c κs = search needs
 
 node-words-requires : tie.Need-node-words-requires
 node-words-requires c κs = search needs
@@ -25,8 +25,8 @@ mul-result c = omega (arith, nodes c)
 add-result : tie.Need-add-result
 add-result c = omega (arith, nodes c)
 
-wide-requires-2 : tie.Need-wide-requires-2
-wide-requires-2 c κs = search needs
+to-index-requires-2 : tie.Need-to-index-requires-2
+to-index-requires-2 c κs = search needs
 
 page-words-requires : tie.Need-page-words-requires
 page-words-requires c κs = search needs
@@ -38,17 +38,17 @@ add-result-2 : tie.Need-add-result-2
 add-result-2 c = omega (arith, nodes (c .before .before), pages c)
 
 returns : tie.Need-returns
-returns c = (size-is _ _ _ _ _ _ _ _ _ (c .before .before .before .wide .ensures .0) (c .before .before .node-words .ensures .0) (c .before .wide2 .ensures .0) (c .page-words .ensures .0), omega (arith, nodes (c .before .before), pages c))
+returns c = (size-is _ _ _ _ _ _ _ _ _ (c .before .before .before .to-index .ensures .0) (c .before .before .node-words .ensures .0) (c .before .to-index2 .ensures .0) (c .page-words .ensures .0), omega (arith, nodes (c .before .before), pages c))
 
 pub size-of-spec : {M : Type 1} → statement M
 size-of-spec =
     tie.close
     (tie.spec
-    wide-requires
+    to-index-requires
     node-words-requires
     mul-result
     add-result
-    wide-requires-2
+    to-index-requires-2
     page-words-requires
     mul-result-2
     add-result-2

@@ -11,15 +11,15 @@ balance-requires c κs = search needs
 enum-known-answer : tie.Need-enum-known-answer
 enum-known-answer c = search needs
 
-wide-requires : tie.Need-wide-requires
-wide-requires c κs = search needs
+widen-requires : tie.Need-widen-requires
+widen-requires c κs = search needs
 
 enum-told : tie.Need-enum-told
 enum-told c = search needs
 
 returns : tie.Need-returns
 returns c = (
-  c .wide .ensures .0
+  c .widen .ensures .0
       ∙ worth-replied _ _ (c .before .before .answer .given .1) (c .before .before .before .before .balance .ensures),
   search needs,
 )
@@ -28,4 +28,4 @@ returns-2 : tie.Need-returns-2
 returns-2 c = (worth-replied _ _ (c .enum-told .given .1) (c .before .before .balance .ensures), search needs)
 
 pub worth-of-spec : {M : Type 1} → statement M
-worth-of-spec = tie.close (tie.spec balance-requires enum-known-answer wide-requires enum-told returns returns-2)
+worth-of-spec = tie.close (tie.spec balance-requires enum-known-answer widen-requires enum-told returns returns-2)

@@ -2,9 +2,9 @@
 use borrow.Author.Needs.{needs}
 use native.Mathlib.Omega.{arith}
 use lib.ListN.{length-set}
-use Rattle.scan.proofs.FillLaws.{plot-words, written}
-use Rattle.scan.proofs.write_item.Statement.{statement}
-use Rattle.scan.proofs.write_item.Tie as tie
+use Rattle.page.proofs.Flat.{plot-words, written}
+use Rattle.page.proofs.write_item.Statement.{statement}
+use Rattle.page.proofs.write_item.Tie as tie
 
 low-word-requires : tie.Need-low-word-requires
 low-word-requires c κs = search needs
