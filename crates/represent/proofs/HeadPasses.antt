@@ -28,8 +28,8 @@ use Rattle.represent.specs.Image.{nodeAt}
 use Rattle.represent.specs.Rep.{numbers, keyOf, Nodes, Links, Rep, Holds}
 use Rattle.represent.specs.Promises.{HeadPasses, LevelsAtMost, CountsAreTheTrees}
 use Rattle.represent.proofs.LabelLaws.{label-low, label-high, ind-self}
-use Rattle.represent.proofs.ListingLaws.{lawful-bounded}
 use Rattle.represent.proofs.Counting.{rep-nodes, rep-pages}
+use Rattle.represent.proofs.Keyed.{lawful-bounded}
 
 width-low : (f : Format) → 7 ≤ width f
 unfolding width

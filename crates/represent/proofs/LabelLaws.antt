@@ -10,7 +10,7 @@ use borrow.Author.Tests.{eq-eqb, ne-eqb}
 use Rattle.lists.specs.Lists.{All}
 use Rattle.tree.specs.Trie.{Trie, leaf, fork, Key, labels, leafAt, depth, rest, graft}
 use Rattle.tree.proofs.TrieLaws.{graft-leafAt}
-use Rattle.represent.specs.Labelled.{relabel, Each, ind, occ, occs, Over, under, before, after}
+use Rattle.represent.specs.Labelled.{relabel, Each, ind, occ, occs, OneForOne, Over, under, before, after}
 use Rattle.lists.proofs.AppendLaws.{all-append, append-all}
 
 pub ind-eq : (x n : ℕ) → x ≡ n → ind x n ≡ 1
@@ -208,3 +208,23 @@ over-parts P (fork l r) (fork ul ur) h = (widened l ul (λ x. omega arith) (over
     widened : (b v : Trie ℕ) → ((x : ℕ) → occ x v ≤ occ x ul + occ x ur) → Over (λ n w. P n w × ((x : ℕ) → occ x w ≤ occ x v)) b v
         → Over (λ n w. P n w × ((x : ℕ) → occ x w ≤ occ x ul + occ x ur)) b v
     widened b v i h = over-map _ _ b v (λ n w o p. (p .0, λ x. omega (arith, i x, p .1 x))) h
+
+-- the labels of the levels bs are distinct, and from 1 to m
+pub record Numbered (m : ℕ) (bs : List (Trie ℕ)) : Type 0 where
+  pub once : (x : ℕ) → occs x bs ≤ 1
+  pub none : (x : ℕ) → m < x → occs x bs ≡ 0
+  pub positive : occs 0 bs ≡ 0
+
+occs-zero : (bs : List (Trie ℕ)) (x : ℕ) → (1 ≤ x → ⊥) → occs x bs ≡ occs 0 bs
+occs-zero bs x h = let e : x ≡ 0 = omega arith in ap (λ (y : ℕ). occs y bs) e
+
+pub one-numbered : (m : ℕ) (bs : List (Trie ℕ)) → OneForOne m (λ x. occs x bs) → occs 0 bs ≡ 0 → Numbered m bs
+one-numbered m bs h z =
+    record {
+      once = λ x. elim (decLe 1 x) [
+        | yes p ↦ elim (decLe x m) [ yes q ↦ omega (arith, h .once x p q) | no q ↦ omega (arith, h .none x (omega arith)) ]
+        | no p ↦ omega (arith, z, occs-zero bs x p)
+      ];
+      none = h .none;
+      positive = z;
+    }

@@ -15,8 +15,7 @@ use Rattle.represent.specs.Labelled.{ind, occ, occs, before, after, firs
 use Rattle.represent.specs.Image.{nodeAt, NodeIs}
 use Rattle.represent.specs.Rep.{Stretch, numbers, backOf, forwardOf, Rep}
 use Rattle.represent.specs.Promises.{Neighbour, NeighbourPasses}
-use Rattle.represent.proofs.LabelLaws.{label-high, ind-eq, ind-self, labels-at, over-in}
-use Rattle.represent.proofs.CarriedLaws.{one-numbered}
+use Rattle.represent.proofs.LabelLaws.{one-numbered, label-high, ind-eq, ind-self, labels-at, over-in}
 use Rattle.represent.proofs.Chain.{count, count-labels, count-at, linked-next, linked-after, Same, linked-frame}
 use Rattle.represent.proofs.RepLaws.{rep-shown, rep-back, rep-forward}
 

@@ -28,7 +28,7 @@ use Rattle.represent.proofs.Chain.{linked-all}
 use Rattle.represent.proofs.ImageLaws.{entry-label, Shown}
 use Rattle.represent.proofs.RepLaws.{rep-shown, rep-back, rep-forward}
 use Rattle.represent.proofs.PageImage.{page-passes, page-agrees}
-use Rattle.represent.proofs.Records.{keyed-own}
+use Rattle.represent.proofs.Keyed.{keyed-own}
 
 -- pages
 module _ (f : Format) (s : List ℕ) (h : Head) where

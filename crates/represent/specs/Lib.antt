@@ -1,10 +1,5 @@
 pub mod Labelled
 pub mod Image
 pub mod Rep
-pub mod Round
-pub mod Frame
-pub mod Insertion
-pub mod Listing
-pub mod Clauses
 pub mod Example
 pub mod Promises

@@ -8,14 +8,9 @@
 --   NeighbourPasses  == the terminal's forward neighbour, if any, is another taken level-1 node that links back
 --   pathSteps W k u bs == the steps of a key through the levels bs over u, lowest first
 --   DescentVisits    == the descent with a key visits the nodes at the key, with the bits used and the local depths of the tries
---   FindReads, NextReads, RangeReads, SummaryReads == the readings are those of the ascending list
---   OwnBitsLead      == the bits of each held record's key lead to it
---   Sound n          == the answer n is neither 3 nor 9
---   NoDamage         == no reading of a store that holds a set is refused with 3 or 9
---   ClausesHold      == a store that holds a set keeps the report's five clauses
 use mathlib.Core.Path.{_≡_}
 use mathlib.Core.Bool.{true}
-use mathlib.Core.List.{List, [], _∷_, _++_, List·Memᴰ}
+use mathlib.Core.List.{List, [], _∷_, _++_}
 use Prim.Native.Nat.{ℕ, suc, _-_, _^_, _≤_, _<_}
 use lib.ListN.{length, replicate}
 use Rattle.lists.specs.Bits.{bits}
@@ -33,14 +28,8 @@ use Rattle.store.specs.SetUp.{setUp}
 use Rattle.page.specs.Page.{pageRule, agrees}
 use Rattle.search.specs.declared.Step.{Step}
 use Rattle.search.specs.Descent.{noStep, descent}
-use Rattle.search.specs.Find.{findReply}
-use Rattle.search.specs.Next.{nextReply}
-use Rattle.scan.specs.Range.{rangeOf}
-use Rattle.scan.specs.Summary.{summaryOf}
 use Rattle.represent.specs.Labelled.{Each, under}
 use Rattle.represent.specs.Rep.{Stretch, numbers, keyOf, Rep, Holds}
-use Rattle.represent.specs.Listing.{findIn, nextIn, rangeIn, summaryIn}
-use Rattle.represent.specs.Clauses.{Clauses}
 
 abbrev pub SetUpHolds : Type 0
 SetUpHolds =
@@ -116,38 +105,3 @@ DescentVisits =
       used = depth b0 (bits (width f) k);
       steps = pathSteps (width f) k (numbers b0) bs ++ replicate (32 - length bs) noStep;
     }
-
--- an answer that is neither 3 nor 9
-pub record Sound (n : ℕ) : Type 0 where
-  pub head : n ≡ 3 → ⊥
-  pub blocks : n ≡ 9 → ⊥
-
-module _ (f : Format) (s : List ℕ) (S : List Item) where
-  abbrev pub FindReads : Type 0
-  FindReads = Holds f s S → (k : ℕ) → k < 2 ^ width f → findReply f s k ≡ findIn S k
-
-  abbrev pub NextReads : Type 0
-  NextReads = Holds f s S → (k : ℕ) → k < 2 ^ width f → nextReply f s k ≡ nextIn S k
-
-  abbrev pub RangeReads : Type 0
-  RangeReads =
-      Holds f s S → (low high : ℕ) (out : List ℕ) → low < 2 ^ width f → high < 2 ^ width f → rangeOf f s low high out ≡ rangeIn f S low high out
-
-  abbrev pub SummaryReads : Type 0
-  SummaryReads =
-      Holds f s S → (low high today : ℕ) → low < 2 ^ width f → high < 2 ^ width f → summaryOf f s low high today ≡ summaryIn S low high today
-
-  abbrev pub OwnBitsLead : Type 0
-  OwnBitsLead = Holds f s S → (it : Item) → List·Memᴰ it S → findReply f s (it .key) ≡ record { number = 0; item = it }
-
-  pub record Undamaged : Type 0 where
-    pub find : (k : ℕ) → k < 2 ^ width f → Sound (findReply f s k .number)
-    pub next : (k : ℕ) → k < 2 ^ width f → Sound (nextReply f s k .number)
-    pub range : (low high : ℕ) (out : List ℕ) → low < 2 ^ width f → high < 2 ^ width f → Sound (rangeOf f s low high out .reply .number)
-    pub summary : (low high today : ℕ) → low < 2 ^ width f → high < 2 ^ width f → Sound (summaryOf f s low high today .number)
-
-  abbrev pub NoDamage : Type 0
-  NoDamage = Holds f s S → Undamaged
-
-  abbrev pub ClausesHold : Type 0
-  ClausesHold = Holds f s S → Clauses f s

@@ -1,0 +1,9 @@
+pub mod FirstLaws
+pub mod ListingLaws
+pub mod Records
+pub mod PageFirst
+pub mod Runs
+pub mod Along
+pub mod Readings
+pub mod ClauseLaws
+pub mod Promises

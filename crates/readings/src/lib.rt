@@ -1,0 +1,1 @@
+// The readings of a store that holds a set: theory only, no functions.

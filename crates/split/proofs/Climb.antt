@@ -1,0 +1,138 @@
+-- A climb gives the carried levels, and no links: by induction on the levels, with a new root above the last.
+use mathlib.Core.Path.{_≡_, refl, sym, ap, _∙_, subst}
+use mathlib.Core.List.{List, [], _∷_}
+use Prim.Native.Nat.{ℕ, suc, _-_, _≤_, _<_}
+use native.Mathlib.Omega.{arith}
+use native.Mathlib.Decide.{ℕ-discrete, decLt}
+use borrow.Author.Tests.{lt-ltb, le-ltb}
+use Rattle.tree.specs.Trie.{Trie, leaf, fork, Key, leafAt, depth, rest, graft, pair}
+use Rattle.tree.specs.Carry.{locals, bumpCost}
+use Rattle.tree.proofs.CarryLaws.{bump-slack, bump-full}
+use Rattle.represent.specs.Labelled.{occ, occs, under}
+use Rattle.represent.specs.Rep.{backOf, forwardOf, Unlinked}
+use Rattle.split.specs.Round.{NodeOps, NodeLaws, StoreOps, StoreLaws, Step, stepAt, pathOf, grown, relink, halve, newRoot, climb, carried}
+use Rattle.represent.proofs.LabelLaws.{ind-other}
+use Rattle.split.proofs.Grafts.{forked, occ-split}
+use Rattle.split.proofs.CarriedLaws.{carried-slack, carried-full}
+use Rattle.split.proofs.Blocks.{Written, top-written}
+use Rattle.split.proofs.Writes.{kept-refl, put-kept, advanced}
+use Rattle.split.proofs.Level.{is-moved, unlinked-same, unlinked-moved, written-unlinked, Plain, plain-cons, Ready, ready-low, ready-high, here-in, key-low}
+use Rattle.split.proofs.Splits.{Split, parts, Parted, parted, parted-split}
+use Rattle.split.proofs.Rise.{ClimbKeeps, grown-climbed, grown-links, lower-here, upper-here, rise}
+
+module _ (I : NodeOps) (O : StoreOps) (θ : ℕ) (s : O .S) (p : Step) (a c : ℕ) where
+  climb-room : (path : List Step) → p .depth < θ → climb I O θ s (p ∷ path) a c ≡ grown I O s p a c
+  unfolding climb
+  climb-room path h = rw (lt-ltb (p .depth) θ h, climb)
+
+  climb-full : (path : List Step) → θ ≤ p .depth
+      → climb I O θ s (p ∷ path) a c ≡ climb I O θ (halve I O s p a c) path (p .at) (suc (O .taken s))
+  unfolding climb
+  climb-full path h = rw (le-ltb (p .depth) θ h, climb)
+
+  -- a node above level 1 splits with no node behind it
+  halve-parts : halve I O s p a c ≡ parts I O s (p .at) (I .lower (O .node s (p .at)) (p .bits) a c) (I .upper (O .node s (p .at)) (p .bits) a c) 0
+  unfolding halve relink
+  halve-parts = refl
+
+module _ {θ : ℕ} {I : NodeOps} {O : StoreOps} (A : NodeLaws θ I) (B : StoreLaws θ O) where
+  open StoreOps O using (S, node, levels, taken, cap)
+
+  module _ {s : S} {k : ℕ} {u b : Trie ℕ} {bs : List (Trie ℕ)} (y : Ready θ O s k u (b ∷ bs)) (key : Key) (a c : ℕ)
+      {l r : Trie ℕ} (e : graft (under b u key) (rest b key) (pair a c) ≡ fork l r)
+      (full : θ ≤ depth u key - depth b key) (more : taken s < cap s)
+    where
+      abbrev n : ℕ
+      n = leafAt b key
+
+      abbrev s₁ : S
+      s₁ = halve I O s (stepAt u b key) a c
+
+      low : Written θ (I .lower (node s n) (rest b key) a c) (suc k) (backOf (node s) n) (forwardOf (node s) n) l
+      low = lower-here A B y key a c e full
+
+      high : Written θ (I .upper (node s n) (rest b key) a c) (suc k) (backOf (node s) n) (forwardOf (node s) n) r
+      high = upper-here A B y key a c e full
+
+      not-null : n ≡ 0 → ⊥
+      not-null i = omega (arith, key-low y key)
+
+      halve-parted : Parted I O s s₁ n (I .lower (node s n) (rest b key) a c) (I .upper (node s n) (rest b key) a c) 0
+      halve-parted =
+          rw (halve-parts I O θ s (stepAt u b key) a c)
+          (parted A B y key (low .is) (high .is) 0 not-null (λ i. absurd (i refl)) more)
+
+      halve-split : Split θ O s s₁ (suc k) b n l r
+      halve-split = parted-split A B y key (low .is) (high .is) 0 not-null (λ i. absurd (i refl)) halve-parted
+
+      halve-plain : Plain θ (node s) (b ∷ bs) → (x : ℕ) → 1 ≤ occ x (graft b key (pair n (suc (taken s)))) → Unlinked (node s₁) x
+      halve-plain f x o =
+          let g = f n (here-in y key) in
+          elim (ℕ-discrete x (suc (taken s))) [
+            | yes i ↦ subst (Unlinked (node s₁)) (sym i)
+                (written-unlinked θ _ _ (halve-parted .at-m) high (g .no-back) (g .no-forward))
+            | no i ↦ elim (ℕ-discrete x n) [
+              | yes j ↦ subst (Unlinked (node s₁)) (sym j)
+                  (written-unlinked θ _ _ (halve-parted .at-n) low (g .no-back) (g .no-forward))
+              | no j ↦
+                  let p : 1 ≤ occs x (b ∷ bs) = omega (arith, occ-split x b key (suc (taken s)), ind-other x (suc (taken s)) i) in
+                  let x≥1 = ready-low y x p in
+                  unlinked-moved θ (node s) (node s₁) x (halve-parted .off x x≥1 (ready-high y x p) j (λ z. omega (arith, x≥1))) (f x p)
+            ]
+          ]
+
+  root-climbed : 1 ≤ θ → ClimbKeeps A B []
+  unfolding climb newRoot carried bumpCost
+  root-climbed h s k u key a c y fits f =
+      let w = top-written A (suc (levels s)) a c h in
+      let p = B .put-is s (suc (taken s)) _ (suc (levels s)) (pair a c) (y .ok) (omega arith) (omega arith) (w .is) in
+      let g =
+      advanced B s _ (suc (taken s)) (suc (levels s)) (omega arith)
+      (put-kept (omega arith) (kept-refl s (y .ok)) p) in
+      let at-m : node (newRoot I O s a c) (suc (taken s)) ≡ I .top (suc (levels s)) a c =
+      g .nodes-same (suc (taken s)) (omega arith) (omega arith) ∙ p .here in (
+        record {
+          nodes = (
+            is-moved at-m (rw (y .nodes .0, ← (y .nodes .1)) (w .is)),
+            (ap leaf (sym (g .root-is)), g .levels-is ∙ ap suc (y .nodes .1)),
+          );
+          frame = λ x i t o. g .nodes-same x i (omega arith) ∙ p .elsewhere x i (omega arith) (λ j. omega arith);
+          changed = g .changed;
+        },
+        λ x o. elim (ℕ-discrete x (suc (taken s))) [
+          | yes i ↦ subst (Unlinked (node (newRoot I O s a c))) (sym i) (written-unlinked θ _ _ at-m w refl refl)
+          | no i ↦ absurd (omega (arith, ind-other x (suc (taken s)) i))
+        ],
+      )
+
+  pub climb-keeps : 1 ≤ θ → (bs : List (Trie ℕ)) → ClimbKeeps A B bs
+  climb-keeps h [] s k u key a c y fits f = root-climbed h s k u key a c y fits f
+  climb-keeps h (b ∷ bs) s k u key a c y fits f =
+      elim (decLt (depth u key - depth b key) θ) [
+        | yes small ↦
+            rw (
+              climb-room I O θ s (stepAt u b key) a c (pathOf b bs key) small,
+              carried-slack θ (taken s) u b bs key small,
+              bump-slack θ (depth u key - depth b key) (locals b bs key) small .1,
+            )
+            (grown-climbed A B y key a c small, λ x o. unlinked-same θ (node s) _ x (grown-links A B y key a c small x o) (f x o))
+        | no large ↦
+            let full : θ ≤ depth u key - depth b key = omega arith in
+            let cost = bump-full θ (depth u key - depth b key) (locals b bs key) full .1 in
+            let more : taken s < cap s = omega (arith, cost) in
+            let t = forked (under b u key) (rest b key) a c in
+            let s₁ : S = halve I O s (stepAt u b key) a c in
+            let s′ : S = climb I O θ s₁ (pathOf b bs key) (leafAt b key) (suc (taken s)) in
+            let w = halve-split y key a c (t .2) full more in
+            let z = rise A B y key a c (t .2) w (climb-keeps h bs) (omega (arith, cost)) (λ x o. f x (omega arith)) in
+            rw (
+              climb-full I O θ s (stepAt u b key) a c (pathOf b bs key) full,
+              carried-full θ (taken s) u b bs key full,
+              cost,
+            ) (
+              z .climbed,
+              plain-cons θ (node s′) (graft b key (pair (leafAt b key) (suc (taken s)))) (carried θ (suc (taken s)) b bs key)
+                  (λ x o. unlinked-moved θ (node s₁) (node s′) x (z .kept x o) (halve-plain y key a c (t .2) full more f x o))
+                  (z .plain),
+            )
+      ]

@@ -1,0 +1,15 @@
+pub mod Grafts
+pub mod CarriedLaws
+pub mod Blocks
+pub mod Writes
+pub mod Level
+pub mod Splits
+pub mod Rise
+pub mod Climb
+pub mod FirstSplit
+pub mod RoundLaws
+pub mod Frame
+pub mod Lengths
+pub mod WordStore
+pub mod PageLaws
+pub mod Stepping

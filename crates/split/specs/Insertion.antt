@@ -1,0 +1,185 @@
+-- The steps of an insertion on a store's words, and what they do to a represented store. Document 01, "Descent and splits". Pages are written as words;
+-- nodes by the operations of a round, over the words.
+--   Others, others s   == all of a store but its node blocks, root, levels and nodes taken
+--   Ok f θ s           == the store's sizes are in order, and θ is its own
+--   wordStore f θ      == a store's words as a store of nodes
+-- At the place of a key in the stretches b0:
+--   stretchAt f b0 key == the stretch that holds it
+--   leftAt, prefixAt   == how many bits are left there, and what the others are
+--   nextBit            == the number of the first that is left
+--   halfAt b f b0 key  == those of its records whose next bit is b
+--   replacedAt f b0 key c == b0 with the stretches c there
+--   Fit f C w q rs     == the records rs may be written into a page, at a place with w bits left and the prefix q
+--   putItems f C s p rs  == the words s with the records rs in page block p, where C is the capacity
+--   takeItems f C s p rs == that, and p as the number of pages taken
+--   SameSizes h h′     == the two heads have the same sizes
+--   Stepped f s s′ b0 bs == s′ stands for b0 and bs, and has the sizes of s and its words beyond them
+--   UpperKeeps, LowerKeeps, BothKeep == a full page halved: no record has the bit clear; none has it set; there are both
+--   PutKeeps, TakeKeeps == a page written anew; a page taken for a null entry
+use mathlib.Core.Path.{_≡_}
+use mathlib.Core.Bool.{Bool, true, false}
+use mathlib.Core.List.{List, [], _∷_}
+use Prim.Native.Nat.{ℕ, suc, _+_, _-_, _*_, _/_, _^_, _≤_, _<_}
+use lib.ListN.{length, drop}
+use Rattle.lists.specs.Bits.{bits}
+use Rattle.lists.specs.Lists.{All}
+use Rattle.lists.specs.Keyed.{Sorted, Prefix}
+use Rattle.tree.specs.Trie.{Trie, leaf, Key, leafAt, depth, graft, pair}
+use Rattle.tree.specs.Build.{side}
+use Rattle.tree.specs.Carry.{locals, bumpCost}
+use Rattle.store.specs.declared.Format.{Format}
+use Rattle.store.specs.declared.Head.{Head}
+use Rattle.store.specs.declared.Item.{Item}
+use Rattle.store.specs.Format.{width}
+use Rattle.store.specs.Head.{headOf, nodeWords}
+use Rattle.page.specs.Page.{lawfulItem}
+use Rattle.represent.specs.Image.{pageImage}
+use Rattle.represent.specs.Rep.{Stretch, numbers, keyOf, Rep, sizeOf, Sized}
+use Rattle.split.specs.Round.{NodeOps, NodeLaws, StoreOps, stepAt, pathOf, round, aimAt, carried}
+use Rattle.split.specs.Frame.{nodeOf, putNode, putPage, putHead, putPagesTaken}
+
+-- all but the node blocks and the three words of the head
+pub record Others : Type 0 where
+  pub theta : ℕ
+  pub capacity : ℕ
+  pub nodeBlocks : ℕ
+  pub pageBlocks : ℕ
+  pub pagesTaken : ℕ
+  -- the words behind the node blocks
+  pub behind : List ℕ
+
+-- the number of the first word behind the node blocks
+abbrev pub nodesEnd : Head → ℕ
+nodesEnd h = 16 + h .nodeBlocks * nodeWords (h .theta)
+
+abbrev pub others : List ℕ → Others
+others s =
+    record {
+      theta = headOf s .theta;
+      capacity = headOf s .capacity;
+      nodeBlocks = headOf s .nodeBlocks;
+      pageBlocks = headOf s .pageBlocks;
+      pagesTaken = headOf s .pagesTaken;
+      behind = drop (nodesEnd (headOf s)) s;
+    }
+
+pub record Ok (f : Format) (θ : ℕ) (s : List ℕ) : Type 0 where
+  pub theta : headOf s .theta ≡ θ
+  pub sized : Sized f s
+
+abbrev pub wordStore : Format → ℕ → StoreOps
+wordStore f θ =
+    record {
+      S = List ℕ;
+      Ok = Ok f θ;
+      node = nodeOf;
+      root = λ s. headOf s .root;
+      levels = λ s. headOf s .levels;
+      taken = λ s. headOf s .nodesTaken;
+      cap = λ s. headOf s .nodeBlocks;
+      R = Others;
+      others = others;
+      put = putNode;
+      head = putHead;
+    }
+
+abbrev pub stretchAt : Format → Trie Stretch → ℕ → Stretch
+stretchAt f b0 key = leafAt b0 (bits (width f) key)
+
+abbrev pub leftAt : Format → Trie Stretch → ℕ → ℕ
+leftAt f b0 key = width f - depth b0 (bits (width f) key)
+
+abbrev pub prefixAt : Format → Trie Stretch → ℕ → ℕ
+prefixAt f b0 key = key / 2 ^ leftAt f b0 key
+
+abbrev pub nextBit : Format → Trie Stretch → ℕ → ℕ
+nextBit f b0 key = width f - suc (depth b0 (bits (width f) key))
+
+abbrev pub halfAt : Bool → Format → Trie Stretch → ℕ → List Item
+halfAt b f b0 key = side keyOf b (nextBit f b0 key) (stretchAt f b0 key .1)
+
+abbrev pub replacedAt : Format → Trie Stretch → ℕ → Trie Stretch → Trie Stretch
+replacedAt f b0 key c = graft b0 (bits (width f) key) c
+
+pub record Fit (f : Format) (C w q : ℕ) (rs : List Item) : Type 0 where
+  pub some : 1 ≤ length rs
+  pub fits : length rs ≤ C
+  pub lawful : All (λ it. lawfulItem f it ≡ true) rs
+  pub sorted : Sorted keyOf rs
+  pub prefix : Prefix keyOf w q rs
+
+abbrev pub putItems : Format → ℕ → List ℕ → ℕ → List Item → List ℕ
+putItems f C s p rs = putPage f s p (pageImage f C rs)
+
+abbrev pub takeItems : Format → ℕ → List ℕ → ℕ → List Item → List ℕ
+takeItems f C s p rs = putPagesTaken (putItems f C s p rs) p
+
+pub record SameSizes (h h′ : Head) : Type 0 where
+  pub theta : h′ .theta ≡ h .theta
+  pub capacity : h′ .capacity ≡ h .capacity
+  pub nodes : h′ .nodeBlocks ≡ h .nodeBlocks
+  pub pages : h′ .pageBlocks ≡ h .pageBlocks
+
+pub record Stepped (f : Format) (s s′ : List ℕ) (b0 : Trie Stretch) (bs : List (Trie ℕ)) : Type 0 where
+  pub rep : Rep f s′ b0 bs
+  pub sizes-same : SameSizes (headOf s) (headOf s′)
+  pub beyond : drop (sizeOf f s) s′ ≡ drop (sizeOf f s) s
+
+module _ (f : Format) (I : NodeOps) (s : List ℕ) (b0 : Trie Stretch) (bs : List (Trie ℕ)) (key : ℕ) where
+  abbrev k : Key
+  k = bits (width f) key
+
+  abbrev own : Stretch
+  own = stretchAt f b0 key
+
+  -- the round at the key, on the words t
+  abbrev rounded : List ℕ → ℕ → ℕ → List ℕ
+  rounded t a c = round I (wordStore f (headOf s .theta)) (headOf s .theta) t (pathOf (numbers b0) bs k) a c
+
+  abbrev levelsAfter : List (Trie ℕ)
+  levelsAfter = carried (headOf s .theta) (headOf s .nodesTaken) (numbers b0) bs k
+
+  -- the place has a bit left, and there are node blocks for the climb
+  pub record Roomy : Type 0 where
+    pub laws : NodeLaws (headOf s .theta) I
+    pub rep : Rep f s b0 bs
+    pub narrow : key < 2 ^ width f
+    pub deep : depth b0 k < width f
+    pub room : headOf s .nodesTaken + bumpCost (headOf s .theta) (locals (numbers b0) bs k) ≤ headOf s .nodeBlocks
+
+  -- "At a full page: halve it on the next bit and try again. The zero half keeps the page, and the other takes a new one. An empty half becomes
+  -- null, and the other half keeps the page."
+  abbrev pub UpperKeeps : Type 0
+  UpperKeeps = Roomy → halfAt false f b0 key ≡ [] → Stepped f s (rounded s 0 (own .0)) (replacedAt f b0 key (pair (0, []) own)) levelsAfter
+
+  abbrev pub LowerKeeps : Type 0
+  LowerKeeps = Roomy → halfAt true f b0 key ≡ [] → Stepped f s (rounded s (own .0) 0) (replacedAt f b0 key (pair own (0, []))) levelsAfter
+
+  abbrev pub BothKeep : Type 0
+  BothKeep =
+      let C : ℕ = headOf s .capacity in
+      let m : ℕ = suc (headOf s .pagesTaken) in
+      let low : List Item = halfAt false f b0 key in
+      let high : List Item = halfAt true f b0 key in
+      Roomy → m ≤ headOf s .pageBlocks → 1 ≤ length low → 1 ≤ length high
+      → Stepped f s (rounded (takeItems f C (putItems f C s (own .0) low) m high) (own .0) m)
+      (replacedAt f b0 key (pair (own .0, low) (m, high))) levelsAfter
+
+-- "At a page below C: put the record in order."
+module _ (f : Format) (s : List ℕ) (b0 : Trie Stretch) (bs : List (Trie ℕ)) (key : ℕ) where
+  abbrev pub PutKeeps : Type 0
+  PutKeeps =
+      let n : ℕ = stretchAt f b0 key .0 in
+      (rs : List Item) → Rep f s b0 bs → key < 2 ^ width f → 1 ≤ n → Fit f (headOf s .capacity) (leftAt f b0 key) (prefixAt f b0 key) rs
+      → Stepped f s (putItems f (headOf s .capacity) s n rs) (replacedAt f b0 key (leaf (n, rs))) bs
+
+-- "Enter, at a null entry: take a page for the whole run."
+module _ (f : Format) (I : NodeOps) (s : List ℕ) (b0 : Trie Stretch) (b : Trie ℕ) (bs : List (Trie ℕ)) (key : ℕ) where
+  abbrev pub TakeKeeps : Type 0
+  TakeKeeps =
+      let m : ℕ = suc (headOf s .pagesTaken) in
+      (rs : List Item) → NodeLaws (headOf s .theta) I → Rep f s b0 (b ∷ bs) → key < 2 ^ width f → stretchAt f b0 key .0 ≡ 0 → m ≤ headOf s .pageBlocks
+      → Fit f (headOf s .capacity) (leftAt f b0 key) (prefixAt f b0 key) rs
+      → Stepped f s
+      (aimAt I (wordStore f (headOf s .theta)) (takeItems f (headOf s .capacity) s m rs) (stepAt (numbers b0) b (bits (width f) key)) m)
+      (replacedAt f b0 key (leaf (m, rs))) (b ∷ bs)

@@ -1,0 +1,233 @@
+-- One round on the directory of a store: the run at a key is halved, at every level that has to follow. It is written over operations on node
+-- blocks and on stores, of which only their laws are known.
+--   NodeOps            == operations on node blocks, by value
+--   NodeLaws θ I       == what they make of the block of a node
+--   StoreOps           == a store: its head, its node blocks, all else, and how to write them
+--   Put, Headed        == what writing a node block, and writing the head, comes to
+--   StoreLaws θ O      == that the operations come to this
+--   Changed s s′ more  == s′ is s with so many nodes more taken, and the same outside its nodes
+--   Rounded            == the same, and s′ has a directory
+--   Step               == a node on the way of a key, the bits of the key that are left there, and the local depth of its run
+--   stepAt u b k       == the step of the key k at the level b over u; pathOf u bs k: at the levels bs over u, lowest first
+--   two, relink, advance == two blocks written, the second at the next unused number; a back link; the head with one node more taken
+--   grown, halve, halveFirst, newRoot == one level of a climb: the node has room; it splits; it splits at level 1; a root is put above
+--   climb θ s path a c == the runs of a path halved, a and c the pointers of the lowest two halves, as far up as nodes split
+--   round θ s path a c == the same from level 1
+--   turned θ k m path  == the path of the key k after that, where the numbers up to m are taken
+--   aimAt s p q        == the run at the step p points to q
+--   carried θ m u bs k == the levels bs over u after u's stretch at the key is halved, where the numbers up to m are taken
+--   RoundCarries, AimKeeps == a round, and another pointer at the key, keep the directory
+use mathlib.Core.Path.{_≡_}
+use mathlib.Core.Bool.{true, false}
+use mathlib.Core.List.{List, [], _∷_}
+use Prim.Native.Nat.{ℕ, suc, _+_, _-_, _≤_, _<_}
+use lib.Dec.{ltb, eqb}
+use Rattle.tree.specs.Trie.{Trie, leaf, fork, Key, height, leafAt, depth, rest, graft, pair}
+use Rattle.tree.specs.Carry.{locals, bumpCost}
+use Rattle.node.specs.Node.{backWord, forwardWord}
+use Rattle.represent.specs.Image.{nodeImage, NodeIs}
+use Rattle.represent.specs.Rep.{Directory}
+
+-- A block is a list of words; a key is the bits that are left at the node.
+pub record NodeOps : Type 0 where
+  -- the run at the key halved, with two pointers
+  pub grow : List ℕ → Key → ℕ → ℕ → List ℕ
+  -- the two halves of a split node, in which the run at the key is halved
+  pub lower : List ℕ → Key → ℕ → ℕ → List ℕ
+  pub upper : List ℕ → Key → ℕ → ℕ → List ℕ
+  -- another pointer at the key; other links
+  pub aim : List ℕ → Key → ℕ → List ℕ
+  pub linked : List ℕ → ℕ → ℕ → List ℕ
+  -- a root at a level, with two pointers
+  pub top : ℕ → ℕ → ℕ → List ℕ
+
+module _ (θ : ℕ) (I : NodeOps) where
+  pub record NodeLaws : Type 0 where
+    -- "A run at h = H < θ first doubles the node."
+    pub grow-is : (level back forward : ℕ) (v : Trie ℕ) (k : Key) (a c : ℕ) → height v ≤ θ → depth v k < θ
+        → I .grow (nodeImage θ level back forward v) k a c ≡ nodeImage θ level back forward (graft v k (pair a c))
+    -- "At h = H = θ the node first splits on its first bit: every h falls by one, .. both shrink H to their largest h"
+    pub lower-is : (level back forward : ℕ) (v l r : Trie ℕ) (k : Key) (a c : ℕ) → height v ≤ θ → θ ≤ depth v k → graft v k (pair a c) ≡ fork l r
+        → I .lower (nodeImage θ level back forward v) k a c ≡ nodeImage θ level back forward l
+    pub upper-is : (level back forward : ℕ) (v l r : Trie ℕ) (k : Key) (a c : ℕ) → height v ≤ θ → θ ≤ depth v k → graft v k (pair a c) ≡ fork l r
+        → I .upper (nodeImage θ level back forward v) k a c ≡ nodeImage θ level back forward r
+    pub aim-is : (level back forward : ℕ) (v : Trie ℕ) (k : Key) (q : ℕ) → height v ≤ θ
+        → I .aim (nodeImage θ level back forward v) k q ≡ nodeImage θ level back forward (graft v k (leaf q))
+    pub linked-is : (level back forward p q : ℕ) (v : Trie ℕ) → height v ≤ θ
+        → I .linked (nodeImage θ level back forward v) p q ≡ nodeImage θ level p q v
+    -- "a new root with two entries of h = 1"
+    pub top-is : (level a c : ℕ) → I .top level a c ≡ nodeImage θ level 0 0 (pair a c)
+
+pub record StoreOps : Type 1 where
+  pub S : Type 0
+  pub Ok : S → Type 0
+  -- the words of node block n; of the head: root, levels, taken nodes; the number of node blocks
+  pub node : S → ℕ → List ℕ
+  pub root : S → ℕ
+  pub levels : S → ℕ
+  pub taken : S → ℕ
+  pub cap : S → ℕ
+  -- all that is neither head nor node: the pages
+  pub R : Type 0
+  pub others : S → R
+  pub put : S → ℕ → List ℕ → S
+  pub head : S → ℕ → ℕ → ℕ → S
+
+module _ (O : StoreOps) where
+  open StoreOps O using (S, Ok, node, root, levels, taken, cap, others)
+
+  pub record Put (s s′ : S) (n : ℕ) (ws : List ℕ) : Type 0 where
+    pub ok : Ok s′
+    pub here : node s′ n ≡ ws
+    pub elsewhere : (x : ℕ) → 1 ≤ x → x ≤ cap s → (x ≡ n → ⊥) → node s′ x ≡ node s x
+    pub root-same : root s′ ≡ root s
+    pub levels-same : levels s′ ≡ levels s
+    pub taken-same : taken s′ ≡ taken s
+    pub cap-same : cap s′ ≡ cap s
+    pub others-same : others s′ ≡ others s
+
+  pub record Headed (s s′ : S) (r l t : ℕ) : Type 0 where
+    pub ok : Ok s′
+    pub root-is : root s′ ≡ r
+    pub levels-is : levels s′ ≡ l
+    pub taken-is : taken s′ ≡ t
+    pub nodes-same : (x : ℕ) → 1 ≤ x → x ≤ cap s → node s′ x ≡ node s x
+    pub cap-same : cap s′ ≡ cap s
+    pub others-same : others s′ ≡ others s
+
+  pub record Changed (s s′ : S) (more : ℕ) : Type 0 where
+    pub ok : Ok s′
+    pub now : taken s′ ≡ taken s + more
+    pub cap-same : cap s′ ≡ cap s
+    pub others-same : others s′ ≡ others s
+    pub fresh : (x : ℕ) → taken s′ < x → x ≤ cap s → node s′ x ≡ node s x
+
+module _ (θ : ℕ) (O : StoreOps) where
+  open StoreOps O using (S, Ok, node, root, levels, taken, cap, put, head)
+
+  pub record StoreLaws : Type 0 where
+    pub put-is : (s : S) (n : ℕ) (ws : List ℕ) (level : ℕ) (v : Trie ℕ) → Ok s → 1 ≤ n → n ≤ cap s → NodeIs θ ws level v → Put O s (put s n ws) n ws
+    pub head-is : (s : S) (r l t : ℕ) → Ok s → t ≤ cap s → Headed O s (head s r l t) r l t
+
+  pub record Rounded (s s′ : S) (more : ℕ) (u : Trie ℕ) (bs : List (Trie ℕ)) : Type 0 where
+    pub directory : Directory θ (node s′) (root s′) (levels s′) (taken s′) u bs
+    pub changed : Changed O s s′ more
+
+pub record Step : Type 0 where
+  pub at : ℕ
+  pub bits : Key
+  pub depth : ℕ
+
+abbrev pub stepAt : Trie ℕ → Trie ℕ → Key → Step
+stepAt u b k = record { at = leafAt b k; bits = rest b k; depth = depth u k - depth b k }
+
+abbrev pub pathOf : Trie ℕ → List (Trie ℕ) → Key → List Step
+pathOf u [] k = []
+pathOf u (b ∷ bs) k = stepAt u b k ∷ pathOf b bs k
+
+-- the label at the bits in a fork of two leaves, and the bits that are left there
+abbrev pub chosen : Key → ℕ → ℕ → ℕ
+chosen k x y = leafAt (pair x y) k
+
+abbrev pub onward : Key → Key
+onward [] = []
+onward (b ∷ k) = k
+
+-- A run with room is halved where it stands: one bit more. A run at θ stays at θ: its node is split, and the half that the key is in takes up the
+-- node's first bit. Above a split root stands the new one.
+unfoldable pub turned : ℕ → Key → ℕ → List Step → List Step
+turned θ k m [] = record { at = suc m; bits = k; depth = 1 } ∷ []
+turned θ k m (p ∷ path) =
+    elim (ltb (p .depth) θ) [
+      | true ↦ record { at = p .at; bits = p .bits; depth = suc (p .depth) } ∷ path
+      | false ↦ record { at = chosen (p .bits) (p .at) (suc m); bits = onward (p .bits); depth = θ } ∷ turned θ k (suc m) path
+    ]
+
+module _ (O : StoreOps) where
+  open StoreOps O using (S, root, levels, taken, put, head)
+
+  -- "the left half keeps its number, the right takes a new node", "New blocks get the next unused number and are written whole"
+  unfoldable pub two : S → ℕ → List ℕ → List ℕ → S
+  two s n ws ws′ = put (put s n ws) (suc (taken s)) ws′
+
+  -- the head of s with one node more taken, on the blocks of s′
+  abbrev pub advance : S → S → S
+  advance s s′ = head s′ (root s) (levels s) (suc (taken s))
+
+module _ (I : NodeOps) (O : StoreOps) where
+  open NodeOps I using (grow, lower, upper, aim, linked, top)
+  open StoreOps O using (S, node, levels, taken, put, head)
+
+  unfoldable pub grown : S → Step → ℕ → ℕ → S
+  grown s p a c = put s (p .at) (grow (node s (p .at)) (p .bits) a c)
+
+  unfoldable pub halve : S → Step → ℕ → ℕ → S
+  halve s p a c = advance O s (two O s (p .at) (lower (node s (p .at)) (p .bits) a c) (upper (node s (p .at)) (p .bits) a c))
+
+  -- the node q, if there is one, is linked back to m
+  unfoldable pub relink : S → ℕ → ℕ → S
+  relink s q m = elim (eqb q 0) [ true ↦ s | false ↦ put s q (linked (node s q) m (forwardWord (node s q) 0)) ]
+
+  -- "Level-1 nodes are linked both ways in key order": the right half stands between the left one and the node that was behind it
+  unfoldable pub halveFirst : S → Step → ℕ → ℕ → S
+  halveFirst s p a c =
+      let ws : List ℕ = node s (p .at) in
+      let m : ℕ = suc (taken s) in
+      advance O s
+      (relink
+      (two O s (p .at) (linked (lower ws (p .bits) a c) (backWord ws 0) m) (linked (upper ws (p .bits) a c) (p .at) (forwardWord ws 0)))
+      (forwardWord ws 0)
+      m)
+
+  -- "A split root gets a new root with two entries of h = 1."
+  unfoldable pub newRoot : S → ℕ → ℕ → S
+  newRoot s a c = head (put s (suc (taken s)) (top (suc (levels s)) a c)) (suc (taken s)) (suc (levels s)) (suc (taken s))
+
+  -- "the parent's run is halved by the same rule", "in a climb, lower levels take first"
+  -- (whether a run has room is said by the path: nothing is read again that the descent has read)
+  unfoldable pub climb : ℕ → S → List Step → ℕ → ℕ → S
+  climb θ s [] a c = newRoot s a c
+  climb θ s (p ∷ path) a c =
+      elim (ltb (p .depth) θ) [
+        | true ↦ grown s p a c
+        | false ↦ climb θ (halve s p a c) path (p .at) (suc (taken s))
+      ]
+
+  unfoldable pub round : ℕ → S → List Step → ℕ → ℕ → S
+  round θ s [] a c = s
+  round θ s (p ∷ path) a c =
+      elim (ltb (p .depth) θ) [
+        | true ↦ grown s p a c
+        | false ↦ climb θ (halveFirst s p a c) path (p .at) (suc (taken s))
+      ]
+
+  unfoldable pub aimAt : S → Step → ℕ → S
+  aimAt s p q = put s (p .at) (aim (node s (p .at)) (p .bits) q)
+
+-- `carry` of crate tree, with the nodes' numbers
+unfoldable pub carried : ℕ → ℕ → Trie ℕ → List (Trie ℕ) → Key → List (Trie ℕ)
+carried θ m u [] k = leaf (suc m) ∷ []
+carried θ m u (b ∷ bs) k =
+    elim (ltb (depth u k - depth b k) θ) [
+      | true ↦ b ∷ bs
+      | false ↦ graft b k (pair (leafAt b k) (suc m)) ∷ carried θ (suc m) b bs k
+    ]
+
+module _ (θ : ℕ) (I : NodeOps) (O : StoreOps) where
+  open StoreOps O using (S, Ok, node, root, levels, taken, cap)
+
+  -- "At a full page: halve it on the next bit": the stretch at the key becomes two, with the pointers a and c. Blocks not taken stay.
+  abbrev pub RoundCarries : Type 0
+  RoundCarries =
+      NodeLaws θ I → StoreLaws θ O → 1 ≤ θ
+      → (s : S) (u : Trie ℕ) (bs : List (Trie ℕ)) (key : Key) (a c : ℕ)
+      → Ok s → Directory θ (node s) (root s) (levels s) (taken s) u bs → taken s + bumpCost θ (locals u bs key) ≤ cap s
+      → Rounded θ O s (round I O θ s (pathOf u bs key) a c) (bumpCost θ (locals u bs key)) (graft u key (pair a c)) (carried θ (taken s) u bs key)
+
+  -- "Enter, at a null entry: take a page for the whole run."
+  abbrev pub AimKeeps : Type 0
+  AimKeeps =
+      NodeLaws θ I → StoreLaws θ O
+      → (s : S) (u b : Trie ℕ) (bs : List (Trie ℕ)) (key : Key) (q : ℕ)
+      → Ok s → taken s ≤ cap s → Directory θ (node s) (root s) (levels s) (taken s) u (b ∷ bs)
+      → Rounded θ O s (aimAt I O s (stepAt u b key) q) 0 (graft u key (leaf q)) (b ∷ bs)
