@@ -1,15 +1,17 @@
 -- Tests over a range of numbers, and conjunctions of tests, as facts.
-use mathlib.Core.Path.{_≡_, refl, sym, ap, _∙_, subst}
+use mathlib.Core.Path.{_≡_, refl, sym, ap, ap₂, _∙_, subst}
 use mathlib.Core.Bool.{Bool, true, false, not, _&&_, false≢true}
-use mathlib.Core.List.{[], _∷_, _++_}
+use mathlib.Core.List.{List, [], _∷_, _++_}
 use Prim.Native.Nat.{ℕ, zero, suc, _+_, _-_, _≤_, _<_, max}
 use native.Mathlib.Decide.{decLt}
 use native.Mathlib.Numerals.{add-one}
 use native.Mathlib.Omega.{arith}
 use lib.ListN.{length, getD}
+use lib.Seq.{ext-getD}
+use native.Mathlib.Nat.{zero-add}
 use lib.Dec.{ltb}
 use borrow.Author.Tests.{not-true, not-false, ltb-true, lt-ltb}
-use Rattle.lists.specs.Lists.{every, greatest, tab}
+use Rattle.lists.specs.Lists.{All, every, greatest, tab}
 
 pub and-true : (a b : Bool) → (a && b) ≡ true → (a ≡ true) × (b ≡ true)
 and-true true b e = (refl, e)
@@ -123,6 +125,11 @@ unfolding greatest
 greatest-first zero f = omega arith
 greatest-first (suc n) f = omega (arith, greatest-first n f)
 
+pub greatest-ext : (n : ℕ) (f g : ℕ → ℕ) → ((k : ℕ) → k < n → f k ≡ g k) → greatest n f ≡ greatest n g
+unfolding greatest
+greatest-ext zero f g h = refl
+greatest-ext (suc n) f g h = ap₂ max (greatest-ext n f g (λ k q. h k (omega arith))) (h n (omega arith))
+
 pub length-tab : {A : Type 0} (n : ℕ) (f : ℕ → A) → length (tab n f) ≡ n
 unfolding tab
 length-tab zero f = refl
@@ -144,3 +151,25 @@ pub tab-last : {A : Type 0} (n : ℕ) (f : ℕ → A) → tab (suc n) f ≡ tab 
 unfolding tab
 tab-last zero f = refl
 tab-last (suc n) f = ap (λ l. f 0 ∷ l) (tab-last n (λ i. f (suc i)))
+
+-- lists made of their elements
+pub tab-of : {A : Type 0} (z : A) (n : ℕ) (f : ℕ → A) (xs : List A) → length xs ≡ n → ((i : ℕ) → i < n → f i ≡ getD xs i z) → tab n f ≡ xs
+tab-of z n f xs l e =
+    ext-getD z (tab n f) xs (length-tab n f ∙ sym l)
+    (λ i h. let q : i < n = omega (arith, length-tab n f) in getD-tab n f i z q ∙ e i q)
+
+pub all-tab : {A : Type 0} (P : A → Type 0) (n : ℕ) (g : ℕ → A) → ((i : ℕ) → i < n → P (g i)) → All P (tab n g)
+unfolding tab
+all-tab P zero g a = tt
+all-tab P (suc n) g a = (a 0 (omega arith), all-tab P n (λ i. g (suc i)) (λ i q. a (suc i) (omega arith)))
+
+pub tab-append : {A : Type 0} (m n : ℕ) (f : ℕ → A) → tab (m + n) f ≡ tab m f ++ tab n (λ i. f (m + i))
+unfolding tab
+tab-append zero n f = ap (λ k. tab k f) (zero-add n) ∙ tab-ext n f (λ i. f (0 + i)) (λ i h. ap f (sym (zero-add i)))
+tab-append (suc m) n f =
+    let e : suc m + n ≡ suc (m + n) = omega arith in
+    ap (λ k. tab k f) e
+    ∙ ap (λ l. f 0 ∷ l) (tab-append m n (λ i. f (suc i)) ∙ ap (λ l. tab m (λ i. f (suc i)) ++ l) (tab-ext n _ _ (λ i h. ap f (shift m i))))
+  where
+    shift : (m i : ℕ) → suc (m + i) ≡ suc m + i
+    shift m i = omega arith

@@ -22,6 +22,7 @@ use mathlib.Core.Bool.{true, false}
 use mathlib.Core.List.{List, [], _∷_}
 use Prim.Native.Nat.{ℕ, suc, _+_, _-_, _≤_, _<_}
 use lib.Dec.{ltb, eqb}
+use lib.ListN.{drop}
 use Rattle.tree.specs.Trie.{Trie, leaf, fork, Key, height, leafAt, depth, rest, graft, pair}
 use Rattle.tree.specs.Carry.{locals, bumpCost}
 use Rattle.node.specs.Node.{backWord, forwardWord}
@@ -125,13 +126,9 @@ abbrev pub pathOf : Trie ℕ → List (Trie ℕ) → Key → List Step
 pathOf u [] k = []
 pathOf u (b ∷ bs) k = stepAt u b k ∷ pathOf b bs k
 
--- the label at the bits in a fork of two leaves, and the bits that are left there
+-- the label at the bits in a fork of two leaves
 abbrev pub chosen : Key → ℕ → ℕ → ℕ
 chosen k x y = leafAt (pair x y) k
-
-abbrev pub onward : Key → Key
-onward [] = []
-onward (b ∷ k) = k
 
 -- A run with room is halved where it stands: one bit more. A run at θ stays at θ: its node is split, and the half that the key is in takes up the
 -- node's first bit. Above a split root stands the new one.
@@ -140,7 +137,7 @@ turned θ k m [] = record { at = suc m; bits = k; depth = 1 } ∷ []
 turned θ k m (p ∷ path) =
     elim (ltb (p .depth) θ) [
       | true ↦ record { at = p .at; bits = p .bits; depth = suc (p .depth) } ∷ path
-      | false ↦ record { at = chosen (p .bits) (p .at) (suc m); bits = onward (p .bits); depth = θ } ∷ turned θ k (suc m) path
+      | false ↦ record { at = chosen (p .bits) (p .at) (suc m); bits = drop 1 (p .bits); depth = θ } ∷ turned θ k (suc m) path
     ]
 
 module _ (O : StoreOps) where

@@ -2,15 +2,15 @@
 -- up; a level that stays tall is the cut, so the carried tower is the tower.
 use mathlib.Core.Path.{_≡_, refl, sym, ap, ap₂, _∙_}
 use mathlib.Core.Bool.{true, false}
-use mathlib.Core.List.{List, [], _∷_}
+use mathlib.Core.List.{List, [], _∷_, map}
 use Prim.Native.Nat.{ℕ, zero, suc, _+_, _-_, _≤_, _<_}
 use native.Mathlib.Decide.{decLt}
 use native.Mathlib.Omega.{arith}
 use borrow.Author.Tests.{lt-ltb, le-ltb}
-use Rattle.tree.specs.Trie.{leaf, fork, Shape, tip, Key, height, depth, pair, split}
+use Rattle.tree.specs.Trie.{Trie, leaf, fork, Shape, tip, Key, shape, height, depth, pair, split}
 use Rattle.tree.specs.Tower.{tower, allLeaves, nodes, Tall, IsFork, Topped, Canonical}
 use Rattle.tree.specs.Carry.{locals, carry, bump, bumpCost, splits, bumps, bumpCosts}
-use Rattle.tree.proofs.TrieLaws.{depth-le-height, height-split, depth-split, leaves-graft}
+use Rattle.tree.proofs.TrieLaws.{depth-le-height, depth-shape, height-split, depth-split, leaves-graft}
 use Rattle.tree.proofs.TowerLaws.{tower-canonical, tower-unique}
 
 pub tall-depth : (θ : ℕ) (b t : Shape) (k : Key) → Tall θ b t → (depth b k ≤ depth t k) × (depth t k ≤ depth b k + θ)
@@ -170,3 +170,8 @@ halvings θ (suc d) t k h =
       local = m .local ∙ ap (bumps d θ) (o .local);
       cost = rw (← (o .local)) (omega (arith, m .cost, o .cost));
     }
+
+-- local depths do not depend on labels
+pub locals-shape : {A : Type 0} (u : Trie A) (bs : List (Trie A)) (k : Key) → locals (shape u) (map shape bs) k ≡ locals u bs k
+locals-shape u [] k = refl
+locals-shape u (b ∷ bs) k = ap₂ (λ h hs. h ∷ hs) (ap₂ _-_ (depth-shape u k) (depth-shape b k)) (locals-shape b bs k)

@@ -8,6 +8,7 @@ use Prim.Native.Nat.{ℕ, zero, suc, _+_, _-_, _/_, _^_, _≤_, _<_}
 use native.Mathlib.Nat.{div-one}
 use native.Mathlib.Decide.{decLt}
 use native.Mathlib.Omega.{arith}
+use lib.Dec.{ltb}
 use lib.ListN.{length}
 use borrow.Author.Tests.{lt-ltb, le-ltb}
 use Rattle.lists.specs.Bits.{bit, bits}
@@ -50,11 +51,34 @@ pub filled-zero : {R : Type 0} (ls : List R) → length ls ≡ 0 → filled ls �
 filled-zero [] h = refl
 filled-zero (x ∷ xs) h = absurd (omega arith)
 
-pages-graft : {R : Type 0} (t : Trie (List R)) (k : Key) (c : Trie (List R)) → pages (graft t k c) + filled (leafAt t k) ≡ pages t + pages c
+pub pages-graft : {R : Type 0} (t : Trie (List R)) (k : Key) (c : Trie (List R)) → pages (graft t k c) + filled (leafAt t k) ≡ pages t + pages c
 pages-graft (leaf x) k c = omega arith
 pages-graft (fork l r) [] c = omega (arith, pages-graft l [] c)
 pages-graft (fork l r) (false ∷ k) c = omega (arith, pages-graft l k c)
 pages-graft (fork l r) (true ∷ k) c = omega (arith, pages-graft r k c)
+
+-- pages that one record more takes
+module _ {R : Type 0} (C : ℕ) where
+  pagesAt-room : (ls : List R) → 1 ≤ length ls → length ls < C → pagesAt C ls ≡ 0
+  unfolding pagesAt
+  pagesAt-room [] h l = absurd (omega arith)
+  pagesAt-room (x ∷ xs) h l = rw (lt-ltb (length (x ∷ xs)) C l, pagesAt)
+
+  pub pagesAt-full : (ls : List R) → C ≤ length ls → pagesAt C ls ≡ 1
+  unfolding pagesAt
+  pagesAt-full [] h = refl
+  pagesAt-full (x ∷ xs) h = rw (le-ltb (length (x ∷ xs)) C h, pagesAt)
+
+  pagesAt-le : (ls : List R) → pagesAt C ls ≤ 1
+  unfolding pagesAt
+  pagesAt-le [] = omega arith
+  pagesAt-le (x ∷ xs) = elim (ltb (length (x ∷ xs)) C) as (λ b. elim b [ true ↦ 0 | false ↦ 1 ] ≤ 1) [ true ↦ omega arith | false ↦ omega arith ]
+
+  -- the two halves of a full page: the half xs, and the other
+  pub half-pages : (xs ys : List R) → length xs + length ys ≡ C → filled xs + filled ys + pagesAt C xs ≤ 2
+  half-pages [] ys h = omega (arith, filled-le ys, pagesAt-le [])
+  half-pages (x ∷ xs) [] h = omega (arith, pagesAt-le (x ∷ xs))
+  half-pages (x ∷ xs) (y ∷ ys) h = omega (arith, pagesAt-room (x ∷ xs) (omega arith) (omega arith))
 
 module _ {R : Type 0} (key : R → ℕ) where
   -- the records ls agree with the key k in bit w
@@ -252,16 +276,6 @@ module _ {R : Type 0} (key : R → ℕ) where
               rw (roundsAt-room w k (halve key w k t) (omega (arith, ap length (leaf-halve w k t l), side-end b k ls a)), rounds-end b k ls a)
         ])
 
-    pagesAt-room : (ls : List R) → 1 ≤ length ls → length ls < C → pagesAt C ls ≡ 0
-    unfolding pagesAt
-    pagesAt-room [] h l = absurd (omega arith)
-    pagesAt-room (x ∷ xs) h l = rw (lt-ltb (length (x ∷ xs)) C l, pagesAt)
-
-    pagesAt-full : (ls : List R) → C ≤ length ls → pagesAt C ls ≡ 1
-    unfolding pagesAt
-    pagesAt-full [] h = refl
-    pagesAt-full (x ∷ xs) h = rw (le-ltb (length (x ∷ xs)) C h, pagesAt)
-
     -- the leaf at the key, built anew
     abbrev Anew : ℕ → R → List R → Trie (List R)
     Anew w r ls = build key C w (insert key r ls)
@@ -273,9 +287,9 @@ module _ {R : Type 0} (key : R → ℕ) where
         rw (build-le key C w (insert key r []) (omega (arith, length-insert key r []))) (omega (arith, filled-pos (insert key r []) (omega (arith, length-insert key r []))))
     anew-pages c w r (x ∷ xs) s l m p =
         elim (decLt (length (x ∷ xs)) C) [
-          | yes h ↦ rw (build-le key C w (insert key r (x ∷ xs)) (omega (arith, length-insert key r (x ∷ xs))), pagesAt-room (x ∷ xs) (omega arith) h)
+          | yes h ↦ rw (build-le key C w (insert key r (x ∷ xs)) (omega (arith, length-insert key r (x ∷ xs))), pagesAt-room C (x ∷ xs) (omega arith) h)
               (omega (arith, filled-pos (insert key r (x ∷ xs)) (omega (arith, length-insert key r (x ∷ xs)))))
-          | no h ↦ rw (overflow-pages c w r (x ∷ xs) s (omega arith) m p, pagesAt-full (x ∷ xs) (omega arith)) (omega arith)
+          | no h ↦ rw (overflow-pages c w r (x ∷ xs) s (omega arith) m p, pagesAt-full C (x ∷ xs) (omega arith)) (omega arith)
         ]
 
     -- the whole insertion, into the tree of an ascending list

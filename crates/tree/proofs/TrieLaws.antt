@@ -4,6 +4,7 @@ use mathlib.Core.Bool.{true, false}
 use mathlib.Core.List.{[], _∷_}
 use Prim.Native.Nat.{ℕ, zero, suc, _+_, _-_, _≤_, max}
 use native.Mathlib.Nat.{sub-zero, suc-sub-suc}
+use lib.ListN.{drop}
 use native.Mathlib.Omega.{arith}
 use mathlib.Core.Logic.{inl, inr}
 use Rattle.lists.specs.Bits.{bit, bits}
@@ -103,3 +104,12 @@ module _ {A : Type 0} where
   shape-graft (fork l r) [] c = ap (λ (s : Shape). fork s (shape r)) (shape-graft l [] c)
   shape-graft (fork l r) (false ∷ k) c = ap (λ (s : Shape). fork s (shape r)) (shape-graft l k c)
   shape-graft (fork l r) (true ∷ k) c = ap (λ (s : Shape). fork (shape l) s) (shape-graft r k c)
+
+-- one bit more is taken up
+pub rest-split : {A : Type 0} (t : Trie A) (k : Key) (x y : A) → rest (graft t k (pair x y)) k ≡ drop 1 (rest t k)
+rest-split (leaf z) [] x y = refl
+rest-split (leaf z) (false ∷ k) x y = refl
+rest-split (leaf z) (true ∷ k) x y = refl
+rest-split (fork l r) [] x y = rest-split l [] x y
+rest-split (fork l r) (false ∷ k) x y = rest-split l k x y
+rest-split (fork l r) (true ∷ k) x y = rest-split r k x y
