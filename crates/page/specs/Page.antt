@@ -17,7 +17,7 @@ use Prim.Native.Nat.{ℕ, zero, suc, _+_, _-_, _*_, _/_, _%_, _^_}
 use lib.Dec.{leb, ltb, eqb}
 use Rattle.lists.specs.Lists.{every}
 use Rattle.plot.specs.declared.Record.{Record}
-use Rattle.plot.specs.Plot.{lawful}
+use Rattle.tree.specs.Book.{plotSchema}
 use Rattle.store.specs.declared.Format.{Format}
 use Rattle.store.specs.declared.Format.the-variants.{Plots}
 use Rattle.store.specs.declared.Item.{Item}
@@ -52,7 +52,7 @@ abbrev pub plotOf : Item → Record
 plotOf it = record { key = it .key; price = it .price; lease = it .lease; last = it .last }
 
 unfoldable pub lawfulItem : Format → Item → Bool
-lawfulItem Plots it = lawful (plotOf it)
+lawfulItem Plots it = plotSchema .lawful (plotOf it)
 
 unfoldable pub ordered : Format → List ℕ → ℕ → Bool
 ordered f pg n = every n (λ i. lawfulItem f (itemAt f pg i)) && every (n - 1) (λ i. ltb (keyAt f pg i) (keyAt f pg (i + 1)))

@@ -2,4 +2,3 @@ pub mod Plot
 pub mod Money
 pub mod Label
 pub mod Promises
-pub mod Checks

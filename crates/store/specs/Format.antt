@@ -3,11 +3,12 @@
 --   words f == the words of a record
 -- `Plots` is document 01's format: keys of 32 bits, records of four words.
 use Prim.Native.Nat.{ℕ}
+use Rattle.tree.specs.Book.{plotSchema}
 use Rattle.store.specs.declared.Format.{Format}
 use Rattle.store.specs.declared.Format.the-variants.{Plots}
 
 unfoldable pub width : Format → ℕ
-width Plots = 32
+width Plots = plotSchema .width
 
 unfoldable pub words : Format → ℕ
 words Plots = 4

@@ -15,14 +15,14 @@ use Rattle.lists.proofs.Tests.{and-true}
 use Rattle.lists.proofs.ListLaws.{all-map, all-both, all-perm}
 use Rattle.lists.proofs.KeyedLaws.{all-insert, sorted-insert, contains-false, lacks-contains, contains-insert, insertAll, sublist-insertAll, insertAll-ascending, distinct-perm, ascending-perm}
 use Rattle.tree.specs.Trie.{shape}
-use Rattle.tree.specs.Book.{Format, Sizes, Entered, tree, levelsOf, nodesOf, pagesOf, fits, entered, book, accepts, accepted}
+use Rattle.tree.specs.Book.{Schema, Sizes, Entered, tree, levelsOf, nodesOf, pagesOf, fits, entered, book, accepts, accepted}
 use Rattle.tree.proofs.Growth.{within-tower, within-build, sublist-pages}
 
 or-true : (a b : Bool) → b ≡ true → (a || b) ≡ true
 or-true true b e = refl
 or-true false b e = e
 
-module _ {R : Type 0} (F : Format R) (p : Sizes) where
+module _ {R : Type 0} (F : Schema R) (p : Sizes) where
   -- a tree fits if it has no more nodes and pages than one that does
   fits-le : (S T : List R) → nodesOf F p S ≤ nodesOf F p T → pagesOf F p S ≤ pagesOf F p T → fits F p T ≡ true → fits F p S ≡ true
   unfolding fits

@@ -14,7 +14,7 @@ use Rattle.plot.proofs.Promises.{lawful-record}
 use Rattle.tree.specs.Trie.{shape}
 use Rattle.tree.specs.Tower.{cut, tower}
 use Rattle.tree.specs.Build.{build, roundsAt}
-use Rattle.tree.specs.Book.{Format, Sizes, plotFormat, tree, fits, book, Narrow}
+use Rattle.tree.specs.Book.{Schema, Sizes, plotSchema, tree, fits, book, Narrow}
 use Rattle.tree.specs.Promises.{TowerIsCanonical, OnlyTower, OneHalving, Insertion, RoundKeeps, RoundCounts, PutReaches, LevelsWithin, OneList, NeverShrinks, HoldsAccepted, AnyOrder, BookKeeps}
 use Rattle.tree.proofs.TowerLaws.{tower-canonical, tower-unique}
 use Rattle.tree.proofs.CarryLaws.{halved, halvings}
@@ -62,7 +62,7 @@ module _ {R : Type 0} (key : R → ℕ) (W C : ℕ) where
 pub one-list : {R : Type 0} (key : R → ℕ) → OneList key
 one-list key rs qs d m = ascending-perm key m d
 
-module _ {R : Type 0} (F : Format R) (p : Sizes) where
+module _ {R : Type 0} (F : Schema R) (p : Sizes) where
   pub never-shrinks : NeverShrinks F p
   never-shrinks = (
     λ S T d.
@@ -94,5 +94,5 @@ module _ {R : Type 0} (F : Format R) (p : Sizes) where
       )
 
 -- lawful plots have 32-bit keys
-pub plot-narrow : Narrow plotFormat
+pub plot-narrow : Narrow plotSchema
 plot-narrow r e = lawful-record r e .0

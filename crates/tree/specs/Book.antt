@@ -1,6 +1,6 @@
 -- The book: what a list of enter calls is to reply, and the records held after it. Document 01, "The book".
---   Format R         == what is known of records R: key width in bits, key, which are lawful, the number that refuses the others
---   plotFormat       == document 01's plots: 32 bits
+--   Schema R         == what is known of records R: key width in bits, key, which are lawful, the number that refuses the others
+--   plotSchema       == document 01's plots: 32 bits
 --   Sizes            == θ, page capacity C, node blocks N, page blocks P
 --   tree F C S       == the level-0 stretches of the ascending list S
 --   levelsOf, nodesOf, pagesOf F p S == levels, nodes and pages of the tree of S
@@ -25,14 +25,14 @@ use Rattle.tree.specs.Trie.{Trie, shape}
 use Rattle.tree.specs.Tower.{levels, nodes}
 use Rattle.tree.specs.Build.{build, pages}
 
-pub record Format (R : Type 0) : Type 0 where
+pub record Schema (R : Type 0) : Type 0 where
   pub width : ℕ
   pub key : R → ℕ
   pub lawful : R → Bool
   pub unlawful : ℕ
 
-abbrev pub plotFormat : Format Record
-plotFormat = record { width = 32; key = λ r. r .key; lawful = lawful; unlawful = 6 }
+abbrev pub plotSchema : Schema Record
+plotSchema = record { width = 32; key = λ r. r .key; lawful = lawful; unlawful = 6 }
 
 pub record Sizes : Type 0 where
   pub theta : ℕ
@@ -58,7 +58,7 @@ pub record Booked (R : Type 0) : Type 0 where
   pub replies : List Reply
   pub held : List R
 
-module _ {R : Type 0} (F : Format R) (p : Sizes) where
+module _ {R : Type 0} (F : Schema R) (p : Sizes) where
   abbrev pub tree : List R → Trie (List R)
   tree S = build (F .key) (p .capacity) (F .width) S
 
@@ -119,7 +119,7 @@ module _ {R : Type 0} (F : Format R) (p : Sizes) where
   accepted S [] = []
   accepted S (r ∷ rs) = elim (accepts S r) [ true ↦ r ∷ accepted (insert (F .key) r S) rs | false ↦ accepted S rs ]
 
-abbrev pub Narrow : {R : Type 0} → Format R → Type 0
+abbrev pub Narrow : {R : Type 0} → Schema R → Type 0
 Narrow {R} F = (r : R) → F .lawful r ≡ true → F .key r < 2 ^ F .width
 
 -- the largest f ≤ n with 2^f ≤ C

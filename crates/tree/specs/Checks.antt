@@ -1,18 +1,27 @@
--- The starred desk checks of document 01 about the tree and the book, as rows of one table.
---   Check  == a row: a tree's figures, what the book replies last, or L
---   holds  == the definitions give what the row says
---   table  == the rows
+-- The starred desk checks of document 01, as rows of one table. `proofs/Checks.antt` proves that all hold.
+--   Check    == a row: what is asked, and what the definitions are to give
+--   money    == a balance: price, lease days, last day and today; the answer's number and value
+--   label    == the key of a label: section, row and place; the answer's number and key
+--   figures  == levels, nodes and pages of the tree of some keys
+--   replies  == what the book replies to the last of some keys
+--   bound    == L
+--   holds    == the definitions give what the row says
+--   table    == the rows
 use mathlib.Core.Bool.{Bool, _&&_}
 use mathlib.Core.List.{List, [], _∷_}
 use Prim.Native.Nat.{ℕ}
 use lib.Dec.{eqb}
 use Rattle.plot.specs.declared.Record.{Record}
+use Rattle.plot.specs.Money.{balanceReply}
+use Rattle.plot.specs.Label.{keyOfReply}
 use Rattle.tree.specs.Trie.{shape}
 use Rattle.tree.specs.Tower.{levels, nodes}
 use Rattle.tree.specs.Build.{build, pages}
-use Rattle.tree.specs.Book.{plotFormat, Sizes, Reply, refused, book, levelBound}
+use Rattle.tree.specs.Book.{plotSchema, Sizes, Reply, refused, book, levelBound}
 
 pub data Check : Type 0 where
+  money : (price lease last today number value : ℕ) → Check
+  label : (section row place number key : ℕ) → Check
   figures : (width theta capacity : ℕ) (keys : List ℕ) (levels nodes pages : ℕ) → Check
   replies : Sizes → (keys : List ℕ) → Reply → Check
   bound : (width theta capacity : ℕ) (levels : ℕ) → Check
@@ -33,9 +42,13 @@ sameReply a b =
     eqb (a .number) (b .number) && (eqb (a .key) (b .key) && (eqb (a .levels) (b .levels) && (eqb (a .nodes) (b .nodes) && eqb (a .pages) (b .pages))))
 
 unfoldable pub holds : Check → Bool
+holds (money price lease last today number value) =
+    let r = balanceReply price lease last today in eqb (r .number) number && eqb (r .value) value
+holds (label section row place number key) =
+    let r = keyOfReply (record { section = section; row = row; place = place }) in eqb (r .number) number && eqb (r .key) key
 holds (figures w θ C ks l n p) =
     let t = build (λ (k : ℕ). k) C w ks in eqb (levels θ (shape t)) l && (eqb (nodes θ (shape t)) n && eqb (pages t) p)
-holds (replies s ks r) = sameReply (last (refused 0) (book plotFormat s [] (records ks) .replies)) r
+holds (replies s ks r) = sameReply (last (refused 0) (book plotSchema s [] (records ks) .replies)) r
 holds (bound w θ C l) = eqb (levelBound w θ C) l
 
 abbrev sizes : ℕ → ℕ → ℕ → ℕ → Sizes
@@ -52,8 +65,20 @@ three = 1073741824 ∷ 2147483648 ∷ 3221225472 ∷ []
 
 unfoldable pub table : List Check
 table =
+    -- "Price 1,250,000, lease 36,525, 20,000 days left: 684,462."
+    money 1250000 36525 66000 46000 0 684462
+    -- "Today = last day: balance 0."
+    ∷ money 1250000 36525 66000 66000 0 0
+    -- "Last day − today above the lease days: the full price."
+    ∷ money 60000 9131 45999 0 0 60000
+    -- "Label 1, 0, 0: 16,777,216."
+    ∷ label 1 0 0 0 16777216
+    -- "255, 4,095, 4,095: 4,294,967,295."
+    ∷ label 255 4095 4095 0 4294967295
+    -- "Section 0: 11."
+    ∷ label 0 0 0 11 0
     -- "The empty set: 1 level, 1 node, 0 pages."
-    figures 32 1 1 [] 1 1 0
+    ∷ figures 32 1 1 [] 1 1 0
     -- "The three keys above, θ = 1, C = 1: 2 levels, 3 nodes, 3 pages."
     ∷ figures 32 1 1 three 2 3 3
     -- "Keys 4,294,967,294 and 4,294,967,295, θ = 6, C = 1: 6 levels, 76 nodes, 2 pages."
@@ -63,8 +88,6 @@ table =
     ∷ replies (sizes 6 1 76 2) topTwo (reply 0 4294967295 6 76 2)
     -- "The same two, θ = 1: 32 levels, 528 nodes."
     ∷ figures 32 1 1 topTwo 32 528 2
-    -- the same two at a key width of 64
-    ∷ figures 64 1 1 topTwo 64 2080 2
     -- "L for θ = 6, C = 64 is 5."
     ∷ bound 32 6 64 5
     ∷ []

@@ -21,7 +21,7 @@ use Rattle.tree.specs.Trie.{Trie, Shape, Key, shape, leafAt, depth, spli
 use Rattle.tree.specs.Tower.{tower, levels, nodes, Canonical}
 use Rattle.tree.specs.Carry.{locals, carry, bump, bumpCost, splits, bumpCosts}
 use Rattle.tree.specs.Build.{build, pages, target, halve, put, roundsAt, pagesAt}
-use Rattle.tree.specs.Book.{Format, Sizes, levelsOf, nodesOf, pagesOf, fits, book, accepted, Narrow, log2, levelBound}
+use Rattle.tree.specs.Book.{Schema, Sizes, levelsOf, nodesOf, pagesOf, fits, book, accepted, Narrow, log2, levelBound}
 
 abbrev pub TowerIsCanonical : Type 0
 TowerIsCanonical = (θ : ℕ) (t : Shape) → 1 ≤ θ → Canonical θ t (tower θ t)
@@ -71,7 +71,7 @@ module _ {R : Type 0} (key : R → ℕ) (W C : ℕ) where
 abbrev pub OneList : {R : Type 0} → (R → ℕ) → Type 0
 OneList {R} key = (rs qs : List R) → Distinct key rs → List·Permᴰ rs qs → ascending key rs ≡ ascending key qs
 
-module _ {R : Type 0} (F : Format R) (p : Sizes) where
+module _ {R : Type 0} (F : Schema R) (p : Sizes) where
   abbrev pub NeverShrinks : Type 0
   NeverShrinks =
       ((S T : List R) → Sublistᴰ S T → (levelsOf F p S ≤ levelsOf F p T) × (nodesOf F p S ≤ nodesOf F p T) × (pagesOf F p S ≤ pagesOf F p T))
