@@ -10,7 +10,7 @@ use lib.ListN.{length, length-map, set, drop, replicate, getD, replicate-append-
 use lib.Seq.{drop-nil}
 use Rattle.lists.specs.Bits.{bits, index}
 use Rattle.tree.specs.Trie.{Trie, leaf, fork, Key, Shape, shape, height, leafAt, depth, rest}
-use Rattle.tree.specs.Tower.{cut, above, tower}
+use Rattle.tree.specs.Tower.{cut, levelsAbove, tower}
 use Rattle.tree.specs.Node.{flatten}
 use Rattle.tree.proofs.TrieLaws.{depth-le-height, height-shape}
 use Rattle.tree.proofs.TowerLaws.{height-cut}
@@ -85,7 +85,7 @@ module _ (f : Format) (s : List ℕ) (h : Head) (k : ℕ) where
       ∙ ap (descend f s h k l pointer (used + deep)) (set-last l noStep step ys)
 
 -- at most as many levels as the height, and one
-above-length : (n θ : ℕ) (t : Shape) → 1 ≤ θ → length (above n θ t) ≤ height t
+above-length : (n θ : ℕ) (t : Shape) → 1 ≤ θ → length (levelsAbove n θ t) ≤ height t
 above-length zero θ t h = omega arith
 above-length (suc n) θ (leaf x) h = omega arith
 above-length (suc n) θ (fork l r) h = omega (arith, above-length n θ (cut θ (fork l r)) h, height-cut θ (fork l r))

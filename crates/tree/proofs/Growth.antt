@@ -8,7 +8,7 @@ use lib.ListN.{length}
 use Rattle.lists.specs.Bits.{bit}
 use Rattle.lists.proofs.ListLaws.{filter-sublist, length-sublist}
 use Rattle.tree.specs.Trie.{leaf, fork, Shape, shape, height, leaves}
-use Rattle.tree.specs.Tower.{cut, above, tower, allLeaves, levels, nodes}
+use Rattle.tree.specs.Tower.{cut, levelsAbove, tower, allLeaves, levels, nodes}
 use Rattle.tree.specs.Build.{same, side, build, filled, pages}
 use Rattle.tree.proofs.TrieLaws.{leaves-pos}
 use Rattle.tree.proofs.TowerLaws.{cut-le, cut-gt}
@@ -43,7 +43,7 @@ within-cut θ (fork l r) (fork ul ur) b =
     ]
 
 within-above : (n m θ : ℕ) (t u : Shape) → n ≤ m → Within t u
-    → (allLeaves (above n θ t) ≤ allLeaves (above m θ u)) × (length (above n θ t) ≤ length (above m θ u))
+    → (allLeaves (levelsAbove n θ t) ≤ allLeaves (levelsAbove m θ u)) × (length (levelsAbove n θ t) ≤ length (levelsAbove m θ u))
 within-above zero m θ t u h b = omega arith
 within-above (suc n) zero θ t u h b = absurd (omega arith)
 within-above (suc n) (suc m) θ (leaf x) u h b = omega arith

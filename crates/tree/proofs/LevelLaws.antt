@@ -11,7 +11,7 @@ use lib.Pow.{pow-mono}
 use borrow.Author.Tests.{le-leb, lt-leb}
 use Rattle.lists.specs.Keyed.{Sorted, Prefix}
 use Rattle.tree.specs.Trie.{leaf, fork, Shape, shape, height}
-use Rattle.tree.specs.Tower.{cut, above, tower, levels}
+use Rattle.tree.specs.Tower.{cut, levelsAbove, tower, levels}
 use Rattle.tree.specs.Build.{side, build}
 use Rattle.tree.specs.Book.{logBelow, log2, levelBound}
 use Rattle.tree.proofs.TrieLaws.{height-shape}
@@ -53,20 +53,20 @@ module _ {R : Type 0} (key : R → ℕ) (C : ℕ) where
       ]
 
 -- each level above b takes θ from its height
-above-length : (n θ : ℕ) (b : Shape) → 1 ≤ θ → length (above n θ b) * θ < height b + θ
+above-length : (n θ : ℕ) (b : Shape) → 1 ≤ θ → length (levelsAbove n θ b) * θ < height b + θ
 above-length zero θ b h = omega arith
 above-length (suc n) θ (leaf x) h = omega arith
 above-length (suc n) θ (fork l r) h =
     elim (decLe (height (fork l r)) θ) [
       | yes a ↦ rw (cut-le θ (fork l r) a, above-tip n θ) (omega arith)
-      | no a ↦ rw (suc-mul (length (above n θ (cut θ (fork l r)))) θ)
+      | no a ↦ rw (suc-mul (length (levelsAbove n θ (cut θ (fork l r)))) θ)
           (omega (arith, above-length n θ (cut θ (fork l r)) h, height-cut θ (fork l r)))
     ]
 
 tower-length : (θ n : ℕ) (t : Shape) → 1 ≤ θ → 1 ≤ n → height t ≤ n → levels θ t * θ ≤ n + (θ - 1)
 unfolding tower
 tower-length θ n t h p a =
-    rw (suc-mul (length (above (height t) θ (cut θ t))) θ)
+    rw (suc-mul (length (levelsAbove (height t) θ (cut θ t))) θ)
     (elim (decLe (height t) θ) [
       | yes b ↦ rw (cut-le θ t b, above-tip (height t) θ) (omega arith)
       | no b ↦ omega (arith, above-length (height t) θ (cut θ t) h, height-cut θ t)

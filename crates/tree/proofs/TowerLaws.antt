@@ -6,7 +6,7 @@ use native.Mathlib.Decide.{decLe}
 use native.Mathlib.Omega.{arith}
 use borrow.Author.Tests.{le-leb, lt-leb}
 use Rattle.tree.specs.Trie.{leaf, fork, Shape, tip, height}
-use Rattle.tree.specs.Tower.{cut, above, tower, Tall, Topped, Canonical}
+use Rattle.tree.specs.Tower.{cut, levelsAbove, tower, Tall, Topped, Canonical}
 
 pub cut-le : (θ : ℕ) (t : Shape) → height t ≤ θ → cut θ t ≡ tip
 unfolding cut
@@ -40,26 +40,26 @@ tall-is-cut θ (leaf x) t h = sym (cut-le θ t h)
 tall-is-cut θ (fork l r) (leaf y) h = absurd h
 tall-is-cut θ (fork l r) (fork tl tr) h = rw (cut-gt θ tl tr (h .0)) (ap₂ fork (tall-is-cut θ l tl (h .1 .0)) (tall-is-cut θ r tr (h .1 .1)))
 
-pub above-tip : (n θ : ℕ) → above n θ tip ≡ []
+pub above-tip : (n θ : ℕ) → levelsAbove n θ tip ≡ []
 above-tip zero θ = refl
 above-tip (suc n) θ = refl
 
 -- with as much fuel as the height the levels above b are canonical, and they are the only ones that are
-pub above-canonical : (n θ : ℕ) (b : Shape) → 1 ≤ θ → height b ≤ n → Topped b (above n θ b) × Canonical θ b (above n θ b)
+pub above-canonical : (n θ : ℕ) (b : Shape) → 1 ≤ θ → height b ≤ n → Topped b (levelsAbove n θ b) × Canonical θ b (levelsAbove n θ b)
 above-canonical zero θ (leaf x) h a = (refl, tt)
 above-canonical zero θ (fork l r) h a = absurd (omega arith)
 above-canonical (suc n) θ (leaf x) h a = (refl, tt)
 above-canonical (suc n) θ (fork l r) h a =
     (tt, (tall-cut θ (fork l r), above-canonical n θ (cut θ (fork l r)) h (omega (arith, height-cut θ (fork l r)))))
 
-pub above-unique : (n θ : ℕ) (b : Shape) (bs : List Shape) → 1 ≤ θ → height b ≤ n → Topped b bs → Canonical θ b bs → bs ≡ above n θ b
+pub above-unique : (n θ : ℕ) (b : Shape) (bs : List Shape) → 1 ≤ θ → height b ≤ n → Topped b bs → Canonical θ b bs → bs ≡ levelsAbove n θ b
 above-unique n θ b [] h a t c = rw t (sym (above-tip n θ))
 above-unique n θ (leaf x) (d ∷ bs) h a t c = absurd t
 above-unique zero θ (fork l r) (d ∷ bs) h a t c = absurd (omega arith)
 above-unique (suc n) θ (fork l r) (d ∷ bs) h a t c =
     let e : d ≡ cut θ (fork l r) = tall-is-cut θ d (fork l r) (c .0) in
     ap₂ (λ (x : Shape) (xs : List Shape). x ∷ xs) e
-    (above-unique n θ d bs h (omega (arith, height-cut θ (fork l r), ap height e)) (c .1 .0) (c .1 .1) ∙ ap (above n θ) e)
+    (above-unique n θ d bs h (omega (arith, height-cut θ (fork l r), ap height e)) (c .1 .0) (c .1 .1) ∙ ap (levelsAbove n θ) e)
 
 pub tower-canonical : (θ : ℕ) (t : Shape) → 1 ≤ θ → Canonical θ t (tower θ t)
 unfolding tower
@@ -70,4 +70,4 @@ unfolding tower
 tower-unique θ t b bs h c =
     let e : b ≡ cut θ t = tall-is-cut θ b t (c .0) in
     ap₂ (λ (x : Shape) (xs : List Shape). x ∷ xs) e
-    (above-unique (height t) θ b bs h (omega (arith, height-cut θ t, ap height e)) (c .1 .0) (c .1 .1) ∙ ap (above (height t) θ) e)
+    (above-unique (height t) θ b bs h (omega (arith, height-cut θ t, ap height e)) (c .1 .0) (c .1 .1) ∙ ap (levelsAbove (height t) θ) e)

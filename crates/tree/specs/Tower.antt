@@ -1,6 +1,6 @@
 -- The levels of nodes over the level-0 stretches. Document 01, "The tree of a set".
 --   cut θ t      == the level k stretches, from the level k−1 stretches t
---   above n θ t  == the levels above t up to the first with one stretch, n at most
+--   levelsAbove n θ t  == the levels above t up to the first with one stretch, n at most
 --   tower θ t    == the levels 1, 2, .. over the level-0 stretches t, up to the first with one stretch
 --   levels θ t   == Levels
 --   nodes θ t    == the number of nodes: a node for each stretch of the levels 1 to Levels
@@ -20,14 +20,14 @@ unfoldable pub cut : ℕ → Shape → Shape
 cut θ (leaf x) = tip
 cut θ (fork l r) = elim (leb (height (fork l r)) θ) [ true ↦ tip | false ↦ fork (cut θ l) (cut θ r) ]
 
-abbrev pub above : ℕ → ℕ → Shape → List Shape
-above zero θ t = []
-above (suc n) θ (leaf x) = []
-above (suc n) θ (fork l r) = cut θ (fork l r) ∷ above n θ (cut θ (fork l r))
+abbrev pub levelsAbove : ℕ → ℕ → Shape → List Shape
+levelsAbove zero θ t = []
+levelsAbove (suc n) θ (leaf x) = []
+levelsAbove (suc n) θ (fork l r) = cut θ (fork l r) ∷ levelsAbove n θ (cut θ (fork l r))
 
 -- "Levels = the first k ≥ 1 with one stretch." (A cut takes θ from the height, so as many levels as the height are enough.)
 unfoldable pub tower : ℕ → Shape → List Shape
-tower θ t = cut θ t ∷ above (height t) θ (cut θ t)
+tower θ t = cut θ t ∷ levelsAbove (height t) θ (cut θ t)
 
 abbrev pub levels : ℕ → Shape → ℕ
 levels θ t = length (tower θ t)
