@@ -64,7 +64,11 @@ module _ {R : Type 0} (key : R → ℕ) where
   sorted-insert r (x ∷ xs) m s =
       elim (decLt (key r) (key x)) [
         | yes h ↦ rw (insert-lt r x xs h) ((h, above-le (key r) (key x) xs (omega arith) (s .0)), s)
-        | no h ↦ rw (insert-ge r x xs (omega arith)) (all-insert (λ y. key x < key y) r xs (omega (arith, m .0)) (s .0), sorted-insert r xs (m .1) (s .1))
+        | no h ↦
+            rw (insert-ge r x xs (omega arith)) (
+              all-insert (λ y. key x < key y) r xs (omega (arith, m .0)) (s .0),
+              sorted-insert r xs (m .1) (s .1),
+            )
       ]
 
   -- insertion and filtering
@@ -77,7 +81,8 @@ module _ {R : Type 0} (key : R → ℕ) where
           | yes h ↦ rw (insert-lt r x xs h) (filter-false f r (x ∷ xs) q)
           | no h ↦ rw (insert-ge r x xs (omega arith))
               (elim (bool-cases (f x)) [
-                | inl e ↦ rw (filter-true f x xs e, filter-true f x (insert key r xs) e) (ap (λ (l : List R). x ∷ l) (filter-insert-out r xs q))
+                | inl e ↦
+                    rw (filter-true f x xs e, filter-true f x (insert key r xs) e) (ap (λ (l : List R). x ∷ l) (filter-insert-out r xs q))
                 | inr e ↦ rw (filter-false f x xs e, filter-false f x (insert key r xs) e) (filter-insert-out r xs q)
               ])
         ]
@@ -89,7 +94,8 @@ module _ {R : Type 0} (key : R → ℕ) where
         elim (decLt (key r) (key x)) [
           | yes h ↦ rw (insert-lt r x xs h)
               (filter-true f r (x ∷ xs) q
-              ∙ sym (insert-above r (filter f (x ∷ xs)) (all-filter f (λ y. key r < key y) (x ∷ xs) (h, above-le (key r) (key x) xs (omega arith) (s .0)))))
+              ∙ sym (insert-above r (filter f (x ∷ xs)) (all-filter f (λ y. key r < key y) (x ∷ xs)
+              (h, above-le (key r) (key x) xs (omega arith) (s .0)))))
           | no h ↦ rw (insert-ge r x xs (omega arith))
               (elim (bool-cases (f x)) [
                 | inl e ↦ rw (filter-true f x xs e, filter-true f x (insert key r xs) e, insert-ge r x (filter f xs) (omega arith))
@@ -113,14 +119,20 @@ module _ {R : Type 0} (key : R → ℕ) where
   insert-sublist r s Sublistᴰ·slnil = Sublistᴰ·refl (r ∷ [])
   insert-sublist r s (Sublistᴰ·cons {a = y} {l₁ = xs} {l₂ = ys} d) =
       elim (decLt (key r) (key y)) [
-        | yes h ↦ rw (insert-lt r y ys h, insert-above r xs (all-sublist (λ x. key r < key x) d (above-le (key r) (key y) ys (omega arith) (s .0))))
+        | yes h ↦
+            rw (
+              insert-lt r y ys h,
+              insert-above r xs (all-sublist (λ x. key r < key x) d
+                  (above-le (key r) (key y) ys (omega arith) (s .0))),
+            )
             (Sublistᴰ·cons-cons refl (Sublistᴰ·cons d))
         | no h ↦ rw (insert-ge r y ys (omega arith)) (Sublistᴰ·cons (insert-sublist r (s .1) d))
       ]
   insert-sublist r s (Sublistᴰ·cons-cons {a = x} {b = y} {l₁ = xs} {l₂ = ys} e d) =
       elim (decLt (key r) (key y)) [
         | yes h ↦ rw (insert-lt r y ys h, insert-lt r x xs (rw e h)) (Sublistᴰ·cons-cons refl (Sublistᴰ·cons-cons e d))
-        | no h ↦ rw (insert-ge r y ys (omega arith), insert-ge r x xs (rw e (omega arith))) (Sublistᴰ·cons-cons e (insert-sublist r (s .1) d))
+        | no h ↦
+            rw (insert-ge r y ys (omega arith), insert-ge r x xs (rw e (omega arith))) (Sublistᴰ·cons-cons e (insert-sublist r (s .1) d))
       ]
 
   -- two insertions of different keys change places
@@ -132,7 +144,8 @@ module _ {R : Type 0} (key : R → ℕ) where
         | no h ↦ rw (insert-ge r s [] (omega arith), insert-lt s r [] (omega (arith, d)))
       ]
 
-  insert-swap-cons : (r s x : R) (xs : List R) → (key r ≡ key s → ⊥) → key r < key x → key s < key x → insert key r (s ∷ x ∷ xs) ≡ insert key s (r ∷ x ∷ xs)
+  insert-swap-cons : (r s x : R) (xs : List R) → (key r ≡ key s → ⊥) → key r < key x → key s < key x
+      → insert key r (s ∷ x ∷ xs) ≡ insert key s (r ∷ x ∷ xs)
   insert-swap-cons r s x xs d a b =
       elim (decLt (key r) (key s)) [
         | yes h ↦ rw (insert-lt r s (x ∷ xs) h, insert-ge s r (x ∷ xs) (omega arith), insert-lt s x xs b)
@@ -147,12 +160,32 @@ module _ {R : Type 0} (key : R → ℕ) where
         | yes h ↦
             elim (decLt (key s) (key x)) [
               | yes k ↦ rw (insert-lt r x xs h, insert-lt s x xs k) (insert-swap-cons r s x xs d h k)
-              | no k ↦ rw (insert-lt r x xs h, insert-ge s x xs (omega arith), insert-lt r x (insert key s xs) h, insert-ge s r (x ∷ xs) (omega arith), insert-ge s x xs (omega arith))
+              | no k ↦
+                  rw (
+                    insert-lt r x xs h,
+                    insert-ge s x xs (omega arith),
+                    insert-lt r x (insert key s xs) h,
+                    insert-ge s r (x ∷ xs) (omega arith),
+                    insert-ge s x xs (omega arith),
+                  )
             ]
         | no h ↦
             elim (decLt (key s) (key x)) [
-              | yes k ↦ rw (insert-ge r x xs (omega arith), insert-lt s x xs k, insert-lt s x (insert key r xs) k, insert-ge r s (x ∷ xs) (omega arith), insert-ge r x xs (omega arith))
-              | no k ↦ rw (insert-ge r x xs (omega arith), insert-ge s x xs (omega arith), insert-ge r x (insert key s xs) (omega arith), insert-ge s x (insert key r xs) (omega arith))
+              | yes k ↦
+                  rw (
+                    insert-ge r x xs (omega arith),
+                    insert-lt s x xs k,
+                    insert-lt s x (insert key r xs) k,
+                    insert-ge r s (x ∷ xs) (omega arith),
+                    insert-ge r x xs (omega arith),
+                  )
+              | no k ↦
+                  rw (
+                    insert-ge r x xs (omega arith),
+                    insert-ge s x xs (omega arith),
+                    insert-ge r x (insert key s xs) (omega arith),
+                    insert-ge s x (insert key r xs) (omega arith),
+                  )
                   (ap (λ (l : List R). x ∷ l) (insert-swap r s xs d))
             ]
       ]
@@ -218,7 +251,8 @@ module _ {R : Type 0} (key : R → ℕ) where
   contains-insert k r (x ∷ xs) =
       elim (decLt (key r) (key x)) [
         | yes h ↦ rw (insert-lt r x xs h)
-        | no h ↦ rw (insert-ge r x xs (omega arith), contains-insert k r xs) (or-left-comm (eqb (key x) k) (eqb (key r) k) (contains key k xs))
+        | no h ↦
+            rw (insert-ge r x xs (omega arith), contains-insert k r xs) (or-left-comm (eqb (key x) k) (eqb (key r) k) (contains key k xs))
       ]
 
   -- records inserted one after another
@@ -230,7 +264,8 @@ module _ {R : Type 0} (key : R → ℕ) where
   sublist-insertAll xs [] = Sublistᴰ·refl xs
   sublist-insertAll xs (r ∷ rs) = Sublistᴰ·trans (sublist-insert r xs) (sublist-insertAll (insert key r xs) rs)
 
-  insertAll-insert : (r : R) (xs rs : List R) → All (λ y. key r ≡ key y → ⊥) rs → insertAll (insert key r xs) rs ≡ insert key r (insertAll xs rs)
+  insertAll-insert : (r : R) (xs rs : List R) → All (λ y. key r ≡ key y → ⊥) rs
+      → insertAll (insert key r xs) rs ≡ insert key r (insertAll xs rs)
   insertAll-insert r xs [] d = refl
   insertAll-insert r xs (x ∷ rs) d =
       ap (λ (l : List R). insertAll l rs) (insert-swap x r xs (λ e. d .0 (sym e))) ∙ insertAll-insert r (insert key x xs) rs (d .1)

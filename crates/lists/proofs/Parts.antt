@@ -34,7 +34,8 @@ module _ {A : Type 0} where
   -- a list from index a on, its first n elements apart
   pub part-next : (xs : List A) (a n : ℕ) → a + n ≤ length xs → drop a xs ≡ part xs a n ++ drop (a + n) xs
   part-next xs a n h =
-      sym (ap (λ l. l ++ drop (a + n) xs) (part-in xs a n h) ∙ ap (λ l. take n (drop a xs) ++ l) (sym (drop-drop n a xs)) ∙ take-append-drop n (drop a xs))
+      sym (ap (λ l. l ++ drop (a + n) xs) (part-in xs a n h) ∙ ap (λ l. take n (drop a xs) ++ l) (sym (drop-drop n a xs))
+      ∙ take-append-drop n (drop a xs))
 
   pub part-front : (xs ys : List A) (n : ℕ) → length xs ≡ n → part (xs ++ ys) 0 n ≡ xs
   part-front xs ys n e = part-in (xs ++ ys) 0 n (rw (length-append xs ys) (omega arith)) ∙ take-at xs ys n e

@@ -87,7 +87,8 @@ module _ {R : Type 0} (F : Schema R) (p : Sizes) where
 
   -- what the book keeps, call by call
   pub book-yes : (S : List R) (r : R) (rs : List R) → accepts F p S r ≡ true
-      → (book F p S (r ∷ rs) .held ≡ book F p (insert (F .key) r S) rs .held) × (accepted F p S (r ∷ rs) ≡ r ∷ accepted F p (insert (F .key) r S) rs)
+      → (book F p S (r ∷ rs) .held ≡ book F p (insert (F .key) r S) rs .held)
+      × (accepted F p S (r ∷ rs) ≡ r ∷ accepted F p (insert (F .key) r S) rs)
   unfolding book accepted
   book-yes S r rs e = (ap (λ (a : Entered R). book F p (a .held) rs .held) (entered-yes S r e), rw (e, accepted))
 
@@ -97,7 +98,8 @@ module _ {R : Type 0} (F : Schema R) (p : Sizes) where
   book-no S r rs e = (ap (λ (T : List R). book F p T rs .held) (entered-no S r e), rw (e, accepted))
 
   -- what each accepted record keeps, the book keeps
-  pub book-keeps : (Q : List R → Type 0) → ((S : List R) (r : R) → Accepted S r → Q S → Q (insert (F .key) r S)) → (S rs : List R) → Q S → Q (book F p S rs .held)
+  pub book-keeps : (Q : List R → Type 0) → ((S : List R) (r : R) → Accepted S r → Q S → Q (insert (F .key) r S)) → (S rs : List R) → Q S
+      → Q (book F p S rs .held)
   unfolding book
   book-keeps Q f S [] q = q
   book-keeps Q f S (r ∷ rs) q =
@@ -134,7 +136,8 @@ module _ {R : Type 0} (F : Schema R) (p : Sizes) where
         | inl e ↦
             rw (book-yes S r rs e .1) (
               λ q. true≢false (sym c ∙ ap (λ (j : ℕ). contains (F .key) j S) (sym q) ∙ accepts-is S r e .new),
-              accepted-lacks k (insert (F .key) r S) rs (contains-insert (F .key) k r S ∙ or-true (eqb (F .key r) k) (contains (F .key) k S) c),
+              accepted-lacks k (insert (F .key) r S) rs (contains-insert (F .key) k r S
+                  ∙ or-true (eqb (F .key r) k) (contains (F .key) k S) c),
             )
         | inr e ↦ rw (book-no S r rs e .1) (accepted-lacks k S rs c)
       ]
@@ -146,8 +149,10 @@ module _ {R : Type 0} (F : Schema R) (p : Sizes) where
       elim (bool-cases (accepts F p S r)) [
         | inl e ↦
             rw (book-yes S r rs e .1) (
-              all-map (λ y. F .key y ≡ F .key r → ⊥) (λ y. F .key r ≡ F .key y → ⊥) (accepted F p (insert (F .key) r S) rs) (λ y n q. n (sym q))
-                  (accepted-lacks (F .key r) (insert (F .key) r S) rs (contains-insert (F .key) (F .key r) r S ∙ rw (eq-eqb (F .key r) (F .key r) refl))),
+              all-map (λ y. F .key y ≡ F .key r → ⊥) (λ y. F .key r ≡ F .key y → ⊥) (accepted F p (insert (F .key) r S) rs)
+                  (λ y n q. n (sym q))
+                  (accepted-lacks (F .key r) (insert (F .key) r S) rs
+                  (contains-insert (F .key) (F .key r) r S ∙ rw (eq-eqb (F .key r) (F .key r) refl))),
               accepted-distinct (insert (F .key) r S) rs,
             )
         | inr e ↦ rw (book-no S r rs e .1) (accepted-distinct S rs)
@@ -170,7 +175,8 @@ module _ {R : Type 0} (F : Schema R) (p : Sizes) where
       accepted-by S r (record {
         lawful = l .0;
         new = lacks-contains (F .key) (F .key r) S (n .0);
-        fitting = fits-sublist (insert (F .key) r S) (insertAll (F .key) S (r ∷ rs)) (sublist-insertAll (F .key) (insert (F .key) r S) rs) f;
+        fitting =
+            fits-sublist (insert (F .key) r S) (insertAll (F .key) S (r ∷ rs)) (sublist-insertAll (F .key) (insert (F .key) r S) rs) f;
       }) in
       let apart : All (λ y. Lacks (F .key) (F .key y) (insert (F .key) r S)) rs =
       all-both (λ y. F .key r ≡ F .key y → ⊥) (λ y. Lacks (F .key) (F .key y) S) (λ y. Lacks (F .key) (F .key y) (insert (F .key) r S)) rs
@@ -185,11 +191,14 @@ module _ {R : Type 0} (F : Schema R) (p : Sizes) where
       }
 
   -- in every order
-  pub taken-any-order : (rs qs : List R) → List·Permᴰ rs qs → All (λ r. F .lawful r ≡ true) rs → Distinct (F .key) rs → fits F p (ascending (F .key) rs) ≡ true
+  pub taken-any-order : (rs qs : List R) → List·Permᴰ rs qs → All (λ r. F .lawful r ≡ true) rs → Distinct (F .key) rs
+      → fits F p (ascending (F .key) rs) ≡ true
       → All (λ a. a .number ≡ 0) (book F p [] qs .replies) × (book F p [] qs .held ≡ ascending (F .key) rs)
   taken-any-order rs qs m l d f =
       let dq = distinct-perm (F .key) m d in
       let same = ascending-perm (F .key) m d in
-      let t = taken [] qs (all-perm (λ r. F .lawful r ≡ true) m l) dq (all-map (λ r. F .lawful r ≡ true) (λ r. Unit {0}) qs (λ r q. tt) (all-perm (λ r. F .lawful r ≡ true) m l))
+      let t =
+      taken [] qs (all-perm (λ r. F .lawful r ≡ true) m l) dq
+      (all-map (λ r. F .lawful r ≡ true) (λ r. Unit {0}) qs (λ r q. tt) (all-perm (λ r. F .lawful r ≡ true) m l))
       (ap (fits F p) (insertAll-ascending (F .key) qs dq ∙ sym same) ∙ f) in
       (t .every, book-ascending qs ∙ ap (ascending (F .key)) (t .records) ∙ sym same)

@@ -44,7 +44,8 @@ module _ {R : Type 0} (key : R → ℕ) where
   pub all-side : (P : R → Type 0) (b : Bool) (w : ℕ) (rs : List R) → All P rs → All P (side key b w rs)
   all-side P b w rs = all-filter (λ r. same b (bit w (key r))) P rs
 
-  pub side-insert : (b : Bool) (w : ℕ) (r : R) (rs : List R) → bit w (key r) ≡ b → Sorted key rs → side key b w (insert key r rs) ≡ insert key r (side key b w rs)
+  pub side-insert : (b : Bool) (w : ℕ) (r : R) (rs : List R) → bit w (key r) ≡ b → Sorted key rs
+      → side key b w (insert key r rs) ≡ insert key r (side key b w rs)
   side-insert b w r rs e s = filter-insert-in key (λ x. same b (bit w (key x))) r rs (ap (same b) e ∙ same-self b) s
 
   pub side-insert-off : (b : Bool) (w : ℕ) (r : R) (rs : List R) → bit w (key r) ≡ not b → side key b w (insert key r rs) ≡ side key b w rs
@@ -91,7 +92,8 @@ module _ {R : Type 0} (key : R → ℕ) where
     build-le zero rs h = refl
     build-le (suc w) rs h = rw (le-leb (length rs) C h, build)
 
-    pub build-gt : (w : ℕ) (rs : List R) → C < length rs → build key C (suc w) rs ≡ fork (build key C w (side key false w rs)) (build key C w (side key true w rs))
+    pub build-gt : (w : ℕ) (rs : List R) → C < length rs
+        → build key C (suc w) rs ≡ fork (build key C w (side key false w rs)) (build key C w (side key true w rs))
     unfolding build
     build-gt w rs h = rw (lt-leb (length rs) C h, build)
 
@@ -101,7 +103,8 @@ module _ {R : Type 0} (key : R → ℕ) where
     height-build (suc w) rs =
         elim (decLe (length rs) C) [
           | yes h ↦ rw (build-le (suc w) rs h) (omega arith)
-          | no h ↦ rw (build-gt w rs (omega arith)) (omega (arith, height-build w (side key false w rs), height-build w (side key true w rs)))
+          | no h ↦
+              rw (build-gt w rs (omega arith)) (omega (arith, height-build w (side key false w rs), height-build w (side key true w rs)))
         ]
 
     -- the leaf at a key has what the sides at the key's bits keep
@@ -127,11 +130,13 @@ module _ {R : Type 0} (key : R → ℕ) where
 
     -- "its own bits lead to each held record": the keys of a leaf agree with the key that leads to it
     pub leaf-prefix : (w k : ℕ) (rs : List R) → Prefix key w (k / 2 ^ w) rs
-        → Prefix key (w - depth (build key C w rs) (bits w k)) (k / 2 ^ (w - depth (build key C w rs) (bits w k))) (leafAt (build key C w rs) (bits w k))
+        → Prefix key (w - depth (build key C w rs) (bits w k)) (k / 2 ^ (w - depth (build key C w rs) (bits w k)))
+        (leafAt (build key C w rs) (bits w k))
     leaf-prefix w k rs = leaf-keeps (λ w ls. Prefix key w (k / 2 ^ w) ls) k (λ w ls. prefix-side w k ls) w rs
 
     -- a leaf with bits left holds at most C records
-    leaf-ends : (w k : ℕ) (rs : List R) → (w - depth (build key C w rs) (bits w k) ≡ 0) ⊎ (length (leafAt (build key C w rs) (bits w k)) ≤ C)
+    leaf-ends : (w k : ℕ) (rs : List R)
+        → (w - depth (build key C w rs) (bits w k) ≡ 0) ⊎ (length (leafAt (build key C w rs) (bits w k)) ≤ C)
     unfolding build
     leaf-ends zero k rs = inl refl
     leaf-ends (suc w) k rs =
@@ -144,10 +149,16 @@ module _ {R : Type 0} (key : R → ℕ) where
               ])
         ]
 
-    pub leaf-small : 1 ≤ C → (w k : ℕ) (rs : List R) → Sorted key rs → Prefix key w (k / 2 ^ w) rs → length (leafAt (build key C w rs) (bits w k)) ≤ C
+    pub leaf-small : 1 ≤ C → (w k : ℕ) (rs : List R) → Sorted key rs → Prefix key w (k / 2 ^ w) rs
+        → length (leafAt (build key C w rs) (bits w k)) ≤ C
     leaf-small c w k rs s p =
         elim (leaf-ends w k rs) [
-          | inl e ↦ omega (arith, one-left (k / 2 ^ 0) (leafAt (build key C w rs) (bits w k)) (leaf-sorted w k rs s) (rw e at (leaf-prefix w k rs p)))
+          | inl e ↦
+              omega (
+                arith,
+                one-left (k / 2 ^ 0) (leafAt (build key C w rs) (bits w k)) (leaf-sorted w k rs s)
+                    (rw e at (leaf-prefix w k rs p)),
+              )
           | inr h ↦ h
         ]
 
@@ -161,8 +172,10 @@ module _ {R : Type 0} (key : R → ℕ) where
           | no h ↦ rw (build-gt w rs (omega arith), build-gt w (insert key r rs) (omega (arith, length-insert key r rs)))
               (elim (bool-cases (bit w (key r))) [
                 | inl e ↦ rw (side-insert-off false w r rs e, side-insert true w r rs e s, e, suc-sub-suc)
-                    (ap (λ (t : Trie (List R)). fork (build key C w (side key false w rs)) t) (build-insert w r (side key true w rs) (sorted-side true w rs s)))
+                    (ap (λ (t : Trie (List R)). fork (build key C w (side key false w rs)) t)
+                    (build-insert w r (side key true w rs) (sorted-side true w rs s)))
                 | inr e ↦ rw (side-insert false w r rs e s, side-insert-off true w r rs e, e, suc-sub-suc)
-                    (ap (λ (t : Trie (List R)). fork t (build key C w (side key true w rs))) (build-insert w r (side key false w rs) (sorted-side false w rs s)))
+                    (ap (λ (t : Trie (List R)). fork t (build key C w (side key true w rs)))
+                    (build-insert w r (side key false w rs) (sorted-side false w rs s)))
               ])
         ]

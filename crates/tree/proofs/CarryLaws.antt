@@ -24,9 +24,12 @@ tall-depth θ (fork l r) (fork tl tr) (true ∷ k) h = omega (arith, tall-depth 
 tall-stays : (θ : ℕ) (b t : Shape) (k : Key) → Tall θ b t → depth t k < depth b k + θ → Tall θ b (split t k)
 tall-stays θ (leaf x) t k h s = omega (arith, height-split t k tt tt)
 tall-stays θ (fork l r) (leaf y) k h s = absurd h
-tall-stays θ (fork l r) (fork tl tr) [] h s = (omega (arith, height-split tl [] tt tt, h .0), (tall-stays θ l tl [] (h .1 .0) (omega arith), h .1 .1))
-tall-stays θ (fork l r) (fork tl tr) (false ∷ k) h s = (omega (arith, height-split tl k tt tt, h .0), (tall-stays θ l tl k (h .1 .0) (omega arith), h .1 .1))
-tall-stays θ (fork l r) (fork tl tr) (true ∷ k) h s = (omega (arith, height-split tr k tt tt, h .0), (h .1 .0, tall-stays θ r tr k (h .1 .1) (omega arith)))
+tall-stays θ (fork l r) (fork tl tr) [] h s =
+    (omega (arith, height-split tl [] tt tt, h .0), (tall-stays θ l tl [] (h .1 .0) (omega arith), h .1 .1))
+tall-stays θ (fork l r) (fork tl tr) (false ∷ k) h s =
+    (omega (arith, height-split tl k tt tt, h .0), (tall-stays θ l tl k (h .1 .0) (omega arith), h .1 .1))
+tall-stays θ (fork l r) (fork tl tr) (true ∷ k) h s =
+    (omega (arith, height-split tr k tt tt, h .0), (h .1 .0, tall-stays θ r tr k (h .1 .1) (omega arith)))
 
 -- at θ
 tall-splits : (θ : ℕ) (b t : Shape) (k : Key) → Tall θ b t → depth t k ≡ depth b k + θ → Tall θ (split b k) (split t k)
@@ -35,9 +38,12 @@ tall-splits θ (leaf x) (fork tl tr) [] h s = omega (arith, height-split tl [] t
 tall-splits θ (leaf x) (fork tl tr) (false ∷ k) h s = omega (arith, height-split tl k tt tt)
 tall-splits θ (leaf x) (fork tl tr) (true ∷ k) h s = omega (arith, height-split tr k tt tt)
 tall-splits θ (fork l r) (leaf y) k h s = absurd h
-tall-splits θ (fork l r) (fork tl tr) [] h s = (omega (arith, height-split tl [] tt tt, h .0), (tall-splits θ l tl [] (h .1 .0) (omega arith), h .1 .1))
-tall-splits θ (fork l r) (fork tl tr) (false ∷ k) h s = (omega (arith, height-split tl k tt tt, h .0), (tall-splits θ l tl k (h .1 .0) (omega arith), h .1 .1))
-tall-splits θ (fork l r) (fork tl tr) (true ∷ k) h s = (omega (arith, height-split tr k tt tt, h .0), (h .1 .0, tall-splits θ r tr k (h .1 .1) (omega arith)))
+tall-splits θ (fork l r) (fork tl tr) [] h s =
+    (omega (arith, height-split tl [] tt tt, h .0), (tall-splits θ l tl [] (h .1 .0) (omega arith), h .1 .1))
+tall-splits θ (fork l r) (fork tl tr) (false ∷ k) h s =
+    (omega (arith, height-split tl k tt tt, h .0), (tall-splits θ l tl k (h .1 .0) (omega arith), h .1 .1))
+tall-splits θ (fork l r) (fork tl tr) (true ∷ k) h s =
+    (omega (arith, height-split tr k tt tt, h .0), (h .1 .0, tall-splits θ r tr k (h .1 .1) (omega arith)))
 
 split-fork : (b : Shape) (k : Key) → IsFork (split b k)
 split-fork (leaf x) k = tt
@@ -49,7 +55,8 @@ pub carry-slack : (θ : ℕ) (t b : Shape) (bs : List Shape) (k : Key) → depth
 unfolding carry
 carry-slack θ t b bs k h = rw (lt-ltb (depth t k - depth b k) θ h, carry)
 
-pub carry-full : (θ : ℕ) (t b : Shape) (bs : List Shape) (k : Key) → θ ≤ depth t k - depth b k → carry θ t (b ∷ bs) k ≡ split b k ∷ carry θ b bs k
+pub carry-full : (θ : ℕ) (t b : Shape) (bs : List Shape) (k : Key) → θ ≤ depth t k - depth b k
+    → carry θ t (b ∷ bs) k ≡ split b k ∷ carry θ b bs k
 unfolding carry
 carry-full θ t b bs k h = rw (le-ltb (depth t k - depth b k) θ h, carry)
 
@@ -110,7 +117,8 @@ carried-root θ t k h e =
       cost = omega arith;
     }
 
-carried-slack : (θ : ℕ) (t b : Shape) (bs : List Shape) (k : Key) → Canonical θ t (b ∷ bs) → depth t k - depth b k < θ → Carried θ t (b ∷ bs) k
+carried-slack : (θ : ℕ) (t b : Shape) (bs : List Shape) (k : Key) → Canonical θ t (b ∷ bs) → depth t k - depth b k < θ
+    → Carried θ t (b ∷ bs) k
 carried-slack θ t b bs k c s =
     let d = tall-depth θ b t k (c .0) in
     let h : ℕ = depth t k - depth b k in
@@ -121,12 +129,17 @@ carried-slack θ t b bs k c s =
       cost = rw (carry-slack θ t b bs k s, bump-slack θ h (locals b bs k) s .1) (omega arith);
     }
 
-carried-full : (θ : ℕ) (t b : Shape) (bs : List Shape) (k : Key) → Canonical θ t (b ∷ bs) → θ ≤ depth t k - depth b k → Carried θ b bs k → Carried θ t (b ∷ bs) k
+carried-full : (θ : ℕ) (t b : Shape) (bs : List Shape) (k : Key) → Canonical θ t (b ∷ bs) → θ ≤ depth t k - depth b k → Carried θ b bs k
+    → Carried θ t (b ∷ bs) k
 carried-full θ t b bs k c s ih =
     let d = tall-depth θ b t k (c .0) in
     let h : ℕ = depth t k - depth b k in
     record {
-      canonical = rw (carry-full θ t b bs k s) (tall-splits θ b t k (c .0) (omega arith), (topped-cons (split b k) (carry θ b bs k) (split-fork b k) (carry-cons θ b bs k), ih .canonical));
+      canonical =
+          rw (carry-full θ t b bs k s) (
+            tall-splits θ b t k (c .0) (omega arith),
+            (topped-cons (split b k) (carry θ b bs k) (split-fork b k) (carry-cons θ b bs k), ih .canonical),
+          );
       local = rw (carry-full θ t b bs k s, bump-full θ h (locals b bs k) s .0)
           (ap₂ (λ (d : ℕ) (ds : List ℕ). d ∷ ds) (omega (arith, depth-split t k tt tt, depth-split b k tt tt)) (ih .local));
       cost = rw (carry-full θ t b bs k s, bump-full θ h (locals b bs k) s .1) (omega (arith, leaves-graft b k (pair tt tt), ih .cost));
@@ -153,7 +166,8 @@ tower-of θ t (b ∷ bs) h c e = tower-unique θ t b bs h c
 pub halved : (θ : ℕ) (t : Shape) (k : Key) → 1 ≤ θ → Halved θ t k
 halved θ t k h =
     let c = carried θ t (tower θ t) k h (ends-cons t (tower θ t) (tower-cons θ t)) (tower-canonical θ t h) in
-    let e : carry θ t (tower θ t) k ≡ tower θ (split t k) = tower-of θ (split t k) (carry θ t (tower θ t) k) h (c .canonical) (carry-cons θ t (tower θ t) k) in
+    let e : carry θ t (tower θ t) k ≡ tower θ (split t k) =
+    tower-of θ (split t k) (carry θ t (tower θ t) k) h (c .canonical) (carry-cons θ t (tower θ t) k) in
     record { levels = sym e; local = rw e at (c .local); cost = rw e at (c .cost) }
 
 -- d halvings, one after another

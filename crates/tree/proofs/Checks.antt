@@ -13,5 +13,6 @@ use Rattle.tree.specs.Book.{fits, entered, book, logBelow, levelBound}
 use Rattle.tree.specs.Checks.{holds, table}
 
 pub checks : all holds table ≡ true
-unfolding holds table lawful word lawfulTerm lawfulDay daysLeft amount balanceReply lawfulLabel pack keyOfReply bit contains insert cut tower build fits entered book logBelow levelBound
+unfolding holds table lawful word lawfulTerm lawfulDay daysLeft amount balanceReply lawfulLabel pack keyOfReply bit contains insert cut
+    tower build fits entered book logBelow levelBound
 checks = refl

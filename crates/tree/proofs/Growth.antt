@@ -1,4 +1,5 @@
--- A tree never shrinks when records are added: the trie of a sublist has only forks that the trie of the list has, and so have all its cuts.
+-- A tree never shrinks when records are added: the trie of a sublist has only forks that the trie of the list has, and so have all its
+-- cuts.
 use mathlib.Core.Bool.{Bool, true, false}
 use mathlib.Core.List.{List, Sublistᴰ}
 use Prim.Native.Nat.{ℕ, zero, suc, _≤_}
@@ -50,7 +51,11 @@ within-above (suc n) (suc m) θ (leaf x) u h b = omega arith
 within-above (suc n) (suc m) θ (fork l r) (leaf y) h b = absurd b
 within-above (suc n) (suc m) θ (fork l r) (fork ul ur) h b =
     let c : Within (cut θ (fork l r)) (cut θ (fork ul ur)) = within-cut θ (fork l r) (fork ul ur) b in
-    omega (arith, within-leaves (cut θ (fork l r)) (cut θ (fork ul ur)) c, within-above n m θ (cut θ (fork l r)) (cut θ (fork ul ur)) (omega arith) c)
+    omega (
+      arith,
+      within-leaves (cut θ (fork l r)) (cut θ (fork ul ur)) c,
+      within-above n m θ (cut θ (fork l r)) (cut θ (fork ul ur)) (omega arith) c,
+    )
 
 pub within-tower : (θ : ℕ) (t u : Shape) → Within t u → (nodes θ t ≤ nodes θ u) × (levels θ t ≤ levels θ u)
 unfolding tower

@@ -51,7 +51,8 @@ pub filled-zero : {R : Type 0} (ls : List R) → length ls ≡ 0 → filled ls �
 filled-zero [] h = refl
 filled-zero (x ∷ xs) h = absurd (omega arith)
 
-pub pages-graft : {R : Type 0} (t : Trie (List R)) (k : Key) (c : Trie (List R)) → pages (graft t k c) + filled (leafAt t k) ≡ pages t + pages c
+pub pages-graft : {R : Type 0} (t : Trie (List R)) (k : Key) (c : Trie (List R))
+    → pages (graft t k c) + filled (leafAt t k) ≡ pages t + pages c
 pages-graft (leaf x) k c = omega arith
 pages-graft (fork l r) [] c = omega (arith, pages-graft l [] c)
 pages-graft (fork l r) (false ∷ k) c = omega (arith, pages-graft l k c)
@@ -72,7 +73,8 @@ module _ {R : Type 0} (C : ℕ) where
   pagesAt-le : (ls : List R) → pagesAt C ls ≤ 1
   unfolding pagesAt
   pagesAt-le [] = omega arith
-  pagesAt-le (x ∷ xs) = elim (ltb (length (x ∷ xs)) C) as (λ b. elim b [ true ↦ 0 | false ↦ 1 ] ≤ 1) [ true ↦ omega arith | false ↦ omega arith ]
+  pagesAt-le (x ∷ xs) =
+      elim (ltb (length (x ∷ xs)) C) as (λ b. elim b [ true ↦ 0 | false ↦ 1 ] ≤ 1) [ true ↦ omega arith | false ↦ omega arith ]
 
   -- the two halves of a full page: the half xs, and the other
   pub half-pages : (xs ys : List R) → length xs + length ys ≡ C → filled xs + filled ys + pagesAt C xs ≤ 2
@@ -133,24 +135,47 @@ module _ {R : Type 0} (key : R → ℕ) where
         elim (bool-cases (agree w (key r) ls)) [
           | inl a ↦
               elim (bool-cases (bit w (key r))) [
-                | inl e ↦ rw (full-high w r ls s f e, rounds-on w (key r) ls a, e, splits-high (rounds key w (key r) ls) tip tip (bits w (key r)), (rw e at (side-on w (key r) ls a)))
+                | inl e ↦
+                    rw (
+                      full-high w r ls s f e,
+                      rounds-on w (key r) ls a,
+                      e,
+                      splits-high (rounds key w (key r) ls) tip tip (bits w (key r)),
+                      (rw e at (side-on w (key r) ls a)),
+                    )
                     (ap (λ (t : Shape). fork tip t) (overflow w r ls s f))
-                | inr e ↦ rw (full-low w r ls s f e, rounds-on w (key r) ls a, e, splits-low (rounds key w (key r) ls) tip tip (bits w (key r)), (rw e at (side-on w (key r) ls a)))
+                | inr e ↦
+                    rw (
+                      full-low w r ls s f e,
+                      rounds-on w (key r) ls a,
+                      e,
+                      splits-low (rounds key w (key r) ls) tip tip (bits w (key r)),
+                      (rw e at (side-on w (key r) ls a)),
+                    )
                     (ap (λ (t : Shape). fork t tip) (overflow w r ls s f))
               ]
           | inr a ↦
               elim (bool-cases (bit w (key r))) [
                 | inl e ↦
                     let g : length (side key true w ls) < length ls = rw e at (side-end w (key r) ls a) in
-                    rw (full-high w r ls s f e, rounds-end w (key r) ls a, build-le key C w (insert key r (side key true w ls)) (omega (arith, length-insert key r (side key true w ls))))
+                    rw (
+                      full-high w r ls s f e,
+                      rounds-end w (key r) ls a,
+                      build-le key C w (insert key r (side key true w ls)) (omega (arith, length-insert key r (side key true w ls))),
+                    )
                 | inr e ↦
                     let g : length (side key false w ls) < length ls = rw e at (side-end w (key r) ls a) in
-                    rw (full-low w r ls s f e, rounds-end w (key r) ls a, build-le key C w (insert key r (side key false w ls)) (omega (arith, length-insert key r (side key false w ls))))
+                    rw (
+                      full-low w r ls s f e,
+                      rounds-end w (key r) ls a,
+                      build-le key C w (insert key r (side key false w ls)) (omega (arith, length-insert key r (side key false w ls))),
+                    )
               ]
         ]
 
     -- a full leaf with a record more is two pages: the last round parts the records, and every earlier one leaves an empty half
-    overflow-pages : 1 ≤ C → (w : ℕ) (r : R) (ls : List R) → Sorted key ls → length ls ≡ C → Lacks key (key r) ls → Prefix key w (key r / 2 ^ w) ls
+    overflow-pages : 1 ≤ C → (w : ℕ) (r : R) (ls : List R) → Sorted key ls → length ls ≡ C → Lacks key (key r) ls
+        → Prefix key w (key r / 2 ^ w) ls
         → pages (build key C w (insert key r ls)) ≡ 2
     unfolding build
     overflow-pages c zero r [] s f m p = absurd (omega arith)
@@ -173,7 +198,11 @@ module _ {R : Type 0} (key : R → ℕ) where
               elim (bool-cases (bit w (key r))) [
                 | inl e ↦
                     let g : length (side key true w ls) < length ls = rw e at (side-end w (key r) ls a) in
-                    rw (full-high w r ls s f e, build-le key C w (insert key r (side key true w ls)) (omega (arith, length-insert key r (side key true w ls))))
+                    rw (
+                      full-high w r ls s f e,
+                      build-le key C w (insert key r (side key true w ls))
+                          (omega (arith, length-insert key r (side key true w ls))),
+                    )
                     (omega (
                       arith,
                       filled-pos (insert key r (side key true w ls)) (omega (arith, length-insert key r (side key true w ls))),
@@ -181,7 +210,11 @@ module _ {R : Type 0} (key : R → ℕ) where
                     ))
                 | inr e ↦
                     let g : length (side key false w ls) < length ls = rw e at (side-end w (key r) ls a) in
-                    rw (full-low w r ls s f e, build-le key C w (insert key r (side key false w ls)) (omega (arith, length-insert key r (side key false w ls))))
+                    rw (
+                      full-low w r ls s f e,
+                      build-le key C w (insert key r (side key false w ls))
+                          (omega (arith, length-insert key r (side key false w ls))),
+                    )
                     (omega (
                       arith,
                       filled-pos (insert key r (side key false w ls)) (omega (arith, length-insert key r (side key false w ls))),
@@ -203,7 +236,8 @@ module _ {R : Type 0} (key : R → ℕ) where
     pub put-target : (w : ℕ) (r : R) (t : Trie (List R)) → length (leafAt t (bits w (key r))) < C → target key C w r t ≡ put key w r t
     put-target w r t h =
         ap (graft t (bits w (key r)))
-        (build-le key C (w - depth t (bits w (key r))) (insert key r (leafAt t (bits w (key r)))) (omega (arith, length-insert key r (leafAt t (bits w (key r))))))
+        (build-le key C (w - depth t (bits w (key r))) (insert key r (leafAt t (bits w (key r))))
+        (omega (arith, length-insert key r (leafAt t (bits w (key r))))))
 
     -- a full leaf, halved on its next bit
     halves : ℕ → List R → Trie (List R)
@@ -218,7 +252,8 @@ module _ {R : Type 0} (key : R → ℕ) where
         ]
 
     leaf-target : (w : ℕ) (r : R) (ls : List R) → Sorted key ls → length ls ≡ C
-        → build key C (suc w) (insert key r ls) ≡ graft (halves w ls) (bits (suc w) (key r)) (build key C w (insert key r (side key (bit w (key r)) w ls)))
+        → build key C (suc w) (insert key r ls) ≡ graft (halves w ls) (bits (suc w) (key r))
+        (build key C w (insert key r (side key (bit w (key r)) w ls)))
     unfolding halves
     leaf-target w r ls s f =
         elim (bool-cases (bit w (key r))) [
@@ -241,11 +276,17 @@ module _ {R : Type 0} (key : R → ℕ) where
       unfolding halves
       depth-halve =
           depth-graft t (bits w k) (halves here (leafAt t (bits w k)))
-          ∙ omega (arith, depth-pair (side key false here (leafAt t (bits w k))) (side key true here (leafAt t (bits w k))) (rest t (bits w k)))
+          ∙ omega (
+            arith,
+            depth-pair (side key false here (leafAt t (bits w k))) (side key true here (leafAt t (bits w k)))
+                (rest t (bits w k)),
+          )
 
       pub leaf-halve : leafAt (halve key w k t) (bits w k) ≡ side key (bit here k) here (leafAt t (bits w k))
       unfolding halves
-      leaf-halve = leafAt-graft t (bits w k) (halves here (leafAt t (bits w k))) ∙ ap (leafAt (halves here (leafAt t (bits w k)))) rest-is ∙ leaf-halves here k (leafAt t (bits w k))
+      leaf-halve =
+          leafAt-graft t (bits w k) (halves here (leafAt t (bits w k))) ∙ ap (leafAt (halves here (leafAt t (bits w k)))) rest-is
+          ∙ leaf-halves here k (leafAt t (bits w k))
 
     -- a round leaves what the insertion is to come to as it was
     pub round-target : (w : ℕ) (r : R) (t : Trie (List R)) → depth t (bits w (key r)) < w → Sorted key (leafAt t (bits w (key r)))
@@ -273,21 +314,30 @@ module _ {R : Type 0} (key : R → ℕ) where
               let e : leafAt (halve key w k t) (bits w k) ≡ ls = leaf-halve w k t l ∙ side-on b k ls a in
               rw (roundsAt-full w k (halve key w k t) (omega (arith, ap length e)), depth-halve w k t l, e, rounds-on b k ls a)
           | inr a ↦
-              rw (roundsAt-room w k (halve key w k t) (omega (arith, ap length (leaf-halve w k t l), side-end b k ls a)), rounds-end b k ls a)
+              rw (
+                roundsAt-room w k (halve key w k t) (omega (arith, ap length (leaf-halve w k t l), side-end b k ls a)),
+                rounds-end b k ls a,
+              )
         ])
 
     -- the leaf at the key, built anew
     abbrev Anew : ℕ → R → List R → Trie (List R)
     Anew w r ls = build key C w (insert key r ls)
 
-    anew-pages : 1 ≤ C → (w : ℕ) (r : R) (ls : List R) → Sorted key ls → length ls ≤ C → Lacks key (key r) ls → Prefix key w (key r / 2 ^ w) ls
+    anew-pages : 1 ≤ C → (w : ℕ) (r : R) (ls : List R) → Sorted key ls → length ls ≤ C → Lacks key (key r) ls
+        → Prefix key w (key r / 2 ^ w) ls
         → pages (Anew w r ls) ≡ filled ls + pagesAt C ls
     unfolding pagesAt
     anew-pages c w r [] s l m p =
-        rw (build-le key C w (insert key r []) (omega (arith, length-insert key r []))) (omega (arith, filled-pos (insert key r []) (omega (arith, length-insert key r []))))
+        rw (build-le key C w (insert key r []) (omega (arith, length-insert key r [])))
+        (omega (arith, filled-pos (insert key r []) (omega (arith, length-insert key r []))))
     anew-pages c w r (x ∷ xs) s l m p =
         elim (decLt (length (x ∷ xs)) C) [
-          | yes h ↦ rw (build-le key C w (insert key r (x ∷ xs)) (omega (arith, length-insert key r (x ∷ xs))), pagesAt-room C (x ∷ xs) (omega arith) h)
+          | yes h ↦
+              rw (
+                build-le key C w (insert key r (x ∷ xs)) (omega (arith, length-insert key r (x ∷ xs))),
+                pagesAt-room C (x ∷ xs) (omega arith) h,
+              )
               (omega (arith, filled-pos (insert key r (x ∷ xs)) (omega (arith, length-insert key r (x ∷ xs)))))
           | no h ↦ rw (overflow-pages c w r (x ∷ xs) s (omega arith) m p, pagesAt-full C (x ∷ xs) (omega arith)) (omega arith)
         ]
@@ -312,11 +362,20 @@ module _ {R : Type 0} (key : R → ℕ) where
           ∙ shape-graft t k (Anew (W - depth t k) r (leafAt t k))
           ∙ elim (decLt (length (leafAt t k)) C) [
             | yes h ↦
-                rw (roundsAt-room W (key r) t h, build-le key C (W - depth t k) (insert key r (leafAt t k)) (omega (arith, length-insert key r (leafAt t k))))
+                rw (
+                  roundsAt-room W (key r) t h,
+                  build-le key C (W - depth t k) (insert key r (leafAt t k))
+                      (omega (arith, length-insert key r (leafAt t k))),
+                )
                 (graft-leafAt (shape t) k)
             | no h ↦
-                rw (roundsAt-full W (key r) t (omega arith), overflow (W - depth t k) r (leafAt t k) (leaf-sorted key C W (key r) S s) (omega (arith, small)))
-                (ap (λ (j : Key). graft (shape t) k (splits (rounds key (W - depth t k) (key r) (leafAt t k)) tip j)) (sym (rest-shape t k ∙ rest-bits t W (key r) deep))
+                rw (
+                  roundsAt-full W (key r) t (omega arith),
+                  overflow (W - depth t k) r (leafAt t k) (leaf-sorted key C W (key r) S s)
+                      (omega (arith, small)),
+                )
+                (ap (λ (j : Key). graft (shape t) k (splits (rounds key (W - depth t k) (key r) (leafAt t k)) tip j))
+                (sym (rest-shape t k ∙ rest-bits t W (key r) deep))
                 ∙ sym (splits-at (rounds key (W - depth t k) (key r) (leafAt t k)) (shape t) k))
           ]
 
@@ -326,5 +385,6 @@ module _ {R : Type 0} (key : R → ℕ) where
           (omega (
             arith,
             pages-graft t k (Anew (W - depth t k) r (leafAt t k)),
-            anew-pages c (W - depth t k) r (leafAt t k) (leaf-sorted key C W (key r) S s) small (leaf-all key C (λ x. key x ≡ key r → ⊥) W (key r) S m) (leaf-prefix key C W (key r) S p),
+            anew-pages c (W - depth t k) r (leafAt t k) (leaf-sorted key C W (key r) S s) small
+                (leaf-all key C (λ x. key x ≡ key r → ⊥) W (key r) S m) (leaf-prefix key C W (key r) S p),
           ))

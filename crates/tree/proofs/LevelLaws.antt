@@ -77,4 +77,5 @@ pub levels-bound : {R : Type 0} (key : R → ℕ) (W θ C q : ℕ) (S : List R) 
 unfolding levelBound
 levels-bound key W θ C q S h c l s p =
     le-div-iff-mul-le h .1
-    (tower-length θ (W - log2 C) (shape (build key C W S)) h (omega arith) (omega (arith, height-shape (build key C W S), height-bound key C c W q S s p)))
+    (tower-length θ (W - log2 C) (shape (build key C W S)) h (omega arith)
+    (omega (arith, height-shape (build key C W S), height-bound key C c W q S s p)))

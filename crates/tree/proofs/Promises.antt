@@ -82,7 +82,9 @@ module _ {R : Type 0} (F : Schema R) (p : Sizes) where
 
   empty-fits : 1 ≤ p .theta → 1 ≤ p .nodeBlocks → fits F p [] ≡ true
   unfolding fits tower cut
-  empty-fits h n = rw (build-le (F .key) (p .capacity) (F .width) [] (omega arith)) (rw (le-leb 1 (p .nodeBlocks) n, le-leb 0 (p .pageBlocks) (omega arith)))
+  empty-fits h n =
+      rw (build-le (F .key) (p .capacity) (F .width) [] (omega arith))
+      (rw (le-leb 1 (p .nodeBlocks) n, le-leb 0 (p .pageBlocks) (omega arith)))
 
   pub book-keeps : BookKeeps F p
   book-keeps h n w rs =

@@ -38,7 +38,8 @@ tall-cut θ (fork l r) =
 pub tall-is-cut : (θ : ℕ) (b t : Shape) → Tall θ b t → b ≡ cut θ t
 tall-is-cut θ (leaf x) t h = sym (cut-le θ t h)
 tall-is-cut θ (fork l r) (leaf y) h = absurd h
-tall-is-cut θ (fork l r) (fork tl tr) h = rw (cut-gt θ tl tr (h .0)) (ap₂ fork (tall-is-cut θ l tl (h .1 .0)) (tall-is-cut θ r tr (h .1 .1)))
+tall-is-cut θ (fork l r) (fork tl tr) h =
+    rw (cut-gt θ tl tr (h .0)) (ap₂ fork (tall-is-cut θ l tl (h .1 .0)) (tall-is-cut θ r tr (h .1 .1)))
 
 pub above-tip : (n θ : ℕ) → levelsAbove n θ tip ≡ []
 above-tip zero θ = refl

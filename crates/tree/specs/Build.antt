@@ -59,7 +59,8 @@ module _ {R : Type 0} (key : R → ℕ) where
         | false ↦ rounds (w - depth t (bits w k)) k (leafAt t (bits w k))
       ]
 
--- "Enter, at a null entry: take a page for the whole run. At a page below C: put the record in order. At a full page: .. the other takes a new one."
+-- "Enter, at a null entry: take a page for the whole run. At a page below C: put the record in order. At a full page: .. the other takes
+-- a new one."
 unfoldable pub pagesAt : {R : Type 0} → ℕ → List R → ℕ
 pagesAt C [] = 1
 pagesAt C (x ∷ xs) = elim (ltb (length (x ∷ xs)) C) [ true ↦ 0 | false ↦ 1 ]

@@ -39,7 +39,8 @@ last r (x ∷ xs) = last x xs
 
 abbrev sameReply : Reply → Reply → Bool
 sameReply a b =
-    eqb (a .number) (b .number) && (eqb (a .key) (b .key) && (eqb (a .levels) (b .levels) && (eqb (a .nodes) (b .nodes) && eqb (a .pages) (b .pages))))
+    eqb (a .number) (b .number) && (eqb (a .key) (b .key)
+    && (eqb (a .levels) (b .levels) && (eqb (a .nodes) (b .nodes) && eqb (a .pages) (b .pages))))
 
 unfoldable pub holds : Check → Bool
 holds (money price lease last today number value) =

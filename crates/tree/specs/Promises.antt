@@ -47,23 +47,27 @@ module _ {R : Type 0} (key : R → ℕ) (W θ C : ℕ) where
 
   abbrev pub Insertion : Type 0
   Insertion =
-      1 ≤ θ → 1 ≤ C → (r : R) (S : List R) → Sorted key S → Bounded key (2 ^ W) S → key r < 2 ^ W → Lacks key (key r) S → Inserted r S (build key C W S)
+      1 ≤ θ → 1 ≤ C → (r : R) (S : List R) → Sorted key S → Bounded key (2 ^ W) S → key r < 2 ^ W → Lacks key (key r) S
+      → Inserted r S (build key C W S)
 
   -- "levels is 1 to L"
   abbrev pub LevelsWithin : Type 0
   LevelsWithin =
-      1 ≤ θ → 1 ≤ C → log2 C < W → (S : List R) → Sorted key S → Bounded key (2 ^ W) S → levels θ (shape (build key C W S)) ≤ levelBound W θ C
+      1 ≤ θ → 1 ≤ C → log2 C < W → (S : List R) → Sorted key S → Bounded key (2 ^ W) S
+      → levels θ (shape (build key C W S)) ≤ levelBound W θ C
 
 module _ {R : Type 0} (key : R → ℕ) (W C : ℕ) where
   -- on any trie t, where the leaf at the key is full and has a bit left
   abbrev pub RoundKeeps : Type 0
   RoundKeeps =
-      (r : R) (t : Trie (List R)) → depth t (bits W (key r)) < W → Sorted key (leafAt t (bits W (key r))) → length (leafAt t (bits W (key r))) ≡ C
+      (r : R) (t : Trie (List R)) → depth t (bits W (key r)) < W → Sorted key (leafAt t (bits W (key r)))
+      → length (leafAt t (bits W (key r))) ≡ C
       → target key C W r (halve key W (key r) t) ≡ target key C W r t
 
   abbrev pub RoundCounts : Type 0
   RoundCounts =
-      (k : ℕ) (t : Trie (List R)) → depth t (bits W k) < W → length (leafAt t (bits W k)) ≡ C → suc (roundsAt key C W k (halve key W k t)) ≡ roundsAt key C W k t
+      (k : ℕ) (t : Trie (List R)) → depth t (bits W k) < W → length (leafAt t (bits W k)) ≡ C
+      → suc (roundsAt key C W k (halve key W k t)) ≡ roundsAt key C W k t
 
   abbrev pub PutReaches : Type 0
   PutReaches = (r : R) (t : Trie (List R)) → length (leafAt t (bits W (key r))) < C → target key C W r t ≡ put key W r t
@@ -74,8 +78,10 @@ OneList {R} key = (rs qs : List R) → Distinct key rs → List·Permᴰ rs qs �
 module _ {R : Type 0} (F : Schema R) (p : Sizes) where
   abbrev pub NeverShrinks : Type 0
   NeverShrinks =
-      ((S T : List R) → Sublistᴰ S T → (levelsOf F p S ≤ levelsOf F p T) × (nodesOf F p S ≤ nodesOf F p T) × (pagesOf F p S ≤ pagesOf F p T))
-      × ((rs qs : List R) → Sublistᴰ rs qs → Distinct (F .key) qs → fits F p (ascending (F .key) qs) ≡ true → fits F p (ascending (F .key) rs) ≡ true)
+      ((S T : List R) → Sublistᴰ S T
+      → (levelsOf F p S ≤ levelsOf F p T) × (nodesOf F p S ≤ nodesOf F p T) × (pagesOf F p S ≤ pagesOf F p T))
+      × ((rs qs : List R) → Sublistᴰ rs qs → Distinct (F .key) qs → fits F p (ascending (F .key) qs) ≡ true
+      → fits F p (ascending (F .key) rs) ≡ true)
 
   abbrev pub HoldsAccepted : Type 0
   HoldsAccepted =
@@ -84,7 +90,8 @@ module _ {R : Type 0} (F : Schema R) (p : Sizes) where
 
   abbrev pub AnyOrder : Type 0
   AnyOrder =
-      (rs qs : List R) → List·Permᴰ rs qs → All (λ r. F .lawful r ≡ true) rs → Distinct (F .key) rs → fits F p (ascending (F .key) rs) ≡ true
+      (rs qs : List R) → List·Permᴰ rs qs → All (λ r. F .lawful r ≡ true) rs → Distinct (F .key) rs
+      → fits F p (ascending (F .key) rs) ≡ true
       → All (λ a. a .number ≡ 0) (book F p [] qs .replies) × (book F p [] qs .held ≡ ascending (F .key) rs)
 
   -- from a book that starts empty, and has room for the tree of no record
