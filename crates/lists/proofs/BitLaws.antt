@@ -4,7 +4,8 @@ use mathlib.Core.Bool.{Bool, true, false}
 use mathlib.Core.List.{List, [], _∷_}
 use mathlib.Core.Logic.{inl, inr}
 use Prim.Native.Nat.{ℕ, zero, suc, _+_, _-_, _*_, _/_, _%_, _^_, _≤_, _<_}
-use native.Mathlib.Nat.{suc-add, zero-add, suc-sub-suc, sub-zero, sub-self, pow-zero, mod-lt, mod-eq-of-lt, mul-add-div-right, mul-assoc, div-one, div-eq-of-lt}
+use native.Mathlib.Nat.{suc-add, zero-add, suc-sub-suc, sub-zero, sub-self, pow-zero, mod-lt, mod-eq-of-lt, mul-add-div-right, mul-assoc}
+use native.Mathlib.Nat.{div-one, div-eq-of-lt}
 use native.Mathlib.Numerals.{one-add}
 use native.Mathlib.Omega.{arith}
 use lib.ListN.{drop}

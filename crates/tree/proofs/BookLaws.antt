@@ -13,7 +13,8 @@ use Rattle.lists.specs.Keyed.{Sorted, Distinct, Lacks, contains, insert, ascend
 use Rattle.lists.proofs.Cases.{bool-cases}
 use Rattle.lists.proofs.Tests.{and-true}
 use Rattle.lists.proofs.ListLaws.{all-map, all-both, all-perm}
-use Rattle.lists.proofs.KeyedLaws.{all-insert, sorted-insert, contains-false, lacks-contains, contains-insert, insertAll, sublist-insertAll, insertAll-ascending, distinct-perm, ascending-perm}
+use Rattle.lists.proofs.KeyedLaws.{all-insert, sorted-insert, contains-false, lacks-contains, contains-insert, insertAll}
+use Rattle.lists.proofs.KeyedLaws.{sublist-insertAll, insertAll-ascending, distinct-perm, ascending-perm}
 use Rattle.tree.specs.Trie.{shape}
 use Rattle.tree.specs.Book.{Schema, Sizes, Entered, tree, levelsOf, nodesOf, pagesOf, fits, entered, book, accepts, accepted}
 use Rattle.tree.proofs.Growth.{within-tower, within-build, sublist-pages}

@@ -20,8 +20,10 @@ use Rattle.lists.proofs.KeyedLaws.{length-insert}
 use Rattle.tree.specs.Trie.{Trie, leaf, fork, Shape, tip, Key, shape, leafAt, depth, rest, graft, pair, split}
 use Rattle.tree.specs.Build.{same, side, build, rounds, target, halve, put, roundsAt, filled, pages, pagesAt}
 use Rattle.tree.specs.Carry.{splits}
-use Rattle.tree.proofs.TrieLaws.{graft-leafAt, graft-graft, leafAt-graft, depth-graft, depth-pair, depth-le-height, rest-bits, shape-graft, rest-shape}
-use Rattle.tree.proofs.BuildLaws.{length-sides, side-insert, side-insert-off, prefix-side, build-le, build-gt, height-build, leaf-all, leaf-sorted, leaf-prefix, leaf-small, build-insert}
+use Rattle.tree.proofs.TrieLaws.{graft-leafAt, graft-graft, leafAt-graft, depth-graft, depth-pair, depth-le-height, rest-bits}
+use Rattle.tree.proofs.TrieLaws.{shape-graft, rest-shape}
+use Rattle.tree.proofs.BuildLaws.{length-sides, side-insert, side-insert-off, prefix-side, build-le, build-gt, height-build}
+use Rattle.tree.proofs.BuildLaws.{leaf-all, leaf-sorted, leaf-prefix, leaf-small, build-insert}
 
 -- halvings at a key stay on the key's side, and in the leaf at the key
 splits-low : (d : ℕ) (l r : Shape) (k : Key) → splits d (fork l r) (false ∷ k) ≡ fork (splits d l k) r

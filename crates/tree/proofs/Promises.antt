@@ -15,14 +15,16 @@ use Rattle.tree.specs.Trie.{shape}
 use Rattle.tree.specs.Tower.{cut, tower}
 use Rattle.tree.specs.Build.{build, roundsAt}
 use Rattle.tree.specs.Book.{Schema, Sizes, plotSchema, tree, fits, book, Narrow}
-use Rattle.tree.specs.Promises.{TowerIsCanonical, OnlyTower, OneHalving, Insertion, RoundKeeps, RoundCounts, PutReaches, LevelsWithin, OneList, NeverShrinks, HoldsAccepted, AnyOrder, BookKeeps}
+use Rattle.tree.specs.Promises.{TowerIsCanonical, OnlyTower, OneHalving, Insertion, RoundKeeps, RoundCounts, PutReaches}
+use Rattle.tree.specs.Promises.{LevelsWithin, OneList, NeverShrinks, HoldsAccepted, AnyOrder, BookKeeps}
 use Rattle.tree.proofs.TowerLaws.{tower-canonical, tower-unique}
 use Rattle.tree.proofs.CarryLaws.{halved, halvings}
 use Rattle.tree.proofs.BuildLaws.{build-le, build-insert}
 use Rattle.tree.proofs.InsertLaws.{insert-form, insert-pages, round-target, round-falls, put-target}
 use Rattle.tree.proofs.Growth.{within-tower, within-build, sublist-pages}
 use Rattle.tree.proofs.LevelLaws.{levels-bound}
-use Rattle.tree.proofs.BookLaws.{fits-sublist, book-sorted, book-lawful, book-fits, book-ascending, accepted-distinct, taken-any-order}
+use Rattle.tree.proofs.BookLaws.{fits-sublist, book-sorted, book-lawful, book-fits, book-ascending, accepted-distinct}
+use Rattle.tree.proofs.BookLaws.{taken-any-order}
 
 pub tower-is-canonical : TowerIsCanonical
 tower-is-canonical = tower-canonical
