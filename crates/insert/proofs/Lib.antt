@@ -14,3 +14,4 @@ pub mod InsideRound
 pub mod InsideWay
 pub mod InsideEnter
 pub mod Promises
+pub mod Example

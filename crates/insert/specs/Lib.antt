@@ -1,3 +1,4 @@
 pub mod Block
 pub mod Enter
 pub mod Promises
+pub mod Example

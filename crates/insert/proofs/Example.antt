@@ -1,0 +1,33 @@
+-- The broken sample store, by one computation.
+use mathlib.Core.Path.{refl}
+use Rattle.plot.specs.Plot.{lawful, word, lawfulTerm, lawfulDay}
+use Rattle.lists.specs.Bits.{bit}
+use Rattle.lists.specs.Lists.{replaced, part, tab, every, greatest}
+use Rattle.lists.specs.Keyed.{contains, insert}
+use Rattle.tree.specs.Build.{rounds, pagesAt}
+use Rattle.tree.specs.Carry.{bump, bumpCost}
+use Rattle.tree.specs.Book.{logBelow, levelBound}
+use Rattle.store.specs.Format.{width, words}
+use Rattle.store.specs.Head.{zeros, headOf, nodeWords, pageWords, size, nodeStart, pageStart, pageAt, lawfulSizes, lawfulCounts, headRule}
+use Rattle.node.specs.Node.{sameRun, runRule, goodRuns, linkRule, pointerLow, pointerHigh, nodeRule, entryNumber}
+use Rattle.page.specs.Page.{itemAt, itemWords, flat, lawfulItem, ordered, pageRule, agrees}
+use Rattle.page.specs.Schema.{unlawful}
+use Rattle.search.specs.Descent.{noSteps, damagedNode, entryVisit, stepOf, lost, stepTaken, descend, descent}
+use Rattle.search.specs.Find.{soundPage}
+use Rattle.represent.specs.Image.{pageImage, nodeAt}
+use Rattle.represent.specs.Example.{stored}
+use Rattle.split.specs.Frame.{putNode, putPage, putHead, putPagesTaken}
+use Rattle.split.specs.Round.{turned, grown, climb, round}
+use Rattle.insert.specs.Block.{kept, block, overRun, halves, halveRun, double, grow}
+use Rattle.insert.specs.Enter.{itemsIn, ownItems, ownPasses, neighbourOk, pathIn, parted, roundOf, placed, roundsFor, planOf, done}
+use Rattle.insert.specs.Enter.{written, planned, wayOf, visited, enterOf}
+use Rattle.insert.specs.Example.{NeighbourTested}
+
+pub neighbour-tested : NeighbourTested
+unfolding stored lawful word lawfulTerm lawfulDay bit replaced part tab every greatest contains insert rounds pagesAt bump bumpCost logBelow
+    levelBound width words zeros headOf nodeWords pageWords size nodeStart pageStart pageAt lawfulSizes lawfulCounts headRule sameRun runRule
+    goodRuns linkRule pointerLow pointerHigh nodeRule entryNumber itemAt lawfulItem ordered pageRule agrees noSteps damagedNode entryVisit
+    stepOf lost stepTaken descend descent soundPage itemWords flat pageImage nodeAt putNode putPage putHead putPagesTaken turned grown climb
+    round kept block overRun halves halveRun double grow unlawful itemsIn ownItems ownPasses neighbourOk pathIn parted roundOf placed
+    roundsFor planOf done written planned wayOf visited enterOf
+neighbour-tested = (refl, refl)
