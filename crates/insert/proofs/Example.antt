@@ -18,7 +18,7 @@ use Rattle.represent.specs.Image.{pageImage, nodeAt}
 use Rattle.represent.specs.Example.{stored}
 use Rattle.split.specs.Frame.{putNode, putPage, putHead, putPagesTaken}
 use Rattle.split.specs.Round.{turned, grown, climb, round}
-use Rattle.insert.specs.Block.{kept, block, overRun, halves, halveRun, double, grow}
+use Rattle.split.specs.Block.{kept, block, overRun, halves, halveRun, double, grow}
 use Rattle.insert.specs.Enter.{itemsIn, ownItems, ownPasses, neighbourOk, pathIn, parted, roundOf, placed, roundsFor, planOf, done}
 use Rattle.insert.specs.Enter.{written, planned, wayOf, visited, enterOf}
 use Rattle.insert.specs.Example.{NeighbourTested}

@@ -1,5 +1,3 @@
-pub mod EntryLaws
-pub mod BlockLaws
 pub mod PathLaws
 pub mod WayLaws
 pub mod CountLaws

@@ -1,4 +1,3 @@
-pub mod Block
 pub mod Enter
 pub mod Promises
 pub mod Example

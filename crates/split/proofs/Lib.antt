@@ -13,3 +13,6 @@ pub mod Lengths
 pub mod WordStore
 pub mod PageLaws
 pub mod Stepping
+pub mod EntryLaws
+pub mod BlockLaws
+pub mod Promises

@@ -1,3 +1,5 @@
 pub mod Round
 pub mod Frame
 pub mod Insertion
+pub mod Block
+pub mod Promises
