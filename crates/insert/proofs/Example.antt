@@ -25,7 +25,8 @@ use Rattle.insert.specs.Example.{NeighbourTested}
 
 pub neighbour-tested : NeighbourTested
 unfolding stored lawful word lawfulTerm lawfulDay bit replaced part tab every greatest contains insert rounds pagesAt bump bumpCost logBelow
-    levelBound width words zeros headOf nodeWords pageWords size nodeStart pageStart pageAt lawfulSizes lawfulCounts headRule sameRun runRule
+    levelBound width words zeros headOf nodeWords pageWords size nodeStart pageStart pageAt lawfulSizes lawfulCounts headRule sameRun
+    runRule
     goodRuns linkRule pointerLow pointerHigh nodeRule entryNumber itemAt lawfulItem ordered pageRule agrees noSteps damagedNode entryVisit
     stepOf lost stepTaken descend descent soundPage itemWords flat pageImage nodeAt putNode putPage putHead putPagesTaken turned grown climb
     round kept block overRun halves halveRun double grow unlawful itemsIn ownItems ownPasses neighbourOk pathIn parted roundOf placed
