@@ -4,7 +4,6 @@ use mathlib.Core.Bool.{true}
 use mathlib.Core.List.{List, [], _∷_}
 use Prim.Native.Nat.{ℕ, _^_, _<_}
 use lib.Dec.{eqb}
-use lib.ListN.{getD}
 use Rattle.lists.specs.Keyed.{Bounded}
 use Rattle.tree.specs.Trie.{Trie}
 use Rattle.store.specs.declared.Format.{Format}
@@ -13,7 +12,6 @@ use Rattle.store.specs.Format.{width}
 use Rattle.store.specs.Head.{headOf}
 use Rattle.page.specs.Page.{above}
 use Rattle.search.specs.declared.Sought.{Sought}
-use Rattle.search.specs.Descent.{noStep}
 use Rattle.search.specs.Find.{soughtReply, checked, findOf, findReply}
 use Rattle.search.specs.Next.{nextOf, nextReply}
 use Rattle.represent.specs.Rep.{keyOf, Rep, Holds}
@@ -91,4 +89,4 @@ module _ (f : Format) (s : List ℕ) (S : List Item) where
       go [] r = absurd (r .directory .links)
       go (b ∷ bs) r =
           rep-clauses f s (h .b0) b bs r (pages-pass f s (h .b0) (b ∷ bs) r)
-          (λ k low. ap (λ d. getD (d .steps) 0 noStep .node) (descent-visits f s (h .b0) (b ∷ bs) k r low))
+          (λ k low. ap (λ d. d .steps) (descent-visits f s (h .b0) (b ∷ bs) k r low))

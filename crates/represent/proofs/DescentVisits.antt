@@ -49,7 +49,7 @@ module _ {A : Type 0} where
     height-under (fork l r) (fork ul ur) (false ∷ k) h = omega (arith, height-under l ul k (h .0))
     height-under (fork l r) (fork ul ur) (true ∷ k) h = omega (arith, height-under r ur k (h .1))
 
-    height-over : (b : Trie ℕ) (u : Trie A) → Over P b u → height b ≤ height u
+    pub height-over : (b : Trie ℕ) (u : Trie A) → Over P b u → height b ≤ height u
     height-over (leaf n) u h = omega arith
     height-over (fork l r) (leaf x) h = absurd h
     height-over (fork l r) (fork ul ur) h = omega (arith, height-over l ul (h .0), height-over r ur (h .1))
