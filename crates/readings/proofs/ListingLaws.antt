@@ -270,11 +270,11 @@ first-sound test (it ∷ its) =
 
 pub find-sound : (S : List Item) (k : ℕ) → Sound (findIn S k .number)
 unfolding findIn
-find-sound S k = first-sound (λ it. eqb (it .key) k) S
+find-sound S k = first-sound _ S
 
 pub next-sound : (S : List Item) (k : ℕ) → Sound (nextIn S k .number)
 unfolding nextIn
-next-sound S k = first-sound (λ it. above true k (it .key)) S
+next-sound S k = first-sound _ S
 
 pub range-sound : (f : Format) (S : List Item) (low high : ℕ) (out : List ℕ) → Sound (rangeIn f S low high out .reply .number)
 unfolding rangeIn rangedIn listed

@@ -307,16 +307,16 @@ module _ (f : Format) (C : ℕ) (s : List ℕ) (p : ℕ) (rs : List Item) (ok : 
   put-other = putPage-other f s p (pageImage f C rs) ok low high put-length
 
   take-capacity : headOf (takeItems f C s p rs) .capacity ≡ headOf s .capacity
-  take-capacity = putPagesTaken-sizes (putItems f C s p rs) p .capacity ∙ ap (λ (h : Head). h .capacity) put-head
+  take-capacity = putPagesTaken-sizes (putItems f C s p rs) _ .capacity ∙ ap (λ (h : Head). h .capacity) put-head
 
   pub take-pagesTaken : headOf (takeItems f C s p rs) .pagesTaken ≡ p
   take-pagesTaken = putPagesTaken-is (putItems f C s p rs) p (omega (arith, sized-long f (putItems f C s p rs) put-sized))
 
   pub take-same : pageOf f (takeItems f C s p rs) p ≡ pageImage f C rs
-  take-same = putPagesTaken-pages (putItems f C s p rs) p f p ∙ put-same
+  take-same = putPagesTaken-pages (putItems f C s p rs) _ f p ∙ put-same
 
   pub take-other : (x : ℕ) → 1 ≤ x → (x ≡ p → ⊥) → pageOf f (takeItems f C s p rs) x ≡ pageOf f s x
-  take-other x q ne = putPagesTaken-pages (putItems f C s p rs) p f x ∙ put-other x q ne
+  take-other x q ne = putPagesTaken-pages (putItems f C s p rs) _ f x ∙ put-other x q ne
 
 module _ (f : Format) (s : List ℕ) (b0 : Trie Stretch) (key : ℕ) (ok : Sized f s) (pg : PagesOf f s b0) (inside : key < 2 ^ width f) where
   pub pages-put : (rs : List Item) → headOf s .pagesTaken ≤ headOf s .pageBlocks → 1 ≤ stretchAt f b0 key .0

@@ -199,7 +199,7 @@ module _ (f : Format) where
         }
 
     taken-kept : NodesKept f s (takeItems f C s p rs)
-    taken-kept = kept-then s (putItems f C s p rs) (takeItems f C s p rs) items-kept (filled-kept (putItems f C s p rs) p (items-kept .sized))
+    taken-kept = kept-then s (putItems f C s p rs) (takeItems f C s p rs) items-kept (filled-kept (putItems f C s p rs) _ (items-kept .sized))
 
 numbers-graft : (b0 : Trie Stretch) (k : Key) (c : Trie Stretch) → numbers (graft b0 k c) ≡ graft (numbers b0) k (numbers c)
 numbers-graft b0 k c = relabel-graft (λ x. x .0) b0 k c
