@@ -1,11 +1,17 @@
 -- What a store's words stand for. Document 01, "A store holds a tree, block numbers apart, when ..".
 -- The tree is given by tries: b0 for the level-0 stretches, each leaf with its page's number (0 for null) and its records; bs for the levels
 -- 1, 2, .., each leaf with its node's number.
+--   Stretch           == a level-0 stretch: its page's number and its records
 --   numbers b0, contents b0 == the page numbers, and the records, of b0
---   Nodes θ node root levels k u bs == the nodes of the levels above k: each shows what stands below it; u is level k, and root and levels end the tower
+--   keyOf it          == a record's key
+--   Nodes θ node root levels k u bs == the nodes of the levels above k: each shows what stands below it; u is level k, and root and
+--                        levels end the tower
+--   backOf, forwardOf node n == the links of node n
+--   Unlinked node n   == both are null
 --   Links node bs     == the links of all nodes
 --   Directory θ node root levels taken u bs == the node blocks in use are those of the levels bs over u
 --   PageIs f s h x    == the page block of a level-0 stretch x
+--   Lawful f s h x    == the stretch x is in order: its page block, at most C records, lawful and ascending
 --   Keyed w q t       == every record stands in the stretch of its key; t is the stretch with the prefix q, which leaves w bits
 --   Pages f s h b0    == the page blocks in use are those of b0
 --   sizeOf f s        == the words of a store of the sizes in its head

@@ -1,5 +1,6 @@
 -- The steps of an insertion on a store's words, and what they do to a represented store. Document 01, "Descent and splits". Pages are written as words;
 -- nodes by the operations of a round, over the words.
+--   nodesEnd h         == the number of the first word behind the node blocks
 --   Others, others s   == all of a store but its node blocks, root, levels and nodes taken
 --   Ok f θ s           == the store's sizes are in order, and θ is its own
 --   wordStore f θ      == a store's words as a store of nodes
@@ -14,6 +15,7 @@
 --   takeItems f C s p rs == that, and p as the number of pages taken
 --   SameSizes h h′     == the two heads have the same sizes
 --   Stepped f s s′ b0 bs == s′ stands for b0 and bs, and has the sizes of s and its words beyond them
+--   Roomy              == the steps' situation: s stands for b0 and bs, the key's place has a bit left, and there are node blocks for the climb
 --   UpperKeeps, LowerKeeps, BothKeep == a full page halved: no record has the bit clear; none has it set; there are both
 --   PutKeeps, TakeKeeps == a page written anew; a page taken for a null entry
 use mathlib.Core.Path.{_≡_}

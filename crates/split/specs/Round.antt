@@ -13,6 +13,7 @@
 --   grown, halve, halveFirst, newRoot == one level of a climb: the node has room; it splits; it splits at level 1; a root is put above
 --   climb θ s path a c == the runs of a path halved, a and c the pointers of the lowest two halves, as far up as nodes split
 --   round θ s path a c == the same from level 1
+--   chosen k x y       == the one of x and y that the first bit of k chooses; onward k: the other bits
 --   turned θ k m path  == the path of the key k after that, where the numbers up to m are taken
 --   aimAt s p q        == the run at the step p points to q
 --   carried θ m u bs k == the levels bs over u after u's stretch at the key is halved, where the numbers up to m are taken
