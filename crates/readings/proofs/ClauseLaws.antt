@@ -1,6 +1,6 @@
--- The report's clauses of a represented store. Every node in use is a label of some level and stands over a trie of the level below, so its entries
--- are that trie's and its pointers are labels of that level, where no label but null occurs twice. The nodes that a key passes are the labels at the
--- key; the terminal nodes are the labels of level 1, left to right, and a key leads to each.
+-- The report's clauses of a represented store. Every node in use is a label of some level and stands over a trie of the level below, so its
+-- entries are that trie's and its pointers are labels of that level, where no label but null occurs twice. The nodes that a key passes are
+-- the labels at the key; the terminal nodes are the labels of level 1, left to right, and a key leads to each.
 use mathlib.Core.Path.{_≡_, refl, sym, ap, _∙_, subst}
 use mathlib.Core.Bool.{true}
 use mathlib.Core.Logic.{_⊎_, inl, inr}
@@ -28,8 +28,10 @@ use Rattle.represent.specs.Labelled.{Each, occ, occs, Over, under, before, afte
 use Rattle.represent.specs.Image.{nodeAt, NodeIs}
 use Rattle.represent.specs.Rep.{Stretch, numbers, Rep}
 use Rattle.represent.specs.Promises.{pathSteps}
-use Rattle.readings.specs.Clauses.{Taken, start, PointsDown, runOf, Entry, NotBefore, passed, terminal, Balanced, Terminal, InKeyOrder, Clauses}
-use Rattle.represent.proofs.LabelLaws.{label-low, label-high, ind-other, occ-at, labels-at, each-labels, each-of, each-label, each-relabel, over-at, leafAt-under, over-in, over-parts}
+use Rattle.readings.specs.Clauses.{Taken, start, PointsDown, runOf, Entry, NotBefore, passed, terminal}
+use Rattle.readings.specs.Clauses.{Balanced, Terminal, InKeyOrder, Clauses}
+use Rattle.represent.proofs.LabelLaws.{label-low, label-high, ind-other, occ-at, labels-at, over-at, leafAt-under, over-in, over-parts}
+use Rattle.represent.proofs.LabelLaws.{each-labels, each-of, each-label, each-relabel}
 use Rattle.represent.proofs.ImageLaws.{entry-label, Shown}
 use Rattle.represent.proofs.RepLaws.{rep-shown}
 use Rattle.represent.proofs.Links.{rep-once, rep-linked}
@@ -97,10 +99,12 @@ later (fork l r) (suc w) k k′ h =
           ]
       | inr e ↦
           elim (bool-cases (bit w k′)) [
-            | inl e′ ↦ rw (e, e′) (List·Memᴰ·tail (mem-right (leafAt r (bits w k′)) (after l (bits w k)) (labels r) (leaf-mem r (bits w k′))))
+            | inl e′ ↦
+                rw (e, e′) (List·Memᴰ·tail (mem-right (leafAt r (bits w k′)) (after l (bits w k)) (labels r) (leaf-mem r (bits w k′))))
             | inr e′ ↦
                 rw (e, e′)
-                (mem-left (leafAt l (bits w k′)) (leafAt l (bits w k) ∷ after l (bits w k)) (labels r) (later l w k k′ (omega (arith, rw (e, e′) at h))))
+                (mem-left (leafAt l (bits w k′)) (leafAt l (bits w k) ∷ after l (bits w k)) (labels r)
+                (later l w k k′ (omega (arith, rw (e, e′) at h))))
           ]
     ]
 
@@ -146,7 +150,8 @@ module _ (f : Format) (s : List ℕ) (b0 : Trie Stretch) (b : Trie ℕ) (bs : Li
   module _ (l : ℕ) (q : l < length (b ∷ bs)) where
     over : Over (Shows l) (level (suc l)) (level l)
     over =
-        level-over (headOf s .theta) node (headOf s .root) (headOf s .levels) 0 (numbers b0) (b ∷ bs) l l (r .directory .nodes) q (omega arith)
+        level-over (headOf s .theta) node (headOf s .root) (headOf s .levels) 0 (numbers b0) (b ∷ bs) l l (r .directory .nodes) q
+        (omega arith)
 
     node-label : (n : ℕ) → 1 ≤ occ n (level (suc l)) → 1 ≤ occs n (b ∷ bs)
     node-label n o = omega (arith, level-part (numbers b0) (b ∷ bs) l n q)
@@ -175,7 +180,8 @@ module _ (f : Format) (s : List ℕ) (b0 : Trie Stretch) (b : Trie ℕ) (bs : Li
     own-is = at .1 .level-is
 
   -- an entry of a node of level l + 1 points to a label of level l
-  points : (n i l : ℕ) → l < length (b ∷ bs) → levelWord s (start s n) ≡ suc l → 1 ≤ occ (entryPointer s (start s n) i) (level l) → PointsDown s n i
+  points : (n i l : ℕ) → l < length (b ∷ bs) → levelWord s (start s n) ≡ suc l → 1 ≤ occ (entryPointer s (start s n) i) (level l)
+      → PointsDown s n i
   points n i zero q e o =
       inl (e, label-high (headOf s .pagesTaken) (λ p. occ p (numbers b0)) (entryPointer s (start s n) i) (r .pages .oneForOne .none) o)
   points n i (suc l) q e o =
@@ -208,17 +214,14 @@ module _ (f : Format) (s : List ℕ) (b0 : Trie Stretch) (b : Trie ℕ) (bs : Li
         → (entryPointer s (start s n) i ≡ 0 → ⊥) → entryPointer s (start s n) j ≡ entryPointer s (start s n) i
         → (i - i % runOf s n i ≤ j) × (j < i - i % runOf s n i + runOf s n i)
     alone j q z e =
+        let x : ℕ = entryPointer s (start s n) i in
+        let single : occ x (at n t .0) ≤ 1 = omega (arith, at n t .2 x, once (own n t .0) x (omega (arith, own n t .1)) (omega arith)) in
         subst
         (λ H. (i - i % 2 ^ (H - entryDepth s (start s n) i) ≤ j)
         × (j < i - i % 2 ^ (H - entryDepth s (start s n) i) + 2 ^ (H - entryDepth s (start s n) i)))
         (sym (at n t .1 .depth))
         (entry-alone (entryOf s (start s n)) (at n t .0) (at n t .1 .entry) i small j
-        (subst (λ H. j < 2 ^ H) (at n t .1 .depth) q)
-        (omega (arith, at n t .2 (entryPointer s (start s n) i), once (own n t .0) (entryPointer s (start s n) i) (omega (arith, own n t .1)) (pos z)))
-        e)
-      where
-        pos : (entryPointer s (start s n) i ≡ 0 → ⊥) → 1 ≤ entryPointer s (start s n) i
-        pos z = omega arith
+        (subst (λ H. j < 2 ^ H) (at n t .1 .depth) q) single e)
 
     page : levelWord s (start s n) ≡ 1
         → (entryPointer s (start s n) i ≡ 0)
@@ -272,7 +275,8 @@ module _ (f : Format) (s : List ℕ) (b0 : Trie Stretch) (b : Trie ℕ) (bs : Li
           nodes = λ l q.
               let q′ : l < length (b ∷ bs) = omega (arith, count) in
               let o = occ-at (level (suc l)) key in
-              subst (λ n. Taken s n × (levelWord s (start s n) ≡ suc l)) (sym (passes l q′)) (taken _ (node-label l q′ _ o), level-is l q′ _ o);
+              subst (λ n. Taken s n × (levelWord s (start s n) ≡ suc l)) (sym (passes l q′))
+              (taken _ (node-label l q′ _ o), level-is l q′ _ o);
           down = λ l q.
               subst (λ n. Entry s n (passed f s k l)) (sym (passes (suc l) (omega (arith, count))))
               (subst (Entry s (leafAt (level (suc (suc l))) key)) (sym (passes l (omega (arith, count)))) (link l (omega (arith, count))));
@@ -326,7 +330,8 @@ module _ (f : Format) (s : List ℕ) (b0 : Trie Stretch) (b : Trie ℕ) (bs : Li
         one = (labels b, key-order);
         two = λ n t. (
           omega (arith, at n t .1 .depth, at n t .1 .low),
-          subst (λ H. zeros s (start s n + 4 + 2 * 2 ^ H) (2 * (2 ^ headOf s .theta - 2 ^ H)) ≡ true) (sym (at n t .1 .depth)) (at n t .1 .blank),
+          subst (λ H. zeros s (start s n + 4 + 2 * 2 ^ H) (2 * (2 ^ headOf s .theta - 2 ^ H)) ≡ true) (sym (at n t .1 .depth))
+              (at n t .1 .blank),
         );
         three = λ n i t l. (down n i t l, runs n i t l .0);
         four = λ n i j t l q. runs n i t l .1 j q;

@@ -45,7 +45,8 @@ module _ (θ : ℕ) (node : ℕ → List ℕ) (root levels : ℕ) where
   level-over k u (b ∷ bs) (suc l) m h q e = level-over (suc k) b bs l m (h .1) (omega arith) (omega arith)
 
   -- the last is the root alone
-  pub level-last : (k : ℕ) (u : Trie ℕ) (bs : List (Trie ℕ)) (l : ℕ) → Nodes θ node root levels k u bs → l ≡ length bs → levelOf u bs l ≡ leaf root
+  pub level-last : (k : ℕ) (u : Trie ℕ) (bs : List (Trie ℕ)) (l : ℕ) → Nodes θ node root levels k u bs → l ≡ length bs
+      → levelOf u bs l ≡ leaf root
   level-last k u [] zero h e = h .0
   level-last k u [] (suc l) h e = h .0
   level-last k u (b ∷ bs) zero h e = absurd (omega arith)

@@ -1,5 +1,5 @@
--- Where a label stands in a trie: some key leads to it, and where it occurs once, all keys that lead to it share the bits that do. So in the trie's
--- array it fills one aligned run.
+-- Where a label stands in a trie: some key leads to it, and where it occurs once, all keys that lead to it share the bits that do. So in
+-- the trie's array it fills one aligned run.
 use mathlib.Core.Path.{_≡_, sym, ap, _∙_}
 use mathlib.Core.Logic.{inl, inr}
 use Prim.Native.Nat.{ℕ, zero, suc, _+_, _-_, _*_, _/_, _%_, _^_, _≤_, _<_}
@@ -97,5 +97,6 @@ module _ (H : ℕ) (t : Trie ℕ) (fits : height t ≤ H) where
   one-run i j p q o e =
       in-run (H - entryAt i .0) i j
       (ap (λ x. j / 2 ^ (H - x .0)) (entry-is i p)
-      ∙ shared t H 0 i j (entryAt i .1) (div-eq-of-lt p) (div-eq-of-lt q) fits o (ap (λ x. x .1) (entry-is i p)) (sym e ∙ ap (λ x. x .1) (entry-is j q))
+      ∙ shared t H 0 i j (entryAt i .1) (div-eq-of-lt p) (div-eq-of-lt q) fits o (ap (λ x. x .1) (entry-is i p))
+      (sym e ∙ ap (λ x. x .1) (entry-is j q))
       ∙ ap (λ x. i / 2 ^ (H - x .0)) (sym (entry-is i p)))

@@ -22,7 +22,8 @@ use Rattle.search.specs.Next.{nextOf, nextReply}
 use Rattle.represent.specs.Rep.{keyOf, Rep, Holds}
 use Rattle.readings.specs.Listing.{firstWhere, findIn, nextIn}
 use Rattle.readings.specs.Clauses.{Clauses}
-use Rattle.readings.specs.Promises.{Sound, FindReads, NextReads, RangeReads, SummaryReads, FindZero, OwnBitsLead, NoDamage, ClausesHold}
+use Rattle.readings.specs.Promises.{Sound, FindReads, NextReads, RangeReads, SummaryReads, FindZero, OwnBitsLead}
+use Rattle.readings.specs.Promises.{NoDamage, ClausesHold}
 use Rattle.readings.proofs.FirstLaws.{first-none, all-mem, found-own}
 use Rattle.readings.proofs.Records.{records, records-are}
 use Rattle.readings.proofs.ListingLaws.{NextIs, range-is, summary-is, find-sound, next-sound, range-sound, summary-sound}
@@ -92,7 +93,8 @@ module _ (f : Format) (s : List ℕ) (S : List Item) where
         find = λ k p. subst (λ a. Sound (a .number)) (sym (find-reads h k p)) (find-sound S k);
         next = λ k p. subst (λ a. Sound (a .number)) (sym (next-reads h k p)) (next-sound S k);
         range = λ low high out q. subst (λ a. Sound (a .reply .number)) (sym (range-reads h low high out q)) (range-sound f S low high out);
-        summary = λ low high today q. subst (λ a. Sound (a .number)) (sym (summary-reads h low high today q)) (summary-sound S low high today);
+        summary = λ low high today q.
+            subst (λ a. Sound (a .number)) (sym (summary-reads h low high today q)) (summary-sound S low high today);
       }
 
   pub clauses-hold : ClausesHold f s S

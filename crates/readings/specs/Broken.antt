@@ -1,5 +1,6 @@
 -- Stores that break the report's definition, each in one clause: they keep the clauses from being weakened.
---   doubled    == θ = 1, C = N = P = 1: the two entries of node 1, with h = 1, both point to page 1. Every entry's aligned run is there; but page 1 has two
+--   doubled    == θ = 1, C = N = P = 1: the two entries of node 1, with h = 1, both point to page 1. Every entry's aligned run is there;
+--                 but page 1 has two
 --   orphaned   == θ = 1, C = P = 1, N = 2: node 1 is the root and a terminal node, node 2 a terminal node behind it that no key reaches
 --   DoubledBreaks, OrphanedBreaks == neither keeps the five clauses
 use mathlib.Core.List.{List, [], _∷_, _++_}

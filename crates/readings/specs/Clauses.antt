@@ -83,17 +83,18 @@ module _ (f : Format) (s : List ℕ) where
     -- 1. "all terminal nodes appear on the same level and are linked in key order."
     pub balanced : (k : ℕ) → k < 2 ^ width f → Balanced k
     pub one : (ns : List ℕ) × InKeyOrder ns
-    -- 2. "every directory node D at level l is headed by a value D.H for 0 ≤ H ≤ θ and has k = 2^H entries." (No word after them is in use.)
+    -- 2. "every directory node D at level l is headed by a value D.H for 0 ≤ H ≤ θ and has k = 2^H entries."
+    -- (No word after them is in use.)
     pub two : (n : ℕ) → Taken s n
         → (depthWord s (start s n) ≤ headOf s .theta)
         × (zeros s (start s n + 4 + 2 * 2 ^ depthWord s (start s n)) (2 * (2 ^ headOf s .theta - 2 ^ depthWord s (start s n))) ≡ true)
-    -- 3. "each entry D_i for 0 ≤ i ≤ 2^H − 1 consists of a pointer .. which points to a directory node or a data page at level l − 1, and a local
-    -- depth D_i.h for 0 ≤ h ≤ H."
+    -- 3. "each entry D_i for 0 ≤ i ≤ 2^H − 1 consists of a pointer .. which points to a directory node or a data page at level l − 1, and a
+    -- local depth D_i.h for 0 ≤ h ≤ H."
     pub three : (n i : ℕ) → Taken s n → i < 2 ^ depthWord s (start s n)
         → PointsDown s n i × (entryDepth s (start s n) i ≤ depthWord s (start s n))
-    -- 4. "if a node has a global depth H then for each entry with local depth h there are 2^(H−h) entries of the node with the same values of local
-    -- depth and page pointers." Document 01: "read run by run: several runs of one node may be null with the same h." So these entries are the
-    -- aligned run around the entry, and no entry outside it has the same pointer, unless that is null.
+    -- 4. "if a node has a global depth H then for each entry with local depth h there are 2^(H−h) entries of the node with the same values
+    -- of local depth and page pointers." Document 01: "read run by run: several runs of one node may be null with the same h." So these
+    -- entries are the aligned run around the entry, and no entry outside it has the same pointer, unless that is null.
     pub four : (n i j : ℕ) → Taken s n → i < 2 ^ depthWord s (start s n) → j < runOf s n i
         → entryOf s (start s n) (i - i % runOf s n i + j) ≡ entryOf s (start s n) i
     pub only : (n i j : ℕ) → Taken s n → i < 2 ^ depthWord s (start s n) → j < 2 ^ depthWord s (start s n)

@@ -1,5 +1,5 @@
--- The descent with a key, level by level upwards: the way from the root is the same as the way on from the key's node of any level, with the steps
--- above it taken. At each node the next bits of the key number the entry that the tries have at the key.
+-- The descent with a key, level by level upwards: the way from the root is the same as the way on from the key's node of any level, with
+-- the steps above it taken. At each node the next bits of the key number the entry that the tries have at the key.
 use mathlib.Core.Path.{_≡_, refl, sym, ap, ap₂, _∙_}
 use mathlib.Core.Bool.{true, false}
 use mathlib.Core.List.{List, [], _∷_, _++_}
