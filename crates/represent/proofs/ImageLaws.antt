@@ -84,10 +84,10 @@ module _ (s : List ℕ) (a θ level back forward : ℕ) (v : Trie ℕ) (fits : a
   -- a word after the four
   past : (i : ℕ) → i < 2 * 2 ^ θ → word s (a + 4 + i) ≡ getD tail i 0
   unfolding nodeWords nodeImage
-  past i l = let e : a + 4 + i ≡ a + (4 + i) = omega arith in ap (word s) e ∙ at (4 + i) (omega arith) ∙ four i
+  past i l = let e : a + 4 + i ≡ a + (4 + i) = omega arith in ap (word s) e ∙ at (4 + i) (omega arith) ∙ four _ _ _ _ i
     where
-      four : (i : ℕ) → word (height v ∷ level ∷ back ∷ forward ∷ tail) (4 + i) ≡ getD tail i 0
-      four i = getD-past (height v ∷ level ∷ back ∷ forward ∷ []) tail 0 i refl
+      four : (x y z t i : ℕ) → word (x ∷ y ∷ z ∷ t ∷ tail) (4 + i) ≡ getD tail i 0
+      four x y z t i = getD-past (x ∷ y ∷ z ∷ t ∷ []) tail 0 i refl
 
   pows : 2 ^ height v ≤ 2 ^ θ
   pows = pow-mono {i = height v} {j = θ} low
