@@ -1,5 +1,5 @@
--- What next and range find behind a key's own page: the nodes of level 1 stand for the pages in key order, and from the run after the key's own, run by
--- run and link by link, the first pointer that is not null is the first page behind the key's.
+-- What next and range find behind a key's own page: the nodes of level 1 stand for the pages in key order, and from the run after the key's
+-- own, run by run and link by link, the first pointer that is not null is the first page behind the key's.
 --   Chained P ns ls == P holds of each of the numbers ns and a trie, and the labels of these tries, one after the other, are ls
 --   visited f s strict k p == what the first page behind the key's gives, if it is p; 0 stands for none
 --   ownStep f b0 b k       == the first step of the descent with k
@@ -79,7 +79,8 @@ module _ {A : Type 0} (P : ℕ → Trie A → Type 0) where
   after-over : (b : Trie ℕ) (u : Trie A) (k : Key) → Over P b u → Followed (after u k) (after (under b u k) (rest b k)) (after b k)
   after-over (leaf n) u k h = ([], sym (append-nil (after u k)), refl)
   after-over (fork l r) (leaf x) k h = absurd h
-  after-over (fork l r) (fork ul ur) [] h = followed-more _ (after (under l ul []) (rest l [])) (after l []) r ur (h .1) (after-over l ul [] (h .0))
+  after-over (fork l r) (fork ul ur) [] h =
+      followed-more _ (after (under l ul []) (rest l [])) (after l []) r ur (h .1) (after-over l ul [] (h .0))
   after-over (fork l r) (fork ul ur) (false ∷ k) h =
       followed-more _ (after (under l ul k) (rest l k)) (after l k) r ur (h .1) (after-over l ul k (h .0))
   after-over (fork l r) (fork ul ur) (true ∷ k) h = after-over r ur k (h .1)
@@ -111,7 +112,7 @@ module _ (f : Format) (s : List ℕ) (strict : Bool) (k : ℕ) where
   visited-some zero q = absurd (omega arith)
   visited-some (suc p) q = refl
 
-  -- one hop, from entry i of node n on, where the pointers xs come next: to the first of them that is not null, to the next node, or to the end
+  -- one hop, from entry i of node n on, where the pointers xs come next: to the first of them that is not null, else to the next node
   module _ (left n i : ℕ) (xs ls : List ℕ) (e : pointerFrom s n i ≡ firstPage xs) where
     hop-found : 1 ≤ firstPage xs → follow f s h strict k (suc left) n i ≡ visited (firstPage (xs ++ ls))
     hop-found q =
@@ -151,7 +152,8 @@ module _ (f : Format) (s : List ℕ) (strict : Bool) (k : ℕ) where
         | yes q ↦ hop-found (suc left) n i xs ls e q
         | no q ↦
             hop-next (suc left) n i xs ls e m (omega arith) next (pass .0) (links .0) (omega arith)
-            (along small left m 0 ns (labels (ch .0)) (ch .2 .0) (first-of-all s _ _ 1 (ch .0) (ch .1) small) (links .1) (links .2) (pass .1)
+            (along small left m 0 ns (labels (ch .0)) (ch .2 .0) (first-of-all s _ _ 1 (ch .0) (ch .1) small)
+            (links .1) (links .2) (pass .1)
             (ch .2 .2) (omega arith)
             ∙ ap (λ ks. visited (firstPage ks)) (sym (ch .2 .1)))
       ]
@@ -226,7 +228,8 @@ module _ (f : Format) (s : List ℕ) (b0 : Trie Stretch) (b : Trie ℕ) (bs : Li
       let w = after-over (ShownAt s) b u key shown in
       sym (own-is f s (headOf s) strict k step refl refl refl refl)
       ∙ ap (λ n. follow f s (headOf s) strict k n (leafAt b key) start) (add-one (headOf s .nodesTaken))
-      ∙ along f s strict k small (headOf s .nodesTaken) (leafAt b key) start (after b key) (after (under b u key) (rest b key)) (w .0) own-pointer
+      ∙ along f s strict k small (headOf s .nodesTaken) (leafAt b key) start (after b key) (after (under b u key) (rest b key))
+      (w .0) own-pointer
       (rep-next f s b0 b bs r key) (rep-after f s b0 b bs r key) passing (w .2) few
       ∙ ap (λ xs. visited f s strict k (firstPage xs)) (sym (w .1))
 
@@ -235,4 +238,5 @@ module _ (f : Format) (s : List ℕ) (b0 : Trie Stretch) (b : Trie ℕ) (bs : Li
       → afterOwn f s (headOf s) strict k (getD (descent f s (headOf s) k .steps) 0 noStep)
       ≡ visited f s strict k (firstPage (after (numbers b0) (bits (width f) k)))
   after-descent strict =
-      ap (λ d. afterOwn f s (headOf s) strict k (getD (d .steps) 0 noStep)) (descent-is f s b0 (b ∷ bs) r k low pass deep) ∙ after-own strict
+      ap (λ d. afterOwn f s (headOf s) strict k (getD (d .steps) 0 noStep)) (descent-is f s b0 (b ∷ bs) r k low pass deep)
+      ∙ after-own strict

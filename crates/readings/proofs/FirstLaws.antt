@@ -87,7 +87,7 @@ module _ (strict : Bool) (k : ℕ) where
   first-beyond xs a = first-all test xs (all-map (λ x. k < x .key) (λ x. test x ≡ true) xs (λ x p. above-true strict k (x .key) p) a)
 
 -- a record has its key alone
-pub all-mem : (P : Item → Type 0) {it : Item} {S : List Item} → List·Memᴰ it S → All P S → P it
+pub all-mem : {A : Type 0} (P : A → Type 0) {x : A} {xs : List A} → List·Memᴰ x xs → All P xs → P x
 all-mem P (List·Memᴰ·head e) a = rw e (a .0)
 all-mem P (List·Memᴰ·tail m) a = all-mem P m (a .1)
 

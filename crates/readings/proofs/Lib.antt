@@ -5,5 +5,8 @@ pub mod PageFirst
 pub mod Runs
 pub mod Along
 pub mod Readings
+pub mod Once
+pub mod Levels
 pub mod ClauseLaws
+pub mod Broken
 pub mod Promises

@@ -1,5 +1,5 @@
--- Range and summary follow from next: on an ascending list each next is the record behind the one before, so the records read are those of the
--- list from low to high, and as keys rise by one at least, the turns are enough.
+-- Range and summary follow from next: on an ascending list each next is the record behind the one before, so the records read are those of
+-- the list from low to high, and as keys rise by one at least, the turns are enough.
 --   upTo high its     == the records with keys to high
 --   cutAt n its       == a range of the records its with room for n
 --   Follows its       == next of each of the records is the one behind it
@@ -86,12 +86,14 @@ module _ (f : Format) (s : List ℕ) (h : Head) where
     abbrev Turns : ℕ → List Item → Type 0
     Turns fuel its = (1 ≤ fuel) × All (λ it. high < it .key + fuel) its
 
-    turns-on : (fuel n : ℕ) (it : Item) (its : List Item) → fuel ≤ n + 1 → Turns fuel (it ∷ its) → All (λ x. it .key < x .key) its → it .key < high
+    turns-on : (fuel n : ℕ) (it : Item) (its : List Item) → fuel ≤ n + 1 → Turns fuel (it ∷ its) → All (λ x. it .key < x .key) its
+        → it .key < high
         → Turns n its
     turns-on fuel n it its e t a p =
         (omega (arith, t .1 .0), all-map (λ x. it .key < x .key) (λ x. high < x .key + n) its (λ x q. omega (arith, t .1 .0)) a)
 
-    range-walk : (fuel : ℕ) (strict : Bool) (k room : ℕ) (its : List Item) → nextOf f s h strict k ≡ firstOf its → Follows its → Sorted keyOf its
+    range-walk : (fuel : ℕ) (strict : Bool) (k room : ℕ) (its : List Item) → nextOf f s h strict k ≡ firstOf its → Follows its
+        → Sorted keyOf its
         → Turns fuel its → rangeFrom f s h high fuel strict k room ≡ cutAt room (upTo high its)
     range-walk zero strict k room its n g o t = absurd (omega (arith, t .0))
     range-walk (suc fuel) strict k room [] n g o t = from-nothing f s h high fuel strict k room n ∙ sym (cut-nil room)
@@ -109,7 +111,8 @@ module _ (f : Format) (s : List ℕ) (h : Head) where
                       | yes r ↦
                           from-last f s h high fuel strict k room it n q r
                           ∙ also-ended it
-                          ∙ ap (also it) (sym (ap (cutAt (room - 1)) (upTo-above high (it .key) its (omega arith) (o .0)) ∙ cut-nil (room - 1)))
+                          ∙ ap (also it)
+                          (sym (ap (cutAt (room - 1)) (upTo-above high (it .key) its (omega arith) (o .0)) ∙ cut-nil (room - 1)))
                           ∙ cut-also room it (upTo high its) q
                       | no r ↦
                           let u : Turns fuel its = turns-on (suc fuel) fuel it its (omega arith) t (o .0) (omega arith) in
@@ -159,7 +162,8 @@ within-rest : (low high : ℕ) (front rest : List Item) → All (λ x. x .key < 
 unfolding within
 within-rest low high [] rest a b =
     filter-same (λ x. leb low (x .key) && leb (x .key) high) (λ x. leb (x .key) high) rest
-    (all-map (λ x. low ≤ x .key) (λ x. (leb low (x .key) && leb (x .key) high) ≡ leb (x .key) high) rest (λ x p. rw (le-leb low (x .key) p)) b)
+    (all-map (λ x. low ≤ x .key) (λ x. (leb low (x .key) && leb (x .key) high) ≡ leb (x .key) high) rest
+    (λ x p. rw (le-leb low (x .key) p)) b)
 within-rest low high (x ∷ front) rest a b =
     filter-false (λ y. leb low (y .key) && leb (y .key) high) x (front ++ rest) (rw (lt-leb low (x .key) (a .0)))
     ∙ within-rest low high front rest (a .1) b
@@ -233,16 +237,19 @@ module _ (f : Format) (s : List ℕ) (h : Head) (S : List Item) where
 -- the replies, of a store that keeps the head rule
 module _ (f : Format) (s : List ℕ) (S : List Item) where
   module _ (next-is : NextIs f s (headOf s) S) (sorted : Sorted keyOf S) (bounded : Bounded keyOf (2 ^ width f) S) where
-    pub range-is : headRule f s ≡ true → (low high : ℕ) (out : List ℕ) → high < 2 ^ width f → rangeOf f s low high out ≡ rangeIn f S low high out
+    pub range-is : headRule f s ≡ true → (low high : ℕ) (out : List ℕ) → high < 2 ^ width f
+        → rangeOf f s low high out ≡ rangeIn f S low high out
     unfolding rangeOf rangeIn
     range-is rule low high out q =
         elim (bool-cases (ltb high low)) [
           | inl e ↦ rw (rule, e, rangeOf, rangeIn)
           | inr e ↦ rw (rule, e, rangeOf, rangeIn)
-              (ap (listed f out) (ranged-is f s (headOf s) S next-is sorted bounded low high (length out / words f) (ltb-false high low e) q))
+              (ap (listed f out)
+              (ranged-is f s (headOf s) S next-is sorted bounded low high (length out / words f) (ltb-false high low e) q))
         ]
 
-    pub summary-is : headRule f s ≡ true → (low high today : ℕ) → high < 2 ^ width f → summaryOf f s low high today ≡ summaryIn S low high today
+    pub summary-is : headRule f s ≡ true → (low high today : ℕ) → high < 2 ^ width f
+        → summaryOf f s low high today ≡ summaryIn S low high today
     unfolding summaryOf summaryIn
     summary-is rule low high today q =
         elim (bool-cases (ltb high low)) [
@@ -270,11 +277,11 @@ first-sound test (it ∷ its) =
 
 pub find-sound : (S : List Item) (k : ℕ) → Sound (findIn S k .number)
 unfolding findIn
-find-sound S k = first-sound (λ it. eqb (it .key) k) S
+find-sound S k = first-sound _ S
 
 pub next-sound : (S : List Item) (k : ℕ) → Sound (nextIn S k .number)
 unfolding nextIn
-next-sound S k = first-sound (λ it. above true k (it .key)) S
+next-sound S k = first-sound _ S
 
 pub range-sound : (f : Format) (S : List Item) (low high : ℕ) (out : List ℕ) → Sound (rangeIn f S low high out .reply .number)
 unfolding rangeIn rangedIn listed

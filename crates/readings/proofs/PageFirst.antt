@@ -3,7 +3,7 @@ use mathlib.Core.Path.{_≡_, refl, sym, ap, _∙_}
 use mathlib.Core.Bool.{Bool, true, false, true≢false, false≢true}
 use mathlib.Core.List.{List, [], _∷_}
 use mathlib.Core.Logic.{_⊎_, inl, inr}
-use Prim.Native.Nat.{ℕ, zero, suc, _-_, _≤_, _<_}
+use Prim.Native.Nat.{ℕ, zero, suc, _≤_, _<_}
 use native.Mathlib.Decide.{decLt}
 use native.Mathlib.Omega.{arith}
 use lib.Dec.{ltb, eqb}
@@ -59,7 +59,8 @@ module _ (test : Item → Bool) where
 
   first-at : (rs : List Item) → (r : ℕ) × FirstAt rs r
   unfolding firstWhere
-  first-at [] = (0, record { within = omega arith; before = λ i h. absurd (omega arith); found = λ h. absurd (omega arith); none = λ h. refl })
+  first-at [] =
+      (0, record { within = omega arith; before = λ i h. absurd (omega arith); found = λ h. absurd (omega arith); none = λ h. refl })
   first-at (it ∷ its) =
       elim (bool-cases (test it)) [
         | inl e ↦ (0, here it its e)
@@ -97,7 +98,8 @@ module _ (k : ℕ) where
   below it e = ne-eqb (it .key) k (λ d. omega (arith, leb-false k (it .key) e))
 
   beyond : (it : Item) (its : List Item) → k ≤ it .key → All (λ y. it .key < y .key) its → firstWhere has its ≡ Nothing
-  beyond it its h a = first-none has its (all-map (λ y. it .key < y .key) (λ y. has y ≡ false) its (λ y l. ne-eqb (y .key) k (λ d. omega arith)) a)
+  beyond it its h a =
+      first-none has its (all-map (λ y. it .key < y .key) (λ y. has y ≡ false) its (λ y l. ne-eqb (y .key) k (λ d. omega arith)) a)
 
   has-none : (rs : List Item) → firstWhere reaches rs ≡ Nothing → firstWhere has rs ≡ Nothing
   has-none [] e = first-none has [] tt
@@ -126,7 +128,8 @@ module _ (k : ℕ) where
         | inr t ↦ first-false has it its (below it t) ∙ has-first its x (s .1) (sym (first-false reaches it its t) ∙ e)
       ]
 
-module _ (f : Format) (C : ℕ) (pg : List ℕ) (rs : List Item) (is : pg ≡ pageImage f C rs) (lawful : All (λ it. lawfulItem f it ≡ true) rs) where
+module _ (f : Format) (C : ℕ) (pg : List ℕ) (rs : List Item) (is : pg ≡ pageImage f C rs)
+    (lawful : All (λ it. lawfulItem f it ≡ true) rs) where
   abbrev counted : count pg ≡ length rs
   counted = page-count f C pg rs is
 
@@ -181,5 +184,7 @@ module _ (f : Format) (C : ℕ) (pg : List ℕ) (rs : List Item) (is : pg ≡ pa
   page-find k sorted =
       elim (first-cases (λ it. above false k (it .key)) rs) [
         | inl e ↦ rw (page-none false k e, inPage) (sym (has-none k rs e))
-        | inr p ↦ let a = page-first false k (p .0) (p .1) in rw (a .0, inPage) (ap (exactly k) (a .1) ∙ sym (has-first k rs (p .0) sorted (p .1)))
+        | inr p ↦
+            let a = page-first false k (p .0) (p .1) in
+            rw (a .0, inPage) (ap (exactly k) (a .1) ∙ sym (has-first k rs (p .0) sorted (p .1)))
       ]

@@ -1,26 +1,30 @@
 -- The promises about a store that holds a set, from the laws of represented stores.
 use mathlib.Core.Path.{_≡_, sym, ap, _∙_, subst}
-use mathlib.Core.Bool.{true}
+use mathlib.Core.Bool.{true, false}
 use mathlib.Core.List.{List, [], _∷_}
 use Prim.Native.Nat.{ℕ, _^_, _<_}
+use native.Mathlib.Omega.{arith}
 use lib.Dec.{eqb}
-use lib.ListN.{getD}
+use lib.Pow.{pow-pos}
+use borrow.Author.Tests.{ne-eqb}
 use Rattle.lists.specs.Keyed.{Bounded}
+use Rattle.lists.proofs.ListLaws.{all-map}
 use Rattle.tree.specs.Trie.{Trie}
 use Rattle.store.specs.declared.Format.{Format}
 use Rattle.store.specs.declared.Item.{Item}
 use Rattle.store.specs.Format.{width}
 use Rattle.store.specs.Head.{headOf}
-use Rattle.page.specs.Page.{above}
+use Rattle.page.specs.Page.{above, lawfulItem}
+use Rattle.page.proofs.Laws.{lawful-key}
 use Rattle.search.specs.declared.Sought.{Sought}
-use Rattle.search.specs.Descent.{noStep}
 use Rattle.search.specs.Find.{soughtReply, checked, findOf, findReply}
 use Rattle.search.specs.Next.{nextOf, nextReply}
 use Rattle.represent.specs.Rep.{keyOf, Rep, Holds}
 use Rattle.readings.specs.Listing.{firstWhere, findIn, nextIn}
 use Rattle.readings.specs.Clauses.{Clauses}
-use Rattle.readings.specs.Promises.{Sound, FindReads, NextReads, RangeReads, SummaryReads, OwnBitsLead, NoDamage, ClausesHold}
-use Rattle.readings.proofs.FirstLaws.{all-mem, found-own}
+use Rattle.readings.specs.Promises.{Sound, FindReads, NextReads, RangeReads, SummaryReads, FindZero, OwnBitsLead}
+use Rattle.readings.specs.Promises.{NoDamage, ClausesHold}
+use Rattle.readings.proofs.FirstLaws.{first-none, all-mem, found-own}
 use Rattle.readings.proofs.Records.{records, records-are}
 use Rattle.readings.proofs.ListingLaws.{NextIs, range-is, summary-is, find-sound, next-sound, range-sound, summary-sound}
 use Rattle.represent.proofs.Passes.{pages-pass}
@@ -65,10 +69,19 @@ module _ (f : Format) (s : List ℕ) (S : List Item) where
   next-reads h k low = replies _ h ∙ ap soughtReply (next-holds h true k low)
 
   pub range-reads : RangeReads f s S
-  range-reads h low high out p q = range-is f s S (next-holds h) (h .sorted) (bounded h) (head-passes f s S h) low high out q
+  range-reads h low high out q = range-is f s S (next-holds h) (h .sorted) (bounded h) (head-passes f s S h) low high out q
 
   pub summary-reads : SummaryReads f s S
-  summary-reads h low high today p q = summary-is f s S (next-holds h) (h .sorted) (bounded h) (head-passes f s S h) low high today q
+  summary-reads h low high today q = summary-is f s S (next-holds h) (h .sorted) (bounded h) (head-passes f s S h) low high today q
+
+  pub find-zero : FindZero f s S
+  unfolding findIn
+  find-zero h =
+      find-reads h 0 (pow-pos (width f))
+      ∙ ap soughtReply
+      (first-none (λ it. eqb (it .key) 0) S
+      (all-map (λ it. lawfulItem f it ≡ true) (λ it. eqb (it .key) 0 ≡ false) S
+      (λ it l. ne-eqb (it .key) 0 (λ e. omega (arith, lawful-key f it l .0))) (h .lawful)))
 
   pub own-bits-lead : OwnBitsLead f s S
   unfolding findIn
@@ -79,9 +92,9 @@ module _ (f : Format) (s : List ℕ) (S : List Item) where
       record {
         find = λ k p. subst (λ a. Sound (a .number)) (sym (find-reads h k p)) (find-sound S k);
         next = λ k p. subst (λ a. Sound (a .number)) (sym (next-reads h k p)) (next-sound S k);
-        range = λ low high out p q. subst (λ a. Sound (a .reply .number)) (sym (range-reads h low high out p q)) (range-sound f S low high out);
-        summary = λ low high today p q.
-            subst (λ a. Sound (a .number)) (sym (summary-reads h low high today p q)) (summary-sound S low high today);
+        range = λ low high out q. subst (λ a. Sound (a .reply .number)) (sym (range-reads h low high out q)) (range-sound f S low high out);
+        summary = λ low high today q.
+            subst (λ a. Sound (a .number)) (sym (summary-reads h low high today q)) (summary-sound S low high today);
       }
 
   pub clauses-hold : ClausesHold f s S
@@ -91,4 +104,4 @@ module _ (f : Format) (s : List ℕ) (S : List Item) where
       go [] r = absurd (r .directory .links)
       go (b ∷ bs) r =
           rep-clauses f s (h .b0) b bs r (pages-pass f s (h .b0) (b ∷ bs) r)
-          (λ k low. ap (λ d. getD (d .steps) 0 noStep .node) (descent-visits f s (h .b0) (b ∷ bs) k r low))
+          (λ k low. ap (λ d. d .steps) (descent-visits f s (h .b0) (b ∷ bs) k r low))

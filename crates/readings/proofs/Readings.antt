@@ -1,5 +1,5 @@
--- The readings of a store that holds S are those of the list S. The descent ends at the stretch of the key. Its page, if it has one, gives its records back;
--- the page reached after it is that of the first later stretch with records.
+-- The readings of a store that holds S are those of the list S. The descent ends at the stretch of the key. Its page, if it has one, gives
+-- its records back; the page reached after it is that of the first later stretch with records.
 use mathlib.Core.Path.{_≡_, refl, sym, ap, ap₂, _∙_}
 use mathlib.Core.Bool.{Bool, true, false}
 use mathlib.Core.Logic.{inl, inr}
@@ -114,7 +114,8 @@ module _ (f : Format) (s : List ℕ) (h : Head) (k : ℕ) where
       ])
 
 -- the first later page
-visited-is : (f : Format) (s : List ℕ) (strict : Bool) (k : ℕ) (xs : List Stretch) → All (Lawful f s (headOf s)) xs → All (λ it. k < it .key) (recordsOf xs)
+visited-is : (f : Format) (s : List ℕ) (strict : Bool) (k : ℕ) (xs : List Stretch) → All (Lawful f s (headOf s)) xs
+    → All (λ it. k < it .key) (recordsOf xs)
     → visited f s strict k (firstPage (map (λ x. x .0) xs)) ≡ firstOf (recordsOf xs)
 visited-is f s strict k [] l a = refl
 visited-is f s strict k ((p, []) ∷ xs) l a =
@@ -123,7 +124,8 @@ visited-is f s strict k ((zero, it ∷ its) ∷ xs) l a = absurd (omega (arith, 
 visited-is f s strict k ((suc p, it ∷ its) ∷ xs) l a =
     visit-is f s (headOf s) k strict (suc p) it its (l .0) (append-all (λ x. k < x .key) (it ∷ its) (recordsOf xs) a .0)
 
-module _ (f : Format) (s : List ℕ) (b0 : Trie Stretch) (b : Trie ℕ) (bs : List (Trie ℕ)) (r : Rep f s b0 (b ∷ bs)) (k : ℕ) (low : k < 2 ^ width f) where
+module _ (f : Format) (s : List ℕ) (b0 : Trie Stretch) (b : Trie ℕ) (bs : List (Trie ℕ)) (r : Rep f s b0 (b ∷ bs)) (k : ℕ)
+    (low : k < 2 ^ width f) where
   abbrev key : Key
   key = bits (width f) k
 
@@ -155,7 +157,8 @@ module _ (f : Format) (s : List ℕ) (b0 : Trie Stretch) (b : Trie ℕ) (bs : Li
       (ap₂ (found f s (headOf s) k) page-is (ap (λ d. d .used) visits) ∙ found-is f s (headOf s) k (leafAt b0 key) (depth b0 key) own agree)
       ∙ sym (find-own (width f) k b0 (r .pages .keyed) low)
 
-  later : (strict : Bool) → afterOwn f s (headOf s) strict k (getD (descent f s (headOf s) k .steps) 0 noStep) ≡ firstOf (recordsOf (after b0 key))
+  later : (strict : Bool)
+      → afterOwn f s (headOf s) strict k (getD (descent f s (headOf s) k .steps) 0 noStep) ≡ firstOf (recordsOf (after b0 key))
   later strict =
       after-descent f s b0 b bs r (nodes-pass f s b0 (b ∷ bs) r) deep k low strict
       ∙ ap (λ ns. visited f s strict k (firstPage ns)) (after-relabel (λ x. x .0) b0 key)
@@ -166,7 +169,9 @@ module _ (f : Format) (s : List ℕ) (b0 : Trie Stretch) (b : Trie ℕ) (bs : Li
   unfolding nextOf fromDescent
   next-is strict =
       rw (ap (λ d. d .ok) visits, nextOf, fromDescent)
-      (ap₂ (λ p u. followed f s (headOf s) k strict p u (afterOwn f s (headOf s) strict k (getD (descent f s (headOf s) k .steps) 0 noStep)))
+      (ap₂
+      (λ p u.
+      followed f s (headOf s) k strict p u (afterOwn f s (headOf s) strict k (getD (descent f s (headOf s) k .steps) 0 noStep)))
       page-is (ap (λ d. d .used) visits))
       ∙ ap (followed f s (headOf s) k strict (leafAt b0 key .0) (depth b0 key)) (later strict)
       ∙ followed-is f s (headOf s) k strict (leafAt b0 key) (depth b0 key) (firstOf (recordsOf (after b0 key))) own agree

@@ -1,5 +1,5 @@
--- The records of a trie in order, against keys. A fork has the lower keys on its left, so what stands left of a key's leaf is below the key, and
--- what stands right of it is above; and the leaves of the trie of an ascending list, one after another, are the list.
+-- The records of a trie in order, against keys. A fork has the lower keys on its left, so what stands left of a key's leaf is below the
+-- key, and what stands right of it is above; and the leaves of the trie of an ascending list, one after another, are the list.
 --   held t       == the records of the leaves, one after another
 --   records b0   == the same of level-0 stretches
 --   recordsOf xs == the records of a list of stretches
@@ -7,7 +7,7 @@ use mathlib.Core.Path.{_≡_, refl, sym, ap, ap₂, _∙_}
 use mathlib.Core.Bool.{Bool, true, false}
 use mathlib.Core.List.{List, [], _∷_, _++_, append-assoc, append-nil}
 use mathlib.Core.Logic.{inl, inr}
-use Prim.Native.Nat.{ℕ, zero, suc, _+_, _-_, _*_, _/_, _^_, _≤_, _<_}
+use Prim.Native.Nat.{ℕ, zero, suc, _+_, _*_, _/_, _^_, _≤_, _<_}
 use native.Mathlib.Nat.{div-eq-of-lt}
 use native.Mathlib.Decide.{decLe, decLt}
 use native.Mathlib.Omega.{arith}
@@ -74,7 +74,8 @@ module _ {R : Type 0} where
         elim (bool-cases (bit w (key x))) [
           | inl e ↦
               let a : All (λ r. bit w (key r) ≡ true) (x ∷ xs) = (e, all-high w q x xs s p e) in
-              let b : All (λ r. low r ≡ false) (x ∷ xs) = all-map (λ r. high r ≡ true) (λ r. low r ≡ false) (x ∷ xs) (λ r o. ap (same false) o) a in
+              let b : All (λ r. low r ≡ false) (x ∷ xs) =
+              all-map (λ r. high r ≡ true) (λ r. low r ≡ false) (x ∷ xs) (λ r o. ap (same false) o) a in
               ap₂ _++_ (filter-none low (x ∷ xs) b) (filter-every high (x ∷ xs) a)
           | inr e ↦
               ap₂ _++_ (filter-true low x xs (ap (same false) e)) (filter-false high x xs e)
@@ -107,7 +108,8 @@ records-are C W b0 S e s b = ap held e ∙ build-records keyOf C W 0 S s (bounde
 
 recordsOf-append : (xs ys : List Stretch) → recordsOf (xs ++ ys) ≡ recordsOf xs ++ recordsOf ys
 recordsOf-append [] ys = refl
-recordsOf-append (x ∷ xs) ys = ap (λ (l : List Item). x .1 ++ l) (recordsOf-append xs ys) ∙ sym (append-assoc (x .1) (recordsOf xs) (recordsOf ys))
+recordsOf-append (x ∷ xs) ys =
+    ap (λ (l : List Item). x .1 ++ l) (recordsOf-append xs ys) ∙ sym (append-assoc (x .1) (recordsOf xs) (recordsOf ys))
 
 records-labels : (t : Trie Stretch) → records t ≡ recordsOf (labels t)
 records-labels (leaf x) = sym (append-nil (x .1))

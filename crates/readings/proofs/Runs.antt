@@ -1,5 +1,5 @@
--- The walk over the runs of one node gives the first page of the labels from there on: an array is its runs one after the other, and the run after
--- the key's own starts where the entries of the runs up to it end.
+-- The walk over the runs of one node gives the first page of the labels from there on: an array is its runs one after the other, and the
+-- run after the key's own starts where the entries of the runs up to it end.
 --   firstPage ns == the first of the numbers that is not 0; 0 if there is none
 --   Own N t k d n == the runs of t, cut behind the key's own, which ends at n
 use mathlib.Core.Path.{_≡_, refl, sym, ap, ap₂, _∙_, subst}
@@ -62,7 +62,8 @@ module _ {A : Type 0} where
 
   spread-at : (H : ℕ) (a b : List (Entry A)) (e z : Entry A) → getD (spread H (a ++ (e ∷ b))) (length (spread H a)) z ≡ e
   spread-at H [] b e z =
-      List·getD-append (replicate (2 ^ (H - e .0)) e) (spread H b) z 0 (omega (arith, length-replicate (2 ^ (H - e .0)) e, pow-pos (H - e .0)))
+      List·getD-append (replicate (2 ^ (H - e .0)) e) (spread H b) z 0
+      (omega (arith, length-replicate (2 ^ (H - e .0)) e, pow-pos (H - e .0)))
       ∙ getD-replicate (2 ^ (H - e .0)) 0 e z (pow-pos (H - e .0))
   spread-at H (x ∷ a) b e z =
       getD-past (replicate (2 ^ (H - x .0)) x) (spread H (a ++ (e ∷ b))) z (length (spread H a))
@@ -177,5 +178,6 @@ module _ (s : List ℕ) (a θ level : ℕ) (v : Trie ℕ) (is : Shown s a θ lev
         ap₂ (λ d i. firstPointer s a (depthWord s a) 64 (runAfter (depthWord s a) d i)) ed ei
         ∙ ap (λ n. firstPointer s a n 64 (runAfter n (depth v k) (index H k))) (is .depth)
         ∙ ap (firstPointer s a H 64) start
-        ∙ walk (length (spread H (o .to))) (o .to) (o .on) (o .runs-are) (walked-none s a H (length (spread H (o .to))) (omega (arith, is .low)))
+        ∙ walk (length (spread H (o .to))) (o .to) (o .on) (o .runs-are)
+        (walked-none s a H (length (spread H (o .to))) (omega (arith, is .low)))
         ∙ ap firstPage (o .labels-are)

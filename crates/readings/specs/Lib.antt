@@ -1,3 +1,4 @@
 pub mod Listing
 pub mod Clauses
+pub mod Broken
 pub mod Promises

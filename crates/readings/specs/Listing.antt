@@ -1,5 +1,6 @@
 -- What the readings are to give, read off the ascending list S of the records held.
 --   firstWhere test S     == the first record that passes the test, or none
+--   firstKey S            == the key of the first record, 0 if there is none
 --   within low high S     == the records with keys from low to high
 --   rangedIn S low high n == a range with room for n records
 --   findIn, nextIn, rangeIn, summaryIn == the replies

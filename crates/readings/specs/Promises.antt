@@ -1,8 +1,10 @@
 -- What is promised of the readings of a store that holds a set, each as a type; proofs/Promises.antt proves them.
 --   FindReads, NextReads, RangeReads, SummaryReads == the readings are those of the ascending list
+--   FindZero         == find with the key 0, which no record has, gives none
 --   OwnBitsLead      == the bits of each held record's key lead to it
 --   Sound n          == the answer n is neither 3 nor 9
---   NoDamage         == no reading of a store that holds a set is refused with 3 or 9
+--   Undamaged        == no reading of the store is refused with 3 or 9
+--   NoDamage         == a store that holds a set is undamaged
 --   ClausesHold      == a store that holds a set keeps the report's five clauses
 use mathlib.Core.Path.{_≡_}
 use mathlib.Core.List.{List, List·Memᴰ}
@@ -10,7 +12,7 @@ use Prim.Native.Nat.{ℕ, _^_, _<_}
 use Rattle.store.specs.declared.Format.{Format}
 use Rattle.store.specs.declared.Item.{Item}
 use Rattle.store.specs.Format.{width}
-use Rattle.search.specs.Find.{findReply}
+use Rattle.search.specs.Find.{noItem, findReply}
 use Rattle.search.specs.Next.{nextReply}
 use Rattle.scan.specs.Range.{rangeOf}
 use Rattle.scan.specs.Summary.{summaryOf}
@@ -31,12 +33,13 @@ module _ (f : Format) (s : List ℕ) (S : List Item) where
   NextReads = Holds f s S → (k : ℕ) → k < 2 ^ width f → nextReply f s k ≡ nextIn S k
 
   abbrev pub RangeReads : Type 0
-  RangeReads =
-      Holds f s S → (low high : ℕ) (out : List ℕ) → low < 2 ^ width f → high < 2 ^ width f → rangeOf f s low high out ≡ rangeIn f S low high out
+  RangeReads = Holds f s S → (low high : ℕ) (out : List ℕ) → high < 2 ^ width f → rangeOf f s low high out ≡ rangeIn f S low high out
 
   abbrev pub SummaryReads : Type 0
-  SummaryReads =
-      Holds f s S → (low high today : ℕ) → low < 2 ^ width f → high < 2 ^ width f → summaryOf f s low high today ≡ summaryIn S low high today
+  SummaryReads = Holds f s S → (low high today : ℕ) → high < 2 ^ width f → summaryOf f s low high today ≡ summaryIn S low high today
+
+  abbrev pub FindZero : Type 0
+  FindZero = Holds f s S → findReply f s 0 ≡ record { number = 1; item = noItem }
 
   abbrev pub OwnBitsLead : Type 0
   OwnBitsLead = Holds f s S → (it : Item) → List·Memᴰ it S → findReply f s (it .key) ≡ record { number = 0; item = it }
@@ -44,8 +47,8 @@ module _ (f : Format) (s : List ℕ) (S : List Item) where
   pub record Undamaged : Type 0 where
     pub find : (k : ℕ) → k < 2 ^ width f → Sound (findReply f s k .number)
     pub next : (k : ℕ) → k < 2 ^ width f → Sound (nextReply f s k .number)
-    pub range : (low high : ℕ) (out : List ℕ) → low < 2 ^ width f → high < 2 ^ width f → Sound (rangeOf f s low high out .reply .number)
-    pub summary : (low high today : ℕ) → low < 2 ^ width f → high < 2 ^ width f → Sound (summaryOf f s low high today .number)
+    pub range : (low high : ℕ) (out : List ℕ) → high < 2 ^ width f → Sound (rangeOf f s low high out .reply .number)
+    pub summary : (low high today : ℕ) → high < 2 ^ width f → Sound (summaryOf f s low high today .number)
 
   abbrev pub NoDamage : Type 0
   NoDamage = Holds f s S → Undamaged

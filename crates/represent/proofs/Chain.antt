@@ -1,5 +1,5 @@
--- Links as a list: a list that is linked both ways stays so where no link of it changes, and where a number m is put behind n: then n, m and the
--- number behind them have new links, and no other.
+-- Links as a list: a list that is linked both ways stays so where no link of it changes, and where a number m is put behind n: then n, m
+-- and the number behind them have new links, and no other.
 --   count x ns   == how often x stands in ns
 --   Same x       == x has the same links as before
 --   Mended n m q == m stands between n and q, if q is a number
@@ -40,7 +40,8 @@ first-append : (ns : List ℕ) (n : ℕ) (ms ms′ : List ℕ) → first (ns ++ 
 first-append [] n ms ms′ = refl
 first-append (a ∷ ns) n ms ms′ = refl
 
-pub linked-next : (back forward : ℕ → ℕ) (p : ℕ) (ns : List ℕ) (n : ℕ) (ms : List ℕ) → Linked back forward p (ns ++ (n ∷ ms)) → forward n ≡ first ms
+pub linked-next : (back forward : ℕ → ℕ) (p : ℕ) (ns : List ℕ) (n : ℕ) (ms : List ℕ) → Linked back forward p (ns ++ (n ∷ ms))
+    → forward n ≡ first ms
 linked-next back forward p [] n ms h = h .1
 linked-next back forward p (a ∷ ns) n ms h = linked-next back forward a ns n ms (h .2)
 

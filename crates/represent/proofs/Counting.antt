@@ -1,5 +1,5 @@
--- A trie whose labels are numbers from 1 to m, none twice, has at most m leaves: each leaf is counted once in the sum of how often each of 1, .., m
--- occurs. Where each of them occurs once, there are m leaves: so the counts in the head are those of the tree.
+-- A trie whose labels are numbers from 1 to m, none twice, has at most m leaves: each leaf is counted once in the sum of how often each of
+-- 1, .., m occurs. Where each of them occurs once, there are m leaves: so the counts in the head are those of the tree.
 --   upTo m g == g 1 + g 2 + .. + g m
 use mathlib.Core.Path.{_≡_, refl, sym, ap₂, _∙_}
 use mathlib.Core.List.{List, [], _∷_, map}
@@ -81,7 +81,8 @@ length-labels (leaf x) = refl
 length-labels (fork l r) = omega (arith, length-append (labels l) (labels r), length-labels l, length-labels r)
 
 -- a level has no more nodes than are taken
-pub rep-leaves : (f : Format) (s : List ℕ) (b0 : Trie Stretch) (b : Trie ℕ) (bs : List (Trie ℕ)) → Rep f s b0 (b ∷ bs) → leaves b ≤ headOf s .nodesTaken
+pub rep-leaves : (f : Format) (s : List ℕ) (b0 : Trie Stretch) (b : Trie ℕ) (bs : List (Trie ℕ)) → Rep f s b0 (b ∷ bs)
+    → leaves b ≤ headOf s .nodesTaken
 rep-leaves f s b0 b bs r =
     leaves-within (headOf s .nodesTaken) b
     (each-of _ b (λ n o. (

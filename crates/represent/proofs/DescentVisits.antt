@@ -1,5 +1,5 @@
--- The descent with a key, level by level upwards: the way from the root is the same as the way on from the key's node of any level, with the steps
--- above it taken. At each node the next bits of the key number the entry that the tries have at the key.
+-- The descent with a key, level by level upwards: the way from the root is the same as the way on from the key's node of any level, with
+-- the steps above it taken. At each node the next bits of the key number the entry that the tries have at the key.
 use mathlib.Core.Path.{_≡_, refl, sym, ap, ap₂, _∙_}
 use mathlib.Core.Bool.{true, false}
 use mathlib.Core.List.{List, [], _∷_, _++_}
@@ -49,7 +49,7 @@ module _ {A : Type 0} where
     height-under (fork l r) (fork ul ur) (false ∷ k) h = omega (arith, height-under l ul k (h .0))
     height-under (fork l r) (fork ul ur) (true ∷ k) h = omega (arith, height-under r ur k (h .1))
 
-    height-over : (b : Trie ℕ) (u : Trie A) → Over P b u → height b ≤ height u
+    pub height-over : (b : Trie ℕ) (u : Trie A) → Over P b u → height b ≤ height u
     height-over (leaf n) u h = omega arith
     height-over (fork l r) (leaf x) h = absurd h
     height-over (fork l r) (fork ul ur) h = omega (arith, height-over l ul (h .0), height-over r ur (h .1))

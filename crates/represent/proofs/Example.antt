@@ -41,7 +41,8 @@ pages-once (suc (suc (suc zero))) p q = refl
 pages-once (suc (suc (suc (suc n)))) p q = absurd (omega arith)
 
 pub example-holds : ExampleHolds
-unfolding stored headOf zeros lawfulSizes size nodeWords nodeStart pageStart pageWords pageAt part every nodeImage pageImage nodeAt itemWords flat
+unfolding stored headOf zeros lawfulSizes size nodeWords nodeStart pageStart pageWords pageAt part every nodeImage pageImage nodeAt
+    itemWords flat
     lawfulItem lawful word lawfulTerm lawfulDay width words build cut tower bit
 example-holds =
     record {

@@ -1,5 +1,5 @@
--- A store that holds a set keeps the head rule. The root is the one label of the last level, so a taken node; the levels are those of the tree of the
--- set, which are at most L. Its counts are the tree's, since each number taken labels one leaf.
+-- A store that holds a set keeps the head rule. The root is the one label of the last level, so a taken node; the levels are those of the
+-- tree of the set, which are at most L. Its counts are the tree's, since each number taken labels one leaf.
 use mathlib.Core.Path.{_≡_, refl, sym, ap, _∙_}
 use mathlib.Core.Bool.{true}
 use mathlib.Core.List.{List, [], _∷_}
@@ -93,7 +93,8 @@ module _ (f : Format) (s : List ℕ) (S : List Item) (w : Holds f s S) where
   counts =
       let p = root-in (h .theta) (nodeAt s h) (h .root) (h .levels) (numbers (w .b0)) (w .bs) (r .directory .nodes) (r .directory .links) in
       let low : 1 ≤ h .root = label-low (w .bs) (h .root) (r .directory .positive) (p .0) in
-      let high : h .root ≤ h .nodesTaken = label-high (h .nodesTaken) (λ n. occs n (w .bs)) (h .root) (r .directory .oneForOne .none) (p .0) in
+      let high : h .root ≤ h .nodesTaken =
+      label-high (h .nodesTaken) (λ n. occs n (w .bs)) (h .root) (r .directory .oneForOne .none) (p .0) in
       record {
         taken-low = omega arith;
         taken = r .nodes-fit;
@@ -102,7 +103,8 @@ module _ (f : Format) (s : List ℕ) (S : List Item) (w : Holds f s S) where
         root = high;
         levels-low = p .1;
         levels = rw levels-are
-            (levels-within keyOf (width f) (h .theta) (h .capacity) (limits .theta-low) (limits .capacity-low) log-low S (w .sorted) (lawful-bounded f S (w .lawful)));
+            (levels-within keyOf (width f) (h .theta) (h .capacity) (limits .theta-low) (limits .capacity-low) log-low S (w .sorted)
+            (lawful-bounded f S (w .lawful)));
       }
 
 yes-leb : {a b : ℕ} → a ≤ b → true ≡ leb a b
@@ -112,7 +114,8 @@ pub head-passes : HeadPasses
 head-passes f s S w =
     let c = counts f s S w in
     sym
-    (rule-is f s (headOf s) true true true true refl (sym (w .rep .sized .sizes)) (sym (w .rep .sized .spare)) (yes-leb (w .rep .sized .long))
+    (rule-is f s (headOf s) true true true true refl (sym (w .rep .sized .sizes)) (sym (w .rep .sized .spare))
+    (yes-leb (w .rep .sized .long))
     (counts-are f (headOf s) true true true true true true true (yes-leb (c .taken-low)) (yes-leb (c .taken)) (yes-leb (c .filled))
     (yes-leb (c .root-low)) (yes-leb (c .root)) (yes-leb (c .levels-low)) (yes-leb (c .levels))))
 

@@ -35,7 +35,8 @@ pub length-entryWords : (es : List (Entry ℕ)) → length (entryWords es) ≡ 2
 length-entryWords [] = refl
 length-entryWords (e ∷ es) = omega (arith, length-entryWords es)
 
-pub entry-depth : (es : List (Entry ℕ)) (ws : List ℕ) (j i : ℕ) → j < length es → i ≡ 2 * j → getD (entryWords es ++ ws) i 0 ≡ getD es j (0, 0) .0
+pub entry-depth : (es : List (Entry ℕ)) (ws : List ℕ) (j i : ℕ) → j < length es → i ≡ 2 * j
+    → getD (entryWords es ++ ws) i 0 ≡ getD es j (0, 0) .0
 entry-depth [] ws j i l e = absurd (omega arith)
 entry-depth (x ∷ es) ws zero zero l e = refl
 entry-depth (x ∷ es) ws zero (suc i) l e = absurd (omega arith)
@@ -43,7 +44,8 @@ entry-depth (x ∷ es) ws (suc j) zero l e = absurd (omega arith)
 entry-depth (x ∷ es) ws (suc j) (suc zero) l e = absurd (omega arith)
 entry-depth (x ∷ es) ws (suc j) (suc (suc i)) l e = entry-depth es ws j i (omega arith) (omega arith)
 
-pub entry-pointer : (es : List (Entry ℕ)) (ws : List ℕ) (j i : ℕ) → j < length es → i ≡ 2 * j + 1 → getD (entryWords es ++ ws) i 0 ≡ getD es j (0, 0) .1
+pub entry-pointer : (es : List (Entry ℕ)) (ws : List ℕ) (j i : ℕ) → j < length es → i ≡ 2 * j + 1
+    → getD (entryWords es ++ ws) i 0 ≡ getD es j (0, 0) .1
 entry-pointer [] ws j i l e = absurd (omega arith)
 entry-pointer (x ∷ es) ws zero zero l e = absurd (omega arith)
 entry-pointer (x ∷ es) ws zero (suc zero) l e = refl
@@ -82,10 +84,10 @@ module _ (s : List ℕ) (a θ level back forward : ℕ) (v : Trie ℕ) (fits : a
   -- a word after the four
   past : (i : ℕ) → i < 2 * 2 ^ θ → word s (a + 4 + i) ≡ getD tail i 0
   unfolding nodeWords nodeImage
-  past i l = let e : a + 4 + i ≡ a + (4 + i) = omega arith in ap (word s) e ∙ at (4 + i) (omega arith) ∙ four i
+  past i l = let e : a + 4 + i ≡ a + (4 + i) = omega arith in ap (word s) e ∙ at (4 + i) (omega arith) ∙ four _ _ _ _ i
     where
-      four : (i : ℕ) → word (height v ∷ level ∷ back ∷ forward ∷ tail) (4 + i) ≡ getD tail i 0
-      four i = getD-past (height v ∷ level ∷ back ∷ forward ∷ []) tail 0 i refl
+      four : (x y z t i : ℕ) → word (x ∷ y ∷ z ∷ t ∷ tail) (4 + i) ≡ getD tail i 0
+      four x y z t i = getD-past (x ∷ y ∷ z ∷ t ∷ []) tail 0 i refl
 
   pows : 2 ^ height v ≤ 2 ^ θ
   pows = pow-mono {i = height v} {j = θ} low
@@ -111,20 +113,24 @@ module _ (s : List ℕ) (a θ level back forward : ℕ) (v : Trie ℕ) (fits : a
         entry = λ j l. ap₂ (λ d p. (d, p))
             (past (2 * j) (omega (arith, pows)) ∙ entry-depth (flatten (height v) v 0) _ j (2 * j) (omega (arith, long)) refl)
             (let e : a + 5 + 2 * j ≡ a + 4 + (2 * j + 1) = omega arith in
-            ap (word s) e ∙ past (2 * j + 1) (omega (arith, pows)) ∙ entry-pointer (flatten (height v) v 0) _ j (2 * j + 1) (omega (arith, long)) refl);
-        blank = every-of (2 * (2 ^ θ - 2 ^ height v)) (λ j. eqb (word s (a + 4 + 2 * 2 ^ height v + j)) 0) (λ j l. eq-eqb _ 0 (zero-at j l));
+            ap (word s) e ∙ past (2 * j + 1) (omega (arith, pows))
+            ∙ entry-pointer (flatten (height v) v 0) _ j (2 * j + 1) (omega (arith, long)) refl);
+        blank = every-of (2 * (2 ^ θ - 2 ^ height v)) (λ j. eqb (word s (a + 4 + 2 * 2 ^ height v + j)) 0)
+            (λ j l. eq-eqb _ 0 (zero-at j l));
       }
     where
       zero-at : (j : ℕ) → j < 2 * (2 ^ θ - 2 ^ height v) → word s (a + 4 + 2 * 2 ^ height v + j) ≡ 0
       zero-at j l =
           let e : a + 4 + 2 * 2 ^ height v + j ≡ a + 4 + (2 * 2 ^ height v + j) = omega arith in
           ap (word s) e ∙ past (2 * 2 ^ height v + j) (omega (arith, pows))
-          ∙ getD-past (entryWords (flatten (height v) v 0)) (replicate (2 * (2 ^ θ - 2 ^ height v)) 0) 0 j (omega (arith, length-entryWords (flatten (height v) v 0), long))
+          ∙ getD-past (entryWords (flatten (height v) v 0)) (replicate (2 * (2 ^ θ - 2 ^ height v)) 0) 0 j
+          (omega (arith, length-entryWords (flatten (height v) v 0), long))
           ∙ getD-zeros (2 * (2 ^ θ - 2 ^ height v)) j
 
 -- a node that shows a trie, in place: its words, and its links
 module _ (f : Format) (s : List ℕ) (h : Head) (n level : ℕ) (v : Trie ℕ) (low : 1 ≤ n) (high : n ≤ h .nodeBlocks)
-    (room : size f (h .theta) (h .capacity) (h .nodeBlocks) (h .pageBlocks) ≤ length s) (is : NodeIs (h .theta) (nodeAt s h n) level v) where
+    (room : size f (h .theta) (h .capacity) (h .nodeBlocks) (h .pageBlocks) ≤ length s)
+    (is : NodeIs (h .theta) (nodeAt s h n) level v) where
   fits : nodeStart h n + nodeWords (h .theta) ≤ length s
   fits = node-fits h f n (length s) low high room
 

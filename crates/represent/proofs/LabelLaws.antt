@@ -129,7 +129,8 @@ module _ {A B : Type 0} (g : A → B) where
   after-relabel (fork l r) (false ∷ k) = ap₂ _++_ (after-relabel l k) (labels-relabel r) ∙ sym (map-append g (after l k) (labels r))
   after-relabel (fork l r) (true ∷ k) = after-relabel r k
 
-pub relabel-graft : {A B : Type 0} (g : A → B) (t : Trie A) (k : Key) (c : Trie A) → relabel g (graft t k c) ≡ graft (relabel g t) k (relabel g c)
+pub relabel-graft : {A B : Type 0} (g : A → B) (t : Trie A) (k : Key) (c : Trie A)
+    → relabel g (graft t k c) ≡ graft (relabel g t) k (relabel g c)
 relabel-graft g (leaf x) k c = refl
 relabel-graft g (fork l r) [] c = rw (relabel-graft g l [] c)
 relabel-graft g (fork l r) (false ∷ k) c = rw (relabel-graft g l k c)
@@ -203,7 +204,8 @@ module _ {A : Type 0} (P Q : ℕ → Trie A → Type 0) where
 pub over-parts : (P : ℕ → Trie ℕ → Type 0) (b u : Trie ℕ) → Over P b u → Over (λ n v. P n v × ((x : ℕ) → occ x v ≤ occ x u)) b u
 over-parts P (leaf n) u h = (h, λ x. omega arith)
 over-parts P (fork l r) (leaf x) h = absurd h
-over-parts P (fork l r) (fork ul ur) h = (widened l ul (λ x. omega arith) (over-parts P l ul (h .0)), widened r ur (λ x. omega arith) (over-parts P r ur (h .1)))
+over-parts P (fork l r) (fork ul ur) h =
+    (widened l ul (λ x. omega arith) (over-parts P l ul (h .0)), widened r ur (λ x. omega arith) (over-parts P r ur (h .1)))
   where
     widened : (b v : Trie ℕ) → ((x : ℕ) → occ x v ≤ occ x ul + occ x ur) → Over (λ n w. P n w × ((x : ℕ) → occ x w ≤ occ x v)) b v
         → Over (λ n w. P n w × ((x : ℕ) → occ x w ≤ occ x ul + occ x ur)) b v

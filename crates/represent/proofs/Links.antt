@@ -1,5 +1,5 @@
--- The level-1 nodes in key order are the labels of their trie, and the links lead from each to the next; so what stands behind a node is read off
--- the list of labels. No label occurs twice, so the next node is another one.
+-- The level-1 nodes in key order are the labels of their trie, and the links lead from each to the next; so what stands behind a node is
+-- read off the list of labels. No label occurs twice, so the next node is another one.
 use mathlib.Core.Path.{_≡_, refl, sym, _∙_, subst}
 use mathlib.Core.List.{List, [], _∷_, _++_}
 use Prim.Native.Nat.{ℕ, _+_, _≤_}

@@ -1,5 +1,5 @@
--- A page block with the records rs gives them back one by one, so it keeps the page rule. Each record's words stand after those of the records before
--- it, and a lawful key is one word.
+-- A page block with the records rs gives them back one by one, so it keeps the page rule. Each record's words stand after those of the
+-- records before it, and a lawful key is one word.
 use mathlib.Core.Path.{_≡_, sym, ap, _∙_}
 use mathlib.Core.Bool.{Bool, true}
 use mathlib.Core.List.{List, [], _∷_, _++_, append-assoc}

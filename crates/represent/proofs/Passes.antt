@@ -1,5 +1,5 @@
--- Every node and every page of a represented store keeps its rule. A node's entries are those of a trie, so its runs are good; its pointers and links
--- are labels, which are numbers of blocks in use.
+-- Every node and every page of a represented store keeps its rule. A node's entries are those of a trie, so its runs are good; its pointers
+-- and links are labels, which are numbers of blocks in use.
 use mathlib.Core.Path.{_≡_, refl, sym, subst}
 use mathlib.Core.Bool.{true}
 use mathlib.Core.List.{List, [], _∷_}
@@ -23,7 +23,8 @@ use Rattle.represent.specs.Labelled.{Each, occ, occs, Over}
 use Rattle.represent.specs.Image.{nodeAt, NodeIs}
 use Rattle.represent.specs.Rep.{Stretch, numbers, keyOf, Nodes, backOf, forwardOf, Unlinked, Lawful, Rep}
 use Rattle.represent.specs.Promises.{RulesAbove, NodesPass, PagesPass, AgreesPasses}
-use Rattle.represent.proofs.LabelLaws.{label-low, label-high, each-map, each-at, each-labels, labels-each, each-of, each-label, leafAt-relabel, over-in, over-parts}
+use Rattle.represent.proofs.LabelLaws.{label-low, label-high, each-map, each-at, each-labels, labels-each, each-of, each-label}
+use Rattle.represent.proofs.LabelLaws.{leafAt-relabel, over-in, over-parts}
 use Rattle.represent.proofs.Chain.{linked-all}
 use Rattle.represent.proofs.ImageLaws.{entry-label, Shown}
 use Rattle.represent.proofs.RepLaws.{rep-shown, rep-back, rep-forward}
@@ -37,7 +38,8 @@ module _ (f : Format) (s : List ℕ) (h : Head) where
   page-rule (p, r ∷ rs) l n =
       page-passes f (h .capacity) (pageAt f s h p) (r ∷ rs) (l .page .1) (l .lawful) (omega arith) (l .fits) (l .sorted)
 
-  page-agreed : (x : Stretch) (k used : ℕ) → Lawful f s h x → (x .0 ≡ 0 → ⊥) → Prefix keyOf (width f - used) (k / 2 ^ (width f - used)) (x .1)
+  page-agreed : (x : Stretch) (k used : ℕ) → Lawful f s h x → (x .0 ≡ 0 → ⊥)
+      → Prefix keyOf (width f - used) (k / 2 ^ (width f - used)) (x .1)
       → agrees f (pageAt f s h (x .0)) k used ≡ true
   page-agreed (p, []) k used l n a = absurd (n (l .page))
   page-agreed (p, r ∷ rs) k used l n a = page-agrees f (h .capacity) (pageAt f s h p) (r ∷ rs) (l .page .1) (l .lawful) k used a
@@ -61,7 +63,8 @@ over-each P Q b u g h =
     g n (w .0) o (w .1 .1) (w .1 .0))
 
 node-passes : (h : Head) (s : List ℕ) (at level : ℕ) (v : Trie ℕ) → Shown s at (h .theta) level v
-    → ((x : ℕ) → 1 ≤ occ x v → (pointerLow level ≤ x) × (x ≤ pointerHigh h level)) → linkRule h level (backWord s at) (forwardWord s at) ≡ true
+    → ((x : ℕ) → 1 ≤ occ x v → (pointerLow level ≤ x) × (x ≤ pointerHigh h level))
+    → linkRule h level (backWord s at) (forwardWord s at) ≡ true
     → nodeRule h s at level ≡ true
 node-passes h s at level v w points links =
     facts-node h s at level
@@ -72,7 +75,8 @@ node-passes h s at level v w points links =
       runs = rw (w .depth)
           (trie-is-good (height v) (pointerLow level) (pointerHigh h level) (entryOf s at) v refl (w .entry)
           (λ j l.
-          subst (Points (pointerLow level) (pointerHigh h level)) (sym (w .entry j l)) (points _ (entry-label (height v) v j (omega arith) l))));
+          subst (Points (pointerLow level) (pointerHigh h level)) (sym (w .entry j l))
+          (points _ (entry-label (height v) v j (omega arith) l))));
       rest = rw (w .depth) (w .blank);
     })
 
@@ -103,10 +107,13 @@ module _ (f : Format) (s : List ℕ) (b0 : Trie Stretch) (all : List (Trie ℕ))
         (λ n v o j is.
         rule-at n (suc (suc k)) v (omega (arith, i n)) is
         (λ x q.
-        let t = taken x (omega (arith, i x, j x)) in
-        (omega (arith, low-above (suc (suc k)) (λ e. omega arith), t .0), omega (arith, high-above h (suc (suc k)) (λ e. omega arith), t .1)))
+        let t = taken x (omega (arith, i x, j x)) in (
+          omega (arith, low-above (suc (suc k)) (λ e. omega arith), t .0),
+          omega (arith, high-above h (suc (suc k)) (λ e. omega arith), t .1),
+        ))
         (let l = w n (omega arith) in
-        sym (link-above h (suc (suc k)) _ _ true true (λ e. omega arith) (sym (eq-eqb _ 0 (l .no-back))) (sym (eq-eqb _ 0 (l .no-forward))))))
+        sym (link-above h (suc (suc k)) _ _ true true (λ e. omega arith) (sym (eq-eqb _ 0 (l .no-back)))
+        (sym (eq-eqb _ 0 (l .no-forward))))))
         (p .0),
     upper (suc k) b bs (λ x. omega (arith, i x)) (λ n o. w n (omega arith)) (p .1),
   )
@@ -120,7 +127,8 @@ module _ (f : Format) (s : List ℕ) (b0 : Trie Stretch) (b : Trie ℕ) (bs : Li
   links-taken =
       let below : Each (λ n. n ≤ headOf s .nodesTaken) b = each-of _ b (λ n o. taken f s b0 (b ∷ bs) r n (omega arith) .1) in
       labels-each LinksTaken b
-      (linked-all _ _ (λ n. n ≤ headOf s .nodesTaken) 0 (labels b) (omega arith) (omega arith) (each-labels (λ n. n ≤ headOf s .nodesTaken) b below) (r .directory .links .0))
+      (linked-all _ _ (λ n. n ≤ headOf s .nodesTaken) 0 (labels b) (omega arith) (omega arith)
+      (each-labels (λ n. n ≤ headOf s .nodesTaken) b below) (r .directory .links .0))
 
   lowest : Each (λ n. nodeRule (headOf s) s (nodeStart (headOf s) n) 1 ≡ true) b
   lowest =
@@ -131,7 +139,8 @@ module _ (f : Format) (s : List ℕ) (b0 : Trie Stretch) (b : Trie ℕ) (bs : Li
       let t = label-high (headOf s .pagesTaken) (λ p. occ p (numbers b0)) x (r .pages .oneForOne .none) (omega (arith, j x)) in
       (omega (arith, low-1 1 refl), omega (arith, high-1 (headOf s) 1 refl, t)))
       (let l = each-label LinksTaken b n links-taken o in
-      sym (link-1 (headOf s) 1 _ _ true true refl (sym (le-leb _ (headOf s .nodesTaken) (l .0))) (sym (le-leb _ (headOf s .nodesTaken) (l .1))))))
+      sym (link-1 (headOf s) 1 _ _ true true refl (sym (le-leb _ (headOf s .nodesTaken) (l .0)))
+      (sym (le-leb _ (headOf s .nodesTaken) (l .1))))))
       (r .directory .nodes .0)
 
 pub nodes-pass : NodesPass

@@ -45,7 +45,8 @@ module _ (h : Head) where
     unfolding pageStart
     page-start p = omega arith
 
-    pub page-end : (p : ℕ) → 1 ≤ p → p ≤ h .pageBlocks → pageStart f h p + pageWords f (h .capacity) ≤ size f (h .theta) (h .capacity) (h .nodeBlocks) (h .pageBlocks)
+    pub page-end : (p : ℕ) → 1 ≤ p → p ≤ h .pageBlocks
+        → pageStart f h p + pageWords f (h .capacity) ≤ size f (h .theta) (h .capacity) (h .nodeBlocks) (h .pageBlocks)
     unfolding pageStart size
     page-end p low high = omega (arith, stride (p - 1) (h .pageBlocks) (pageWords f (h .capacity)) (omega arith))
 
@@ -55,5 +56,6 @@ module _ (h : Head) where
     pages-apart = blocks-apart (16 + h .nodeBlocks * nodeWords (h .theta)) (pageWords f (h .capacity))
 
     -- a node block lies in a store that is long enough
-    pub node-fits : (n L : ℕ) → 1 ≤ n → n ≤ h .nodeBlocks → size f (h .theta) (h .capacity) (h .nodeBlocks) (h .pageBlocks) ≤ L → nodeStart h n + nodeWords (h .theta) ≤ L
+    pub node-fits : (n L : ℕ) → 1 ≤ n → n ≤ h .nodeBlocks → size f (h .theta) (h .capacity) (h .nodeBlocks) (h .pageBlocks) ≤ L
+        → nodeStart h n + nodeWords (h .theta) ≤ L
     node-fits n L low high room = omega (arith, node-end n low high, nodes-end)

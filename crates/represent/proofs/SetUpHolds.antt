@@ -1,4 +1,4 @@
--- A store just set up holds the tree of no record: one null stretch under node 1. All its words but the head's and the level of node 1 are 0.
+-- A store just set up holds the tree of no record: one null stretch under node 1. Its words but the head's and the level of node 1 are 0.
 use mathlib.Core.Path.{_≡_, refl, sym, ap, _∙_, subst}
 use mathlib.Core.Bool.{true}
 use mathlib.Core.List.{List, [], _∷_, _++_}
@@ -67,7 +67,8 @@ module _ (f : Format) (θ C N P : ℕ) (z : List ℕ) (law : lawfulSizes θ C N 
   zero-past : (i : ℕ) → 18 ≤ i → i < size f θ C N P → word s i ≡ 0
   unfolding setUpWords
   zero-past i a b =
-      getD-past (θ ∷ C ∷ N ∷ P ∷ 1 ∷ 0 ∷ 1 ∷ 1 ∷ 0 ∷ 0 ∷ 0 ∷ 0 ∷ 0 ∷ 0 ∷ 0 ∷ 0 ∷ 0 ∷ 1 ∷ []) (replicate (size f θ C N P - 18) 0 ++ z) 0 (i - 18)
+      getD-past (θ ∷ C ∷ N ∷ P ∷ 1 ∷ 0 ∷ 1 ∷ 1 ∷ 0 ∷ 0 ∷ 0 ∷ 0 ∷ 0 ∷ 0 ∷ 0 ∷ 0 ∷ 0 ∷ 1 ∷ []) (replicate (size f θ C N P - 18) 0 ++ z) 0
+      (i - 18)
       {i = i} (omega arith)
       ∙ List·getD-append (replicate (size f θ C N P - 18) 0) z 0 (i - 18) (omega (arith, length-replicate {A = ℕ} (size f θ C N P - 18) 0))
       ∙ getD-zeros (size f θ C N P - 18) (i - 18)
@@ -96,7 +97,8 @@ module _ (f : Format) (θ C N P : ℕ) (z : List ℕ) (law : lawfulSizes θ C N 
   unfolding nodeAt
   node-1 =
       let l : length (bare θ) ≡ nodeWords θ = omega (arith, length-replicate {A = ℕ} (nodeWords θ - 2) 0, wide) in
-      ap (λ a. part s a (nodeWords θ)) start-1 ∙ part-is s (bare θ) 16 (nodeWords θ) l (omega (arith, fits-1, long)) word-1 ∙ sym (bare-is θ)
+      ap (λ a. part s a (nodeWords θ)) start-1 ∙ part-is s (bare θ) 16 (nodeWords θ) l (omega (arith, fits-1, long)) word-1
+      ∙ sym (bare-is θ)
 
   past-1 : (n : ℕ) → 1 < n → 18 ≤ nodeStart h n
   unfolding nodeStart
@@ -125,7 +127,10 @@ module _ (f : Format) (θ C N P : ℕ) (z : List ℕ) (law : lawfulSizes θ C N 
   directory =
       record {
         nodes = (
-          record { low = omega arith; image = subst (λ ws. ws ≡ nodeImage θ 1 (backWord ws 0) (forwardWord ws 0) (leaf 0)) (sym node-1) refl },
+          record {
+            low = omega arith;
+            image = subst (λ ws. ws ≡ nodeImage θ 1 (backWord ws 0) (forwardWord ws 0) (leaf 0)) (sym node-1) refl;
+          },
           (refl, refl),
         );
         links = ((ap (λ ws. backWord ws 0) node-1, ap (λ ws. forwardWord ws 0) node-1, tt), λ n o. absurd (omega arith));
@@ -167,5 +172,6 @@ module _ (f : Format) (θ C N P : ℕ) (z : List ℕ) (law : lawfulSizes θ C N 
 
 pub set-up-holds : SetUpHolds
 set-up-holds f θ C N P s law room =
-    subst (λ (x : List ℕ). Holds f x []) (done f θ C N P (size f θ C N P) s (setUpWords f θ C N P ++ drop (size f θ C N P) s) law refl room refl .1)
+    subst (λ (x : List ℕ). Holds f x [])
+    (done f θ C N P (size f θ C N P) s (setUpWords f θ C N P ++ drop (size f θ C N P) s) law refl room refl .1)
     (none-held f θ C N P (drop (size f θ C N P) s) law)

@@ -23,8 +23,8 @@ abbrev pub entryWords : List (Entry ℕ) → List ℕ
 entryWords [] = []
 entryWords (e ∷ es) = e .0 ∷ e .1 ∷ entryWords es
 
--- "each node with its level, its largest h as H, its runs in key order, each with its h and pointing to its stretch's block"; "Words not in use
--- are zero."
+-- "each node with its level, its largest h as H, its runs in key order, each with its h and pointing to its stretch's block"; "Words not in
+-- use are zero."
 unfoldable pub nodeImage : ℕ → ℕ → ℕ → ℕ → Trie ℕ → List ℕ
 nodeImage θ level back forward v =
     height v ∷ level ∷ back ∷ forward ∷ (entryWords (flatten (height v) v 0) ++ replicate (2 * (2 ^ θ - 2 ^ height v)) 0)

@@ -1,11 +1,13 @@
 -- Tries whose leaves are labelled with block numbers, one over another.
 --   relabel g t     == t with each label x replaced by g x
 --   Each P t        == P holds of each label of t
+--   ind x n         == 1 if the two numbers are equal, else 0
 --   occ n t         == how often the number n labels a leaf of t; occs n bs: of the tries bs together
 --   OneForOne m g   == each of 1, .., m occurs once, and no larger number, where g n says how often n occurs
 --   Over P b u      == P n v for each leaf n of b and the subtrie v of u that stands there; b is nowhere deeper than u
 --   under b u k     == the subtrie of u under the leaf of b at the key k
 --   before, after t k == the labels left and right of the leaf at the key
+--   first ns        == the first of the numbers; null if there is none
 --   Linked back forward p ns == the numbers ns are linked both ways in this order, the first after p, the last before null
 use mathlib.Core.Path.{_≡_}
 use mathlib.Core.Bool.{true, false, cond}

@@ -3,8 +3,10 @@
 --   HeadPasses       == a store that holds a set keeps the head rule
 --   LevelsAtMost     == its levels are at most L
 --   CountsAreTheTrees == its levels, nodes taken and pages taken are those of the tree
+--   RulesAbove h s k bs == the nodes of the levels bs, which stand above level k, keep the node rule
 --   NodesPass, PagesPass == every node and every page of a represented store keeps its rule
 --   AgreesPasses     == the page at a key agrees with it in the used bits
+--   Neighbour s n m  == what enter looks at, of the node m behind the terminal n
 --   NeighbourPasses  == the terminal's forward neighbour, if any, is another taken level-1 node that links back
 --   pathSteps W k u bs == the steps of a key through the levels bs over u, lowest first
 --   DescentVisits    == the descent with a key visits the nodes at the key, with the bits used and the local depths of the tries

@@ -1,11 +1,17 @@
 -- What a store's words stand for. Document 01, "A store holds a tree, block numbers apart, when ..".
--- The tree is given by tries: b0 for the level-0 stretches, each leaf with its page's number (0 for null) and its records; bs for the levels
--- 1, 2, .., each leaf with its node's number.
+-- The tree is given by tries: b0 for the level-0 stretches, each leaf with its page's number (0 for null) and its records; bs for the
+-- levels 1, 2, .., each leaf with its node's number.
+--   Stretch           == a level-0 stretch: its page's number and its records
 --   numbers b0, contents b0 == the page numbers, and the records, of b0
---   Nodes θ node root levels k u bs == the nodes of the levels above k: each shows what stands below it; u is level k, and root and levels end the tower
+--   keyOf it          == a record's key
+--   Nodes θ node root levels k u bs == the nodes of the levels above k: each shows what stands below it; u is level k, and root and
+--                        levels end the tower
+--   backOf, forwardOf node n == the links of node n
+--   Unlinked node n   == both are null
 --   Links node bs     == the links of all nodes
 --   Directory θ node root levels taken u bs == the node blocks in use are those of the levels bs over u
 --   PageIs f s h x    == the page block of a level-0 stretch x
+--   Lawful f s h x    == the stretch x is in order: its page block, at most C records, lawful and ascending
 --   Keyed w q t       == every record stands in the stretch of its key; t is the stretch with the prefix q, which leaves w bits
 --   Pages f s h b0    == the page blocks in use are those of b0
 --   sizeOf f s        == the words of a store of the sizes in its head
@@ -63,8 +69,8 @@ module _ (node : ℕ → List ℕ) where
   Links (b ∷ bs) = Linked backOf forwardOf 0 (labels b) × ((n : ℕ) → 1 ≤ occs n bs → Unlinked n)
 
 module _ (θ : ℕ) (node : ℕ → List ℕ) where
-  -- "its levels are the tree's", "the root for all keys; each node with its level, its largest h as H, its runs in key order, each with its h
-  -- and pointing to its stretch's block"
+  -- "its levels are the tree's", "the root for all keys; each node with its level, its largest h as H, its runs in key order, each with its
+  -- h and pointing to its stretch's block"
   abbrev pub Nodes : ℕ → ℕ → ℕ → Trie ℕ → List (Trie ℕ) → Type 0
   Nodes root levels k u [] = (u ≡ leaf root) × (levels ≡ k)
   Nodes root levels k u (b ∷ bs) = Over (λ n v. NodeIs θ (node n) (suc k) v) b u × Nodes root levels (suc k) b bs
@@ -116,11 +122,14 @@ module _ (f : Format) (s : List ℕ) where
     pub sized : Sized f s
     pub nodes-fit : headOf s .nodesTaken ≤ headOf s .nodeBlocks
     pub pages-fit : headOf s .pagesTaken ≤ headOf s .pageBlocks
-    pub directory : Directory (headOf s .theta) (nodeAt s (headOf s)) (headOf s .root) (headOf s .levels) (headOf s .nodesTaken) (numbers b0) bs
+    pub directory : Directory (headOf s .theta) (nodeAt s (headOf s)) (headOf s .root) (headOf s .levels) (headOf s .nodesTaken)
+        (numbers b0) bs
     pub pages : Pages f s (headOf s) b0
     -- "Words not in use are zero."
-    pub free-nodes : (n : ℕ) → headOf s .nodesTaken < n → n ≤ headOf s .nodeBlocks → nodeAt s (headOf s) n ≡ replicate (nodeWords (headOf s .theta)) 0
-    pub free-pages : (p : ℕ) → headOf s .pagesTaken < p → p ≤ headOf s .pageBlocks → pageAt f s (headOf s) p ≡ replicate (pageWords f (headOf s .capacity)) 0
+    pub free-nodes : (n : ℕ) → headOf s .nodesTaken < n → n ≤ headOf s .nodeBlocks
+        → nodeAt s (headOf s) n ≡ replicate (nodeWords (headOf s .theta)) 0
+    pub free-pages : (p : ℕ) → headOf s .pagesTaken < p → p ≤ headOf s .pageBlocks
+        → pageAt f s (headOf s) p ≡ replicate (pageWords f (headOf s .capacity)) 0
 
   pub record Holds (S : List Item) : Type 0 where
     pub b0 : Trie Stretch

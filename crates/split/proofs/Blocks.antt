@@ -51,7 +51,8 @@ module _ {θ : ℕ} {I : NodeOps} (A : NodeLaws θ I) where
 
     pub linked-written : (p q : ℕ) → Written θ (I .linked ws p q) level p q v
     linked-written p q =
-        image-written θ _ level p q v (h .low) (ap (λ (w : List ℕ). I .linked w p q) (h .image) ∙ A .linked-is level back forward p q v (h .low))
+        image-written θ _ level p q v (h .low)
+        (ap (λ (w : List ℕ). I .linked w p q) (h .image) ∙ A .linked-is level back forward p q v (h .low))
 
     -- the two halves l and r
     module _ (k : Key) (a c : ℕ) {l r : Trie ℕ} (d : θ ≤ depth v k) (e : graft v k (pair a c) ≡ fork l r) where

@@ -1,5 +1,5 @@
--- The labels of the carried levels: those of the old levels, and the next numbers, one for each node that the carry costs. A level above another
--- has other labels; so a climb may count on distinct numbers from 1 to those taken at every level.
+-- The labels of the carried levels: those of the old levels, and the next numbers, one for each node that the carry costs. A level above
+-- another has other labels; so a climb may count on distinct numbers from 1 to those taken at every level.
 use mathlib.Core.Path.{_≡_, refl, sym, ap, ap₂, _∙_}
 use mathlib.Core.List.{List, [], _∷_, map}
 use Prim.Native.Nat.{ℕ, suc, _+_, _-_, _≤_, _<_}
@@ -64,7 +64,8 @@ one-same m m′ g g′ e f h = record { once = λ x p q. f x ∙ h .once x p (om
 carried-beside : (θ m : ℕ) (u : Trie ℕ) (bs : List (Trie ℕ)) (k : Key) (g : ℕ → ℕ) → OneForOne m (λ x. g x + occs x bs)
     → OneForOne (m + bumpCost θ (locals u bs k)) (λ x. g x + occs x (carried θ m u bs k))
 unfolding carried bumpCost
-carried-beside θ m u [] k g h = one-same (suc m) _ (λ x. g x + ind x (suc m)) _ (omega arith) (λ x. omega arith) (one-more m _ _ (λ x. omega arith) h)
+carried-beside θ m u [] k g h =
+    one-same (suc m) _ (λ x. g x + ind x (suc m)) _ (omega arith) (λ x. omega arith) (one-more m _ _ (λ x. omega arith) h)
 carried-beside θ m u (b ∷ bs) k g h =
     elim (decLt (depth u k - depth b k) θ) [
       | yes s ↦ rw (carried-slack θ m u b bs k s, bump-slack θ (depth u k - depth b k) (locals b bs k) s .1)
@@ -97,4 +98,8 @@ carried-old θ m u (b ∷ bs) k x p =
 -- the levels above, with one number more taken
 pub numbered-above : (m : ℕ) (b : Trie ℕ) (bs : List (Trie ℕ)) → Numbered m (b ∷ bs) → Numbered (suc m) bs
 numbered-above m b bs g =
-    record { once = λ x. omega (arith, g .once x); none = λ x p. omega (arith, g .none x (omega arith)); positive = omega (arith, g .positive) }
+    record {
+      once = λ x. omega (arith, g .once x);
+      none = λ x p. omega (arith, g .none x (omega arith));
+      positive = omega (arith, g .positive);
+    }

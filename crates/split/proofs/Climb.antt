@@ -10,13 +10,15 @@ use Rattle.tree.specs.Carry.{locals, bumpCost}
 use Rattle.tree.proofs.CarryLaws.{bump-slack, bump-full}
 use Rattle.represent.specs.Labelled.{occ, occs, under}
 use Rattle.represent.specs.Rep.{backOf, forwardOf, Unlinked}
-use Rattle.split.specs.Round.{NodeOps, NodeLaws, StoreOps, StoreLaws, Step, stepAt, pathOf, grown, relink, halve, newRoot, climb, carried}
+use Rattle.split.specs.Round.{NodeOps, NodeLaws, StoreOps, StoreLaws, Step, stepAt, pathOf, carried}
+use Rattle.split.specs.Round.{grown, relink, halve, newRoot, climb}
 use Rattle.represent.proofs.LabelLaws.{ind-other}
 use Rattle.split.proofs.Grafts.{forked, occ-split}
 use Rattle.split.proofs.CarriedLaws.{carried-slack, carried-full}
 use Rattle.split.proofs.Blocks.{Written, top-written}
 use Rattle.split.proofs.Writes.{kept-refl, put-kept, advanced}
-use Rattle.split.proofs.Level.{is-moved, unlinked-same, unlinked-moved, written-unlinked, Plain, plain-cons, Ready, ready-low, ready-high, here-in, key-low}
+use Rattle.split.proofs.Level.{is-moved, unlinked-same, unlinked-moved, written-unlinked, Plain, plain-cons, Ready, ready-low}
+use Rattle.split.proofs.Level.{ready-high, here-in, key-low}
 use Rattle.split.proofs.Splits.{Split, parts, Parted, parted, parted-split}
 use Rattle.split.proofs.Rise.{ClimbKeeps, grown-climbed, grown-links, lower-here, upper-here, rise}
 
@@ -31,7 +33,8 @@ module _ (I : NodeOps) (O : StoreOps) (θ : ℕ) (s : O .S) (p : Step) (a c : �
   climb-full path h = rw (le-ltb (p .depth) θ h, climb)
 
   -- a node above level 1 splits with no node behind it
-  halve-parts : halve I O s p a c ≡ parts I O s (p .at) (I .lower (O .node s (p .at)) (p .bits) a c) (I .upper (O .node s (p .at)) (p .bits) a c) 0
+  halve-parts : halve I O s p a c
+      ≡ parts I O s (p .at) (I .lower (O .node s (p .at)) (p .bits) a c) (I .upper (O .node s (p .at)) (p .bits) a c) 0
   unfolding halve relink
   halve-parts = refl
 

@@ -1,4 +1,4 @@
--- A node of level 1 splits, with its links: the node behind it is one of the level's and not itself, so the right half comes to stand between them.
+-- A node of level 1 splits, with its links: the node behind it is one of the level's and not itself, so the right half comes between them.
 use mathlib.Core.Path.{_≡_, sym, ap, _∙_, subst}
 use mathlib.Core.List.{List, _∷_, _++_}
 use Prim.Native.Nat.{ℕ, suc, _-_, _≤_, _<_}
@@ -73,7 +73,8 @@ module _ {θ : ℕ} {I : NodeOps} {O : StoreOps} (A : NodeLaws θ I) (B : StoreL
         mended : Mended (backOf (node s)) (forwardOf (node s)) (backOf (node s₁)) (forwardOf (node s₁)) n m q
         mended =
             let p = first-parted in
-            let at-q : (q ≡ 0 → ⊥) → (v : Trie ℕ) × Written θ (I .linked (node s q) m (forwardOf (node s) q)) 1 m (forwardOf (node s) q) v = λ ne.
+            let at-q : (q ≡ 0 → ⊥) → (v : Trie ℕ) × Written θ (I .linked (node s q) m (forwardOf (node s) q)) 1 m (forwardOf (node s) q) v =
+            λ ne.
             let v = over-in (At θ (node s) 1) b u q (known ne) (y .nodes .0) in
             (v .0, linked-written A (v .1) m (forwardOf (node s) q)) in
             record {

@@ -1,5 +1,6 @@
--- What a write into a store's words leaves as it was. The blocks lie behind the head and beside one another, so a write of a block, or of words
--- of the head, changes no other block. Each write keeps all words but some in a row (`Elsewhere`), and the sizes in the head come before those.
+-- What a write into a store's words leaves as it was. The blocks lie behind the head and beside one another, so a write of a block, or of
+-- words of the head, changes no other block. Each write keeps all words but some in a row (`Elsewhere`), and the sizes in the head come
+-- before those.
 use mathlib.Core.Path.{_≡_, refl, ap, _∙_}
 use mathlib.Core.Logic.{_⊎_, inl, inr}
 use mathlib.Core.List.{List, _++_}
@@ -83,13 +84,15 @@ module _ {a n : ℕ} {s t : List ℕ} (e : Elsewhere 0 a n s t) where
   node-kept : 4 ≤ a → (x : ℕ)
       → (nodeStart (headOf s) x + nodeWords (headOf s .theta) ≤ a) ⊎ (a + n ≤ nodeStart (headOf s) x) → nodeOf t x ≡ nodeOf s x
   unfolding nodeAt
-  node-kept h x d = node-layout t (headOf s) (headOf t) x (sizes-kept h) ∙ part-beside 0 e (nodeStart (headOf s) x) (nodeWords (headOf s .theta)) d
+  node-kept h x d =
+      node-layout t (headOf s) (headOf t) x (sizes-kept h) ∙ part-beside 0 e (nodeStart (headOf s) x) (nodeWords (headOf s .theta)) d
 
   page-kept : 4 ≤ a → (f : Format) (p : ℕ)
       → (pageStart f (headOf s) p + pageWords f (headOf s .capacity) ≤ a) ⊎ (a + n ≤ pageStart f (headOf s) p) → pageOf f t p ≡ pageOf f s p
   unfolding pageAt
   page-kept h f p d =
-      page-layout f t (headOf s) (headOf t) p (sizes-kept h) ∙ part-beside 0 e (pageStart f (headOf s) p) (pageWords f (headOf s .capacity)) d
+      page-layout f t (headOf s) (headOf t) p (sizes-kept h)
+      ∙ part-beside 0 e (pageStart f (headOf s) p) (pageWords f (headOf s .capacity)) d
 
   sized-kept : 4 ≤ a → (a + n ≤ 8) ⊎ (16 ≤ a) → (f : Format) → Sized f s → Sized f t
   sized-kept h d f ok =

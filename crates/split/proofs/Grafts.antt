@@ -29,8 +29,10 @@ module _ {A : Type 0} (P Q : ℕ → Trie A → Type 0) where
       → Over P b u → Over Q c (graft (under b u k) (rest b k) d) → Over Q (graft b k c) (graft u k d)
   over-off (leaf n) u k c d f h q = q
   over-off (fork l r) (leaf x) k c d f h q = absurd h
-  over-off (fork l r) (fork ul ur) [] c d f h q =
-      (over-off l ul [] c d (λ n v o. f n v (omega arith)) (h .0) q, over-map P Q r ur (λ n v o. f n v (omega (arith, ind-at n l []))) (h .1))
+  over-off (fork l r) (fork ul ur) [] c d f h q = (
+    over-off l ul [] c d (λ n v o. f n v (omega arith)) (h .0) q,
+    over-map P Q r ur (λ n v o. f n v (omega (arith, ind-at n l []))) (h .1),
+  )
   over-off (fork l r) (fork ul ur) (false ∷ k) c d f h q =
       (over-off l ul k c d (λ n v o. f n v (omega arith)) (h .0) q, over-map P Q r ur (λ n v o. f n v (omega (arith, ind-at n l k))) (h .1))
   over-off (fork l r) (fork ul ur) (true ∷ k) c d f h q =

@@ -1,5 +1,5 @@
--- The levels of a store, where a block changes: a block that none of them has changes nothing, and a block at a key that is rewritten with its links
--- shows another trie there.
+-- The levels of a store, where a block changes: a block that none of them has changes nothing, and a block at a key that is rewritten with
+-- its links shows another trie there.
 --   At θ node k    == n's block is that of a node at level k with v below it
 --   SameLinks x    == the block of node x has the links that it had
 --   Plain θ node bs == no node of the levels bs has links
@@ -116,7 +116,8 @@ module _ {θ : ℕ} {O : StoreOps} {s : O .S} {k : ℕ} {u b : Trie ℕ} {bs : L
 
     -- its block rewritten, with the same links
     module _ (B : StoreLaws θ O) (d : Trie ℕ) {ws : List ℕ}
-        (w : Written θ ws (suc k) (backOf (node s) (leafAt b key)) (forwardOf (node s) (leafAt b key)) (graft (under b u key) (rest b key) d))
+        (w : Written θ ws (suc k) (backOf (node s) (leafAt b key)) (forwardOf (node s) (leafAt b key))
+        (graft (under b u key) (rest b key) d))
       where
         abbrev n : ℕ
         n = leafAt b key
@@ -132,7 +133,8 @@ module _ {θ : ℕ} {O : StoreOps} {s : O .S} {k : ℕ} {u b : Trie ℕ} {bs : L
             record {
               nodes = (
                 subst (λ (t : Trie ℕ). Over (At θ (node (put s n ws)) (suc k)) t (graft u key d)) (graft-leafAt b key)
-                    (over-graft (At θ (node s) (suc k)) (At θ (node (put s n ws)) (suc k)) b u key (leaf n) d (λ x. omega (arith, y .numbered .once x))
+                    (over-graft (At θ (node s) (suc k)) (At θ (node (put s n ws)) (suc k)) b u key (leaf n) d
+                    (λ x. omega (arith, y .numbered .once x))
                     (λ x v o ne p. is-moved (elsewhere x (omega arith) ne) p)
                     (y .nodes .0)
                     (is-moved (put-here .here) (w .is))),

@@ -1,5 +1,5 @@
--- What the page operations of an insertion do to the pages. A graft at a key changes the leaf there and nothing else, so all that is to be shown
--- is the new leaves' own laws, their place among the keys, and the count of their page numbers.
+-- What the page operations of an insertion do to the pages. A graft at a key changes the leaf there and nothing else, so all that is to be
+-- shown is the new leaves' own laws, their place among the keys, and the count of their page numbers.
 use mathlib.Core.Path.{_≡_, refl, sym, ap, _∙_, subst}
 use mathlib.Core.Bool.{Bool, true, false}
 use mathlib.Core.Logic.{inl, inr}
@@ -27,7 +27,8 @@ use Rattle.page.specs.Page.{lawfulItem}
 use Rattle.represent.specs.Labelled.{Each, ind, occ, OneForOne}
 use Rattle.represent.specs.Image.{pageImage}
 use Rattle.represent.specs.Rep.{Stretch, numbers, keyOf, PageIs, Lawful, Keyed, Pages, Sized}
-use Rattle.represent.proofs.LabelLaws.{label-high, ind-eq, ind-other, occ-graft, occ-at, each-at, leafAt-relabel, relabel-graft, each-map, each-graft}
+use Rattle.represent.proofs.LabelLaws.{label-high, ind-eq, ind-other, occ-graft, occ-at, each-at, leafAt-relabel}
+use Rattle.represent.proofs.LabelLaws.{relabel-graft, each-map, each-graft}
 use Rattle.split.specs.Insertion.{stretchAt, leftAt, prefixAt, nextBit, halfAt, replacedAt, Fit, putItems, takeItems}
 use Rattle.split.specs.Frame.{pageOf}
 use Rattle.split.proofs.Lengths.{length-pageImage}
@@ -73,10 +74,12 @@ module _ (f : Format) (s : List ℕ) (h : Head) (s′ : List ℕ) (h′ : Head) 
       → Lawful f s h x → Lawful f s′ h′ x
   lawful-frame x c e l = record { page = page-frame x c e (l .page); fits = rw c (l .fits); lawful = l .lawful; sorted = l .sorted }
 
-number-used : (f : Format) (s : List ℕ) (h : Head) (b0 : Trie Stretch) → Pages f s h b0 → (p : ℕ) → 1 ≤ occ p (numbers b0) → p ≤ h .pagesTaken
+number-used : (f : Format) (s : List ℕ) (h : Head) (b0 : Trie Stretch) → Pages f s h b0 → (p : ℕ) → 1 ≤ occ p (numbers b0)
+    → p ≤ h .pagesTaken
 number-used f s h b0 pg p o = label-high (h .pagesTaken) (λ p. occ p (numbers b0)) p (pg .oneForOne .none) o
 
-pub pages-frame : (f : Format) (s s′ : List ℕ) (h h′ : Head) (b0 : Trie Stretch) → h′ .capacity ≡ h .capacity → h′ .pagesTaken ≡ h .pagesTaken
+pub pages-frame : (f : Format) (s s′ : List ℕ) (h h′ : Head) (b0 : Trie Stretch) → h′ .capacity ≡ h .capacity
+    → h′ .pagesTaken ≡ h .pagesTaken
     → ((p : ℕ) → 1 ≤ p → p ≤ h .pagesTaken → pageAt f s′ h′ p ≡ pageAt f s h p) → Pages f s h b0 → Pages f s′ h′ b0
 pages-frame f s s′ h h′ b0 c e kept pg =
     record {
@@ -102,7 +105,8 @@ module _ (f : Format) (s : List ℕ) (h : Head) where
   page-new p (r ∷ rs) some low e = (low, e)
 
   -- a page that is written
-  lawful-page : (C p w q : ℕ) (rs : List Item) → h .capacity ≡ C → Fit f C w q rs → 1 ≤ p → pageAt f s h p ≡ pageImage f C rs → Lawful f s h (p, rs)
+  lawful-page : (C p w q : ℕ) (rs : List Item) → h .capacity ≡ C → Fit f C w q rs → 1 ≤ p → pageAt f s h p ≡ pageImage f C rs
+      → Lawful f s h (p, rs)
   lawful-page C p w q rs c fit low e =
       record {
         page = page-new p rs (fit .some) low (e ∙ ap (λ (C : ℕ). pageImage f C rs) (sym c));
@@ -211,7 +215,8 @@ module _ (f : Format) (s : List ℕ) (h : Head) (b0 : Trie Stretch) (key : ℕ) 
   -- new words, in which the other pages are as they were
   module _ (s′ : List ℕ) (h′ : Head) (capacity : h′ .capacity ≡ h .capacity)
       (kept : (p : ℕ) → 1 ≤ p → p ≤ h .pagesTaken → (p ≡ stretchAt f b0 key .0 → ⊥) → pageAt f s′ h′ p ≡ pageAt f s h p) where
-    beside : (x : Stretch) → ind (x .0) (stretchAt f b0 key .0) < occ (x .0) (numbers b0) → 1 ≤ x .0 → pageAt f s′ h′ (x .0) ≡ pageAt f s h (x .0)
+    beside : (x : Stretch) → ind (x .0) (stretchAt f b0 key .0) < occ (x .0) (numbers b0) → 1 ≤ x .0
+        → pageAt f s′ h′ (x .0) ≡ pageAt f s h (x .0)
     beside x o low =
         let l : x .0 ≤ h .pagesTaken = number-used f s h b0 pg (x .0) (omega arith) in
         kept (x .0) low l (λ e. omega (arith, ind-eq (x .0) (stretchAt f b0 key .0) e, pg .oneForOne .once (x .0) low l))
@@ -222,7 +227,8 @@ module _ (f : Format) (s : List ℕ) (h : Head) (b0 : Trie Stretch) (key : ℕ) 
         let k : Key = bits (width f) key in
         record {
           each =
-              each-graft (λ x. x .0) (Lawful f s h) (Lawful f s′ h′) b0 k c (λ x o. lawful-frame f s h s′ h′ x capacity (beside x o)) (pg .each) each;
+              each-graft (λ x. x .0) (Lawful f s h) (Lawful f s′ h′) b0 k c (λ x o. lawful-frame f s h s′ h′ x capacity (beside x o))
+              (pg .each) each;
           keyed =
               subst (λ (q : ℕ). Keyed (width f) q (graft b0 k c)) (div-eq-of-lt inside)
               (keyed-graft (width f) b0 key c keyed place);
@@ -235,7 +241,8 @@ module _ (f : Format) (s : List ℕ) (h : Head) (b0 : Trie Stretch) (key : ℕ) 
         → Pages f s′ h′ (replacedAt f b0 key (leaf (stretchAt f b0 key .0, rs)))
     put-any rs low fit filled e =
         let n : ℕ = stretchAt f b0 key .0 in
-        pages-graft (leaf (n, rs)) (h .pagesTaken) (lawful-page f s′ h′ (h .capacity) n (leftAt f b0 key) (prefixAt f b0 key) rs capacity fit low e)
+        pages-graft (leaf (n, rs)) (h .pagesTaken)
+        (lawful-page f s′ h′ (h .capacity) n (leftAt f b0 key) (prefixAt f b0 key) rs capacity fit low e)
         (fit .prefix) filled (same-count (leaf (n, rs)) (λ p q. refl))
 
     take-any : (rs : List Item) → stretchAt f b0 key .0 ≡ 0 → Fit f (h .capacity) (leftAt f b0 key) (prefixAt f b0 key) rs
@@ -243,7 +250,8 @@ module _ (f : Format) (s : List ℕ) (h : Head) (b0 : Trie Stretch) (key : ℕ) 
         → Pages f s′ h′ (replacedAt f b0 key (leaf (suc (h .pagesTaken), rs)))
     take-any rs null fit filled e =
         let m : ℕ = suc (h .pagesTaken) in
-        pages-graft (leaf (m, rs)) m (lawful-page f s′ h′ (h .capacity) m (leftAt f b0 key) (prefixAt f b0 key) rs capacity fit (omega arith) e)
+        pages-graft (leaf (m, rs)) m
+        (lawful-page f s′ h′ (h .capacity) m (leftAt f b0 key) (prefixAt f b0 key) rs capacity fit (omega arith) e)
         (fit .prefix) filled (next-count (leaf (m, rs)) (λ p q. omega (arith, ind-other p (stretchAt f b0 key .0) (λ i. omega arith))))
 
     -- neither half is empty: the lower keeps the page, and the upper takes the next one
@@ -251,7 +259,8 @@ module _ (f : Format) (s : List ℕ) (h : Head) (b0 : Trie Stretch) (key : ℕ) 
         → 1 ≤ length (halfAt false f b0 key) → 1 ≤ length (halfAt true f b0 key) → h′ .pagesTaken ≡ suc (h .pagesTaken)
         → pageAt f s′ h′ (stretchAt f b0 key .0) ≡ pageImage f (h .capacity) (halfAt false f b0 key)
         → pageAt f s′ h′ (suc (h .pagesTaken)) ≡ pageImage f (h .capacity) (halfAt true f b0 key)
-        → Pages f s′ h′ (replacedAt f b0 key (pair (stretchAt f b0 key .0, halfAt false f b0 key) (suc (h .pagesTaken), halfAt true f b0 key)))
+        → Pages f s′ h′
+        (replacedAt f b0 key (pair (stretchAt f b0 key .0, halfAt false f b0 key) (suc (h .pagesTaken), halfAt true f b0 key)))
     both-any deep low some₀ some₁ filled e₀ e₁ =
         let w : ℕ = nextBit f b0 key in
         let q : ℕ = key / 2 ^ suc w in
@@ -307,16 +316,16 @@ module _ (f : Format) (C : ℕ) (s : List ℕ) (p : ℕ) (rs : List Item) (ok : 
   put-other = putPage-other f s p (pageImage f C rs) ok low high put-length
 
   take-capacity : headOf (takeItems f C s p rs) .capacity ≡ headOf s .capacity
-  take-capacity = putPagesTaken-sizes (putItems f C s p rs) p .capacity ∙ ap (λ (h : Head). h .capacity) put-head
+  take-capacity = putPagesTaken-sizes (putItems f C s p rs) _ .capacity ∙ ap (λ (h : Head). h .capacity) put-head
 
   pub take-pagesTaken : headOf (takeItems f C s p rs) .pagesTaken ≡ p
   take-pagesTaken = putPagesTaken-is (putItems f C s p rs) p (omega (arith, sized-long f (putItems f C s p rs) put-sized))
 
   pub take-same : pageOf f (takeItems f C s p rs) p ≡ pageImage f C rs
-  take-same = putPagesTaken-pages (putItems f C s p rs) p f p ∙ put-same
+  take-same = putPagesTaken-pages (putItems f C s p rs) _ f p ∙ put-same
 
   pub take-other : (x : ℕ) → 1 ≤ x → (x ≡ p → ⊥) → pageOf f (takeItems f C s p rs) x ≡ pageOf f s x
-  take-other x q ne = putPagesTaken-pages (putItems f C s p rs) p f x ∙ put-other x q ne
+  take-other x q ne = putPagesTaken-pages (putItems f C s p rs) _ f x ∙ put-other x q ne
 
 module _ (f : Format) (s : List ℕ) (b0 : Trie Stretch) (key : ℕ) (ok : Sized f s) (pg : PagesOf f s b0) (inside : key < 2 ^ width f) where
   pub pages-put : (rs : List Item) → headOf s .pagesTaken ≤ headOf s .pageBlocks → 1 ≤ stretchAt f b0 key .0
@@ -334,7 +343,8 @@ module _ (f : Format) (s : List ℕ) (b0 : Trie Stretch) (key : ℕ) (ok : Sized
 
   pub pages-take : (rs : List Item) → suc (headOf s .pagesTaken) ≤ headOf s .pageBlocks → stretchAt f b0 key .0 ≡ 0
       → Fit f (headOf s .capacity) (leftAt f b0 key) (prefixAt f b0 key) rs
-      → PagesOf f (takeItems f (headOf s .capacity) s (suc (headOf s .pagesTaken)) rs) (replacedAt f b0 key (leaf (suc (headOf s .pagesTaken), rs)))
+      → PagesOf f (takeItems f (headOf s .capacity) s (suc (headOf s .pagesTaken)) rs)
+      (replacedAt f b0 key (leaf (suc (headOf s .pagesTaken), rs)))
   pages-take rs room null fit =
       let m : ℕ = suc (headOf s .pagesTaken) in
       let C : ℕ = headOf s .capacity in

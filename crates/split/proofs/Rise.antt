@@ -1,5 +1,5 @@
--- One level of a climb. A node with room has its run halved, and the level stays. A node that splits leaves the levels above as they were: a climb
--- through them that keeps what is promised leaves the level alone, and so the split and that climb together keep it.
+-- One level of a climb. A node with room has its run halved, and the level stays. A node that splits leaves the levels above as they were:
+-- a climb through them that keeps what is promised leaves the level alone, and so the split and that climb together keep it.
 --   ClimbKeeps bs == a climb through the levels bs gives the carried levels, and no links
 --   Risen         == what a split and the climb above it come to
 use mathlib.Core.Path.{_≡_, sym, _∙_, subst}
@@ -17,7 +17,8 @@ use Rattle.split.proofs.Grafts.{occ-split, over-graft}
 use Rattle.split.proofs.CarriedLaws.{numbered-above}
 use Rattle.split.proofs.Blocks.{Written, grow-written, lower-written, upper-written}
 use Rattle.split.proofs.Writes.{changed-then}
-use Rattle.split.proofs.Level.{At, is-moved, nodes-frame, SameLinks, unlinked-moved, Plain, Ready, Climbed, ready-low, ready-high, here, local-depth, rewritten, rewritten-links}
+use Rattle.split.proofs.Level.{At, is-moved, nodes-frame, SameLinks, unlinked-moved, Plain, Ready, Climbed, ready-low, ready-high}
+use Rattle.split.proofs.Level.{here, local-depth, rewritten, rewritten-links}
 use Rattle.split.proofs.Splits.{Split}
 
 module _ {θ : ℕ} {I : NodeOps} {O : StoreOps} (A : NodeLaws θ I) (B : StoreLaws θ O) where
@@ -27,7 +28,8 @@ module _ {θ : ℕ} {I : NodeOps} {O : StoreOps} (A : NodeLaws θ I) (B : StoreL
   ClimbKeeps bs =
       (s : S) (k : ℕ) (u : Trie ℕ) (key : Key) (a c : ℕ)
       → Ready θ O s k u bs → taken s + bumpCost θ (locals u bs key) ≤ cap s → Plain θ (node s) bs
-      → Climbed θ O s (climb I O θ s (pathOf u bs key) a c) k (graft u key (pair a c)) bs (carried θ (taken s) u bs key) (bumpCost θ (locals u bs key))
+      → Climbed θ O s (climb I O θ s (pathOf u bs key) a c) k (graft u key (pair a c)) bs (carried θ (taken s) u bs key)
+      (bumpCost θ (locals u bs key))
       × Plain θ (node (climb I O θ s (pathOf u bs key) a c)) (carried θ (taken s) u bs key)
 
   module _ {s : S} {k : ℕ} {u b : Trie ℕ} {bs : List (Trie ℕ)} (y : Ready θ O s k u (b ∷ bs)) (key : Key) where
@@ -45,7 +47,8 @@ module _ {θ : ℕ} {I : NodeOps} {O : StoreOps} (A : NodeLaws θ I) (B : StoreL
 
     module _ (a c : ℕ) (small : depth u key - depth b key < θ) where
       grow-here :
-          Written θ (I .grow (node s n) (rest b key) a c) (suc k) (backOf (node s) n) (forwardOf (node s) n) (graft v (rest b key) (pair a c))
+          Written θ (I .grow (node s n) (rest b key) a c) (suc k) (backOf (node s) n) (forwardOf (node s) n)
+          (graft v (rest b key) (pair a c))
       grow-here = grow-written A (here y key) (rest b key) a c (omega (arith, local-depth y key))
 
       pub grown-climbed : Climbed θ O s (grown I O s (stepAt u b key) a c) k (graft u key (pair a c)) (b ∷ bs) (b ∷ bs) 0
@@ -80,7 +83,8 @@ module _ {θ : ℕ} {I : NodeOps} {O : StoreOps} (A : NodeLaws θ I) (B : StoreL
             }
 
         pub record Risen (s′ : S) : Type 0 where
-          pub climbed : Climbed θ O s s′ k (graft u key (pair a c)) (b ∷ bs) (b′ ∷ carried θ m b bs key) (suc (bumpCost θ (locals b bs key)))
+          pub climbed : Climbed θ O s s′ k (graft u key (pair a c)) (b ∷ bs) (b′ ∷ carried θ m b bs key)
+              (suc (bumpCost θ (locals b bs key)))
           pub kept : (x : ℕ) → 1 ≤ occ x b′ → node s′ x ≡ node s₁ x
           pub plain : Plain θ (node s′) (carried θ m b bs key)
 
@@ -99,7 +103,8 @@ module _ {θ : ℕ} {I : NodeOps} {O : StoreOps} (A : NodeLaws θ I) (B : StoreL
           split-climbed : Climbed θ O s s′ k (graft u key (pair a c)) (b ∷ bs) (b′ ∷ bs′) (suc more)
           split-climbed =
               let halves : Over (At θ (node s₁) (suc k)) b′ (graft u key (pair a c)) =
-              over-graft (At θ (node s) (suc k)) (At θ (node s₁) (suc k)) b u key (pair n m) (pair a c) (λ x. omega (arith, y .numbered .once x))
+              over-graft (At θ (node s) (suc k)) (At θ (node s₁) (suc k)) b u key (pair n m) (pair a c)
+              (λ x. omega (arith, y .numbered .once x))
               (w .same) (y .nodes .0)
               (subst (Over (At θ (node s₁) (suc k)) (pair n m)) (sym e) (w .left-is, w .right-is)) in
               record {

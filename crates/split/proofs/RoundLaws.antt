@@ -1,5 +1,5 @@
--- A round keeps the directory: at level 1 the node at the key has room, or splits with its links and the climb above keeps the rest. The labels stay
--- one for one with the taken numbers, and the levels are those of the halved stretches.
+-- A round keeps the directory: at level 1 the node at the key has room, or splits with its links and the climb above keeps the rest. The
+-- labels stay one for one with the taken numbers, and the levels are those of the halved stretches.
 use mathlib.Core.Path.{_≡_, sym, ap, _∙_, subst}
 use mathlib.Core.List.{List, [], _∷_}
 use Prim.Native.Nat.{ℕ, suc, _+_, _-_, _≤_, _<_}
@@ -13,7 +13,8 @@ use Rattle.tree.proofs.TrieLaws.{graft-leafAt, shape-graft}
 use Rattle.tree.proofs.CarryLaws.{bump-slack, bump-full}
 use Rattle.represent.specs.Labelled.{occs, OneForOne, under}
 use Rattle.represent.specs.Rep.{backOf, forwardOf, Links, Directory}
-use Rattle.split.specs.Round.{NodeOps, NodeLaws, StoreOps, StoreLaws, Step, stepAt, pathOf, grown, halveFirst, climb, round, aimAt, carried, RoundCarries, AimKeeps}
+use Rattle.split.specs.Round.{NodeOps, NodeLaws, StoreOps, StoreLaws, Step, stepAt, pathOf, grown, halveFirst, climb, round, aimAt}
+use Rattle.split.specs.Round.{carried, RoundCarries, AimKeeps}
 use Rattle.split.proofs.Grafts.{forked}
 use Rattle.represent.proofs.Chain.{count-labels, linked-frame}
 use Rattle.split.proofs.CarriedLaws.{carried-slack, carried-full, carried-levels, carried-one, carried-old}

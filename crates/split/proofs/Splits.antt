@@ -1,4 +1,4 @@
--- A node of a level gives its upper half to a new node, and the node q behind it, if there is one, is linked back to that: no other node changes.
+-- A node of a level gives its upper half to a new node, and the node q behind it, if any, is linked back to that: no other node changes.
 --   parts s n ws ws′ q == the store after it: ws at n, ws′ at the next number
 --   Parted == its nodes
 --   Split s s₁ k b n l r == s₁ is s with the node n of the level b split: n shows l, and the next number shows r
@@ -75,7 +75,8 @@ module _ {θ : ℕ} {I : NodeOps} {O : StoreOps} (A : NodeLaws θ I) (B : StoreL
           at-n =
               g .nodes-same n (key-low y key) (omega (arith, key-high y key))
               ∙ z .0 .off n (key-low y key) (omega (arith, cap₂, key-high y key)) apart ∙ t .at-n;
-          at-m = g .nodes-same _ (omega arith) (omega arith) ∙ z .0 .off _ (omega arith) (omega (arith, cap₂)) (λ e. omega (arith, q-high)) ∙ t .at-m;
+          at-m = g .nodes-same _ (omega arith) (omega arith) ∙ z .0 .off _ (omega arith) (omega (arith, cap₂)) (λ e. omega (arith, q-high))
+              ∙ t .at-m;
           at-q = λ ne.
               g .nodes-same q (q-low ne) (omega (arith, q-high)) ∙ z .0 .at-q ne
               ∙ ap (λ (w : List ℕ). I .linked w (suc (taken s)) (forwardWord w 0)) (t .off q (q-low ne) q-high (λ e. apart (sym e)));

@@ -1,5 +1,6 @@
--- The steps of an insertion keep a represented store. What is written into pages leaves the node blocks, and what is written into nodes leaves the pages;
--- so the two sides of a represented store are shown one after the other: the pages after the page step, the directory after the round.
+-- The steps of an insertion keep a represented store. What is written into pages leaves the node blocks, and what is written into nodes
+-- leaves the pages; so the two sides of a represented store are shown one after the other: the pages after the page step, the directory
+-- after the round.
 --   NodesKept f s s′   == s′ is s with other pages, in which nothing of the nodes has changed
 --   PageStep f s s′ b0 == and its pages are those of b0
 use mathlib.Core.Path.{_≡_, refl, sym, ap, _∙_, subst}
@@ -23,18 +24,22 @@ use Rattle.represent.specs.Image.{pageImage}
 use Rattle.represent.specs.Rep.{Stretch, numbers, Directory, Pages, Rep, sizeOf, Sized}
 use Rattle.split.specs.Round.{NodeOps, StoreOps, Rounded, pathOf, round, carried}
 use Rattle.split.specs.Frame.{nodeOf, pageOf, putPagesTaken}
-use Rattle.split.specs.Insertion.{SameSizes, Ok, wordStore, stretchAt, leftAt, prefixAt, halfAt, replacedAt, Fit, putItems, takeItems, Stepped, Roomy, UpperKeeps, LowerKeeps, BothKeep, PutKeeps, TakeKeeps}
+use Rattle.split.specs.Insertion.{SameSizes, Ok, wordStore, stretchAt, leftAt, prefixAt, halfAt, replacedAt, Fit, putItems, takeItems}
+use Rattle.split.specs.Insertion.{Stepped, Roomy, UpperKeeps, LowerKeeps, BothKeep, PutKeeps, TakeKeeps}
 use Rattle.represent.proofs.LabelLaws.{label-low, label-high, leafAt-relabel, relabel-graft}
 use Rattle.split.proofs.Level.{moved-links, nodes-frame, links-frame}
 use Rattle.split.proofs.Frame.{putPage-nodes, putPage-beyond}
-use Rattle.split.proofs.Frame.{putPagesTaken-sizes, putPagesTaken-root, putPagesTaken-levels, putPagesTaken-taken, putPagesTaken-sized, putPagesTaken-nodes, putPagesTaken-beyond}
+use Rattle.split.proofs.Frame.{putPagesTaken-sizes, putPagesTaken-root, putPagesTaken-levels, putPagesTaken-taken}
+use Rattle.split.proofs.Frame.{putPagesTaken-sized, putPagesTaken-nodes, putPagesTaken-beyond}
 use Rattle.split.proofs.WordStore.{others-sizes, others-pagesTaken, others-pages, others-beyond, store-laws}
-use Rattle.split.proofs.PageLaws.{number-high, half-fits, own-low, put-head, put-length, put-sized, put-other, take-pagesTaken, take-other, pages-frame, pages-upper, pages-lower, pages-both, pages-put, pages-take}
+use Rattle.split.proofs.PageLaws.{number-high, half-fits, own-low, put-head, put-length, put-sized, put-other, take-pagesTaken}
+use Rattle.split.proofs.PageLaws.{take-other, pages-frame, pages-upper, pages-lower, pages-both, pages-put, pages-take}
 use Rattle.split.proofs.RoundLaws.{round-carries, aim-keeps}
 
 -- a directory goes by the node blocks in use alone
 directory-frame : (θ : ℕ) (node node′ : ℕ → List ℕ) (h h′ : Head) (u : Trie ℕ) (bs : List (Trie ℕ))
-    → h′ .root ≡ h .root → h′ .levels ≡ h .levels → h′ .nodesTaken ≡ h .nodesTaken → ((n : ℕ) → 1 ≤ n → n ≤ h .nodesTaken → node′ n ≡ node n)
+    → h′ .root ≡ h .root → h′ .levels ≡ h .levels → h′ .nodesTaken ≡ h .nodesTaken
+    → ((n : ℕ) → 1 ≤ n → n ≤ h .nodesTaken → node′ n ≡ node n)
     → Directory θ node (h .root) (h .levels) (h .nodesTaken) u bs → Directory θ node′ (h′ .root) (h′ .levels) (h′ .nodesTaken) u bs
 directory-frame θ node node′ h h′ u [] r l t e d = absurd (d .links)
 directory-frame θ node node′ h h′ u (b ∷ bs) r l t e d =
@@ -62,12 +67,14 @@ record PageStep (f : Format) (s s′ : List ℕ) (b0 : Trie Stretch) : Type 0 wh
   kept : NodesKept f s s′
   pages : Pages f s′ (headOf s′) b0
   pages-fit : headOf s′ .pagesTaken ≤ headOf s′ .pageBlocks
-  free-pages : (p : ℕ) → headOf s′ .pagesTaken < p → p ≤ headOf s′ .pageBlocks → pageOf f s′ p ≡ replicate (pageWords f (headOf s′ .capacity)) 0
+  free-pages : (p : ℕ) → headOf s′ .pagesTaken < p → p ≤ headOf s′ .pageBlocks
+      → pageOf f s′ p ≡ replicate (pageWords f (headOf s′ .capacity)) 0
 
 pub size-same : (f : Format) (s s′ : List ℕ) → SameSizes (headOf s) (headOf s′) → sizeOf f s′ ≡ sizeOf f s
 size-same f s s′ e = rw (e .theta, e .capacity, e .nodes, e .pages)
 
-module _ (f : Format) (s : List ℕ) (b0 b0′ : Trie Stretch) (bs : List (Trie ℕ)) (r : Rep f s b0 bs) (s₁ : List ℕ) (p : PageStep f s s₁ b0′) where
+module _ (f : Format) (s : List ℕ) (b0 b0′ : Trie Stretch) (bs : List (Trie ℕ)) (r : Rep f s b0 bs) (s₁ : List ℕ)
+    (p : PageStep f s s₁ b0′) where
   abbrev θ : ℕ
   θ = headOf s .theta
 
@@ -76,11 +83,13 @@ module _ (f : Format) (s : List ℕ) (b0 b0′ : Trie Stretch) (bs : List (Trie 
 
   step-directory : Directory θ (nodeOf s₁) (headOf s₁ .root) (headOf s₁ .levels) (headOf s₁ .nodesTaken) (numbers b0) bs
   step-directory =
-      directory-frame θ (nodeOf s) (nodeOf s₁) (headOf s) (headOf s₁) (numbers b0) bs (p .kept .root-same) (p .kept .levels-same) (p .kept .taken-same)
+      directory-frame θ (nodeOf s) (nodeOf s₁) (headOf s) (headOf s₁) (numbers b0) bs (p .kept .root-same) (p .kept .levels-same)
+      (p .kept .taken-same)
       (λ n low high. p .kept .nodes-same n low (omega (arith, r .nodes-fit))) (r .directory)
 
   -- the page step, then a change of nodes
-  module _ (s₂ : List ℕ) (more : ℕ) (bs′ : List (Trie ℕ)) (w : Rounded θ (wordStore f θ) s₁ s₂ more (numbers b0′) bs′) (room : headOf s .nodesTaken + more ≤ headOf s .nodeBlocks) where
+  module _ (s₂ : List ℕ) (more : ℕ) (bs′ : List (Trie ℕ)) (w : Rounded θ (wordStore f θ) s₁ s₂ more (numbers b0′) bs′)
+      (room : headOf s .nodesTaken + more ≤ headOf s .nodeBlocks) where
     sizes-now : SameSizes (headOf s₁) (headOf s₂)
     sizes-now = others-sizes s₁ s₂ (w .changed .others-same)
 
@@ -162,7 +171,8 @@ module _ (f : Format) where
         taken-same = b .taken-same ∙ a .taken-same;
         nodes-same = λ n low high. b .nodes-same n low (omega (arith, a .sizes-same .nodes)) ∙ a .nodes-same n low high;
         beyond =
-            ap (λ n. drop n v) (sym (size-same f s t (a .sizes-same))) ∙ b .beyond ∙ ap (λ n. drop n t) (size-same f s t (a .sizes-same)) ∙ a .beyond;
+            ap (λ n. drop n v) (sym (size-same f s t (a .sizes-same))) ∙ b .beyond ∙ ap (λ n. drop n t) (size-same f s t (a .sizes-same))
+            ∙ a .beyond;
       }
 
   filled-kept : (s : List ℕ) (m : ℕ) → Sized f s → NodesKept f s (putPagesTaken s m)
@@ -199,7 +209,8 @@ module _ (f : Format) where
         }
 
     taken-kept : NodesKept f s (takeItems f C s p rs)
-    taken-kept = kept-then s (putItems f C s p rs) (takeItems f C s p rs) items-kept (filled-kept (putItems f C s p rs) p (items-kept .sized))
+    taken-kept =
+        kept-then s (putItems f C s p rs) (takeItems f C s p rs) items-kept (filled-kept (putItems f C s p rs) _ (items-kept .sized))
 
 numbers-graft : (b0 : Trie Stretch) (k : Key) (c : Trie Stretch) → numbers (graft b0 k c) ≡ graft (numbers b0) k (numbers c)
 numbers-graft b0 k c = relabel-graft (λ x. x .0) b0 k c
@@ -322,7 +333,8 @@ module _ (f : Format) (I : NodeOps) (s : List ℕ) (b0 : Trie Stretch) (bs : Lis
   place = bits (width f) key
 
   halved : (x z : Stretch) (s₁ : List ℕ) → PageStep f s s₁ (replacedAt f b0 key (pair x z))
-      → Stepped f s (round I (wordStore f (headOf s .theta)) (headOf s .theta) s₁ (pathOf (numbers b0) bs place) (x .0) (z .0)) (replacedAt f b0 key (pair x z))
+      → Stepped f s (round I (wordStore f (headOf s .theta)) (headOf s .theta) s₁ (pathOf (numbers b0) bs place) (x .0) (z .0))
+      (replacedAt f b0 key (pair x z))
       (carried (headOf s .theta) (headOf s .nodesTaken) (numbers b0) bs place)
   halved x z s₁ p =
       stepped f s b0 (replacedAt f b0 key (pair x z)) bs (y .rep) s₁ p _ (bumpCost (headOf s .theta) (locals (numbers b0) bs place)) _
@@ -357,7 +369,8 @@ put-keeps f s b0 bs key rs r narrow low fit =
     let p = put-step f s b0 bs r key narrow rs low fit in
     let k : Key = bits (width f) key in
     let same : numbers b0 ≡ numbers (replacedAt f b0 key (leaf (stretchAt f b0 key .0, rs))) =
-    sym (numbers-graft b0 k (leaf (stretchAt f b0 key .0, rs)) ∙ ap (λ n. graft (numbers b0) k (leaf n)) (sym (leafAt-relabel (λ x. x .0) b0 k)) ∙ graft-leafAt (numbers b0) k) in
+    sym (numbers-graft b0 k (leaf (stretchAt f b0 key .0, rs))
+    ∙ ap (λ n. graft (numbers b0) k (leaf n)) (sym (leafAt-relabel (λ x. x .0) b0 k)) ∙ graft-leafAt (numbers b0) k) in
     stepped f s b0 _ bs r _ p _ 0 bs
     (rounded-same (headOf s .theta) (wordStore f (headOf s .theta)) same refl
     (record {
@@ -366,12 +379,15 @@ put-keeps f s b0 bs key rs r narrow low fit =
     }))
     (omega (arith, r .nodes-fit))
 
-pub take-keeps : (f : Format) (I : NodeOps) (s : List ℕ) (b0 : Trie Stretch) (b : Trie ℕ) (bs : List (Trie ℕ)) (key : ℕ) → TakeKeeps f I s b0 b bs key
+pub take-keeps : (f : Format) (I : NodeOps) (s : List ℕ) (b0 : Trie Stretch) (b : Trie ℕ) (bs : List (Trie ℕ)) (key : ℕ)
+    → TakeKeeps f I s b0 b bs key
 take-keeps f I s b0 b bs key rs laws r narrow null room fit =
     let p = take-step f s b0 (b ∷ bs) r key narrow rs null room fit in
     let k : Key = bits (width f) key in
     stepped f s b0 _ (b ∷ bs) r _ p _ 0 (b ∷ bs)
     (rounded-same (headOf s .theta) (wordStore f (headOf s .theta)) (sym (numbers-graft b0 k (leaf (suc (headOf s .pagesTaken), rs)))) refl
-    (aim-keeps (headOf s .theta) I (wordStore f (headOf s .theta)) laws (store-laws f (headOf s .theta)) _ (numbers b0) b bs k (suc (headOf s .pagesTaken))
-    (step-ok f s b0 _ (b ∷ bs) r _ p) (omega (arith, r .nodes-fit, p .kept .taken-same, p .kept .sizes-same .nodes)) (step-directory f s b0 _ (b ∷ bs) r _ p)))
+    (aim-keeps (headOf s .theta) I (wordStore f (headOf s .theta)) laws (store-laws f (headOf s .theta)) _ (numbers b0) b bs k
+    (suc (headOf s .pagesTaken))
+    (step-ok f s b0 _ (b ∷ bs) r _ p) (omega (arith, r .nodes-fit, p .kept .taken-same, p .kept .sizes-same .nodes))
+    (step-directory f s b0 _ (b ∷ bs) r _ p)))
     (omega (arith, r .nodes-fit))

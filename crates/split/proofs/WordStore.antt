@@ -1,5 +1,5 @@
--- A store's words as a store of nodes: what a round of an insertion needs to know of a node block put and of the head's three words set. All
--- else, the pages among it, is in `others`, which neither changes.
+-- A store's words as a store of nodes: what a round of an insertion needs to know of a node block put and of the head's three words set.
+-- All else, the pages among it, is in `others`, which neither changes.
 use mathlib.Core.Path.{_≡_, sym, ap, _∙_}
 use mathlib.Core.List.{List}
 use Prim.Native.Nat.{ℕ, _-_, _*_, _≤_}
@@ -92,7 +92,8 @@ module _ (f : Format) (θ : ℕ) where
       pub put-same : Ok f θ s → 1 ≤ n → n ≤ headOf s .nodeBlocks → NodeIs θ ws level v → nodeOf (putNode s n ws) n ≡ ws
       put-same ok low high is = putNode-same f s n ws (ok .sized) low high (fills s ws level v ok is)
 
-      pub put-other : (x : ℕ) → Ok f θ s → 1 ≤ n → n ≤ headOf s .nodeBlocks → NodeIs θ ws level v → 1 ≤ x → x ≤ headOf s .nodeBlocks → (x ≡ n → ⊥)
+      pub put-other : (x : ℕ) → Ok f θ s → 1 ≤ n → n ≤ headOf s .nodeBlocks → NodeIs θ ws level v → 1 ≤ x → x ≤ headOf s .nodeBlocks
+          → (x ≡ n → ⊥)
           → nodeOf (putNode s n ws) x ≡ nodeOf s x
       put-other x ok low high is p q ne = putNode-other f s n ws (ok .sized) low high (fills s ws level v ok is) x p ne
 
@@ -103,7 +104,8 @@ module _ (f : Format) (θ : ℕ) where
   -- the head's three words set
   module _ (s : List ℕ) (root levels taken : ℕ) (ok : Ok f θ s) where
     pub head-ok : Ok f θ (putHead s root levels taken)
-    head-ok = record { theta = putHead-sizes s root levels taken .theta ∙ ok .theta; sized = putHead-sized s root levels taken f (ok .sized) }
+    head-ok =
+        record { theta = putHead-sizes s root levels taken .theta ∙ ok .theta; sized = putHead-sized s root levels taken f (ok .sized) }
 
     long : 8 ≤ length s
     long = omega (arith, sized-long f s (ok .sized))

@@ -124,6 +124,7 @@ module _ {θ : ℕ} {I : NodeOps} {O : StoreOps} (A : NodeLaws θ I) (B : StoreL
         | no ne ↦
             let f : ℕ = forwardWord (node s₂ q) 0 in
             let w = linked-written A (is ne .1) m f in
-            let p = B .put-is s₂ q (I .linked (node s₂ q) m f) k (is ne .0) (kept .ok) (omega arith) (omega (arith, kept .cap-same)) (w .is) in
+            let p =
+            B .put-is s₂ q (I .linked (node s₂ q) m f) k (is ne .0) (kept .ok) (omega arith) (omega (arith, kept .cap-same)) (w .is) in
             rw (ne-eqb q 0 ne, relink) (record { at-q = λ z. p .here; off = p .elsewhere }, put-kept (omega arith) kept p)
       ]

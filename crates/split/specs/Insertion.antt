@@ -1,5 +1,6 @@
--- The steps of an insertion on a store's words, and what they do to a represented store. Document 01, "Descent and splits". Pages are written as words;
--- nodes by the operations of a round, over the words.
+-- The steps of an insertion on a store's words, and what they do to a represented store. Document 01, "Descent and splits". Pages are
+-- written as words; nodes by the operations of a round, over the words.
+--   nodesEnd h         == the number of the first word behind the node blocks
 --   Others, others s   == all of a store but its node blocks, root, levels and nodes taken
 --   Ok f θ s           == the store's sizes are in order, and θ is its own
 --   wordStore f θ      == a store's words as a store of nodes
@@ -14,6 +15,7 @@
 --   takeItems f C s p rs == that, and p as the number of pages taken
 --   SameSizes h h′     == the two heads have the same sizes
 --   Stepped f s s′ b0 bs == s′ stands for b0 and bs, and has the sizes of s and its words beyond them
+--   Roomy f I s b0 bs key == s stands for b0 and bs, the key's place has a bit left, and there are node blocks for the climb
 --   UpperKeeps, LowerKeeps, BothKeep == a full page halved: no record has the bit clear; none has it set; there are both
 --   PutKeeps, TakeKeeps == a page written anew; a page taken for a null entry
 use mathlib.Core.Path.{_≡_}
@@ -147,8 +149,8 @@ module _ (f : Format) (I : NodeOps) (s : List ℕ) (b0 : Trie Stretch) (bs : Lis
     pub deep : depth b0 k < width f
     pub room : headOf s .nodesTaken + bumpCost (headOf s .theta) (locals (numbers b0) bs k) ≤ headOf s .nodeBlocks
 
-  -- "At a full page: halve it on the next bit and try again. The zero half keeps the page, and the other takes a new one. An empty half becomes
-  -- null, and the other half keeps the page."
+  -- "At a full page: halve it on the next bit and try again. The zero half keeps the page, and the other takes a new one. An empty half
+  -- becomes null, and the other half keeps the page."
   abbrev pub UpperKeeps : Type 0
   UpperKeeps = Roomy → halfAt false f b0 key ≡ [] → Stepped f s (rounded s 0 (own .0)) (replacedAt f b0 key (pair (0, []) own)) levelsAfter
 
@@ -178,7 +180,8 @@ module _ (f : Format) (I : NodeOps) (s : List ℕ) (b0 : Trie Stretch) (b : Trie
   abbrev pub TakeKeeps : Type 0
   TakeKeeps =
       let m : ℕ = suc (headOf s .pagesTaken) in
-      (rs : List Item) → NodeLaws (headOf s .theta) I → Rep f s b0 (b ∷ bs) → key < 2 ^ width f → stretchAt f b0 key .0 ≡ 0 → m ≤ headOf s .pageBlocks
+      (rs : List Item) → NodeLaws (headOf s .theta) I → Rep f s b0 (b ∷ bs) → key < 2 ^ width f → stretchAt f b0 key .0 ≡ 0
+      → m ≤ headOf s .pageBlocks
       → Fit f (headOf s .capacity) (leftAt f b0 key) (prefixAt f b0 key) rs
       → Stepped f s
       (aimAt I (wordStore f (headOf s .theta)) (takeItems f (headOf s .capacity) s m rs) (stepAt (numbers b0) b (bits (width f) key)) m)

@@ -1,5 +1,5 @@
--- One round on the directory of a store: the run at a key is halved, at every level that has to follow. It is written over operations on node
--- blocks and on stores, of which only their laws are known.
+-- One round on the directory of a store: the run at a key is halved, at every level that has to follow. It is written over operations on
+-- node blocks and on stores, of which only their laws are known.
 --   NodeOps            == operations on node blocks, by value
 --   NodeLaws θ I       == what they make of the block of a node
 --   StoreOps           == a store: its head, its node blocks, all else, and how to write them
@@ -13,6 +13,7 @@
 --   grown, halve, halveFirst, newRoot == one level of a climb: the node has room; it splits; it splits at level 1; a root is put above
 --   climb θ s path a c == the runs of a path halved, a and c the pointers of the lowest two halves, as far up as nodes split
 --   round θ s path a c == the same from level 1
+--   chosen k x y       == the one of x and y that the first bit of k chooses
 --   turned θ k m path  == the path of the key k after that, where the numbers up to m are taken
 --   aimAt s p q        == the run at the step p points to q
 --   carried θ m u bs k == the levels bs over u after u's stretch at the key is halved, where the numbers up to m are taken
@@ -48,9 +49,11 @@ module _ (θ : ℕ) (I : NodeOps) where
     pub grow-is : (level back forward : ℕ) (v : Trie ℕ) (k : Key) (a c : ℕ) → height v ≤ θ → depth v k < θ
         → I .grow (nodeImage θ level back forward v) k a c ≡ nodeImage θ level back forward (graft v k (pair a c))
     -- "At h = H = θ the node first splits on its first bit: every h falls by one, .. both shrink H to their largest h"
-    pub lower-is : (level back forward : ℕ) (v l r : Trie ℕ) (k : Key) (a c : ℕ) → height v ≤ θ → θ ≤ depth v k → graft v k (pair a c) ≡ fork l r
+    pub lower-is : (level back forward : ℕ) (v l r : Trie ℕ) (k : Key) (a c : ℕ) → height v ≤ θ → θ ≤ depth v k
+        → graft v k (pair a c) ≡ fork l r
         → I .lower (nodeImage θ level back forward v) k a c ≡ nodeImage θ level back forward l
-    pub upper-is : (level back forward : ℕ) (v l r : Trie ℕ) (k : Key) (a c : ℕ) → height v ≤ θ → θ ≤ depth v k → graft v k (pair a c) ≡ fork l r
+    pub upper-is : (level back forward : ℕ) (v l r : Trie ℕ) (k : Key) (a c : ℕ) → height v ≤ θ → θ ≤ depth v k
+        → graft v k (pair a c) ≡ fork l r
         → I .upper (nodeImage θ level back forward v) k a c ≡ nodeImage θ level back forward r
     pub aim-is : (level back forward : ℕ) (v : Trie ℕ) (k : Key) (q : ℕ) → height v ≤ θ
         → I .aim (nodeImage θ level back forward v) k q ≡ nodeImage θ level back forward (graft v k (leaf q))
@@ -107,7 +110,8 @@ module _ (θ : ℕ) (O : StoreOps) where
   open StoreOps O using (S, Ok, node, root, levels, taken, cap, put, head)
 
   pub record StoreLaws : Type 0 where
-    pub put-is : (s : S) (n : ℕ) (ws : List ℕ) (level : ℕ) (v : Trie ℕ) → Ok s → 1 ≤ n → n ≤ cap s → NodeIs θ ws level v → Put O s (put s n ws) n ws
+    pub put-is : (s : S) (n : ℕ) (ws : List ℕ) (level : ℕ) (v : Trie ℕ) → Ok s → 1 ≤ n → n ≤ cap s → NodeIs θ ws level v
+        → Put O s (put s n ws) n ws
     pub head-is : (s : S) (r l t : ℕ) → Ok s → t ≤ cap s → Headed O s (head s r l t) r l t
 
   pub record Rounded (s s′ : S) (more : ℕ) (u : Trie ℕ) (bs : List (Trie ℕ)) : Type 0 where
@@ -130,8 +134,8 @@ pathOf u (b ∷ bs) k = stepAt u b k ∷ pathOf b bs k
 abbrev pub chosen : Key → ℕ → ℕ → ℕ
 chosen k x y = leafAt (pair x y) k
 
--- A run with room is halved where it stands: one bit more. A run at θ stays at θ: its node is split, and the half that the key is in takes up the
--- node's first bit. Above a split root stands the new one.
+-- A run with room is halved where it stands: one bit more. A run at θ stays at θ: its node is split, and the half that the key is in takes
+-- up the node's first bit. Above a split root stands the new one.
 unfoldable pub turned : ℕ → Key → ℕ → List Step → List Step
 turned θ k m [] = record { at = suc m; bits = k; depth = 1 } ∷ []
 turned θ k m (p ∷ path) =
@@ -219,7 +223,8 @@ module _ (θ : ℕ) (I : NodeOps) (O : StoreOps) where
       NodeLaws θ I → StoreLaws θ O → 1 ≤ θ
       → (s : S) (u : Trie ℕ) (bs : List (Trie ℕ)) (key : Key) (a c : ℕ)
       → Ok s → Directory θ (node s) (root s) (levels s) (taken s) u bs → taken s + bumpCost θ (locals u bs key) ≤ cap s
-      → Rounded θ O s (round I O θ s (pathOf u bs key) a c) (bumpCost θ (locals u bs key)) (graft u key (pair a c)) (carried θ (taken s) u bs key)
+      → Rounded θ O s (round I O θ s (pathOf u bs key) a c) (bumpCost θ (locals u bs key)) (graft u key (pair a c))
+      (carried θ (taken s) u bs key)
 
   -- "Enter, at a null entry: take a page for the whole run."
   abbrev pub AimKeeps : Type 0
