@@ -10,8 +10,8 @@ use Rattle.tree.specs.Carry.{locals, bumpCost}
 use Rattle.tree.proofs.CarryLaws.{bump-slack, bump-full}
 use Rattle.represent.specs.Labelled.{occ, occs, under}
 use Rattle.represent.specs.Rep.{backOf, forwardOf, Unlinked}
-use Rattle.split.specs.Round.{NodeOps, NodeLaws, StoreOps, StoreLaws, Step, stepAt, pathOf, carried}
-use Rattle.split.specs.Round.{grown, relink, halve, newRoot, climb}
+use Rattle.split.specs.Round.{NodeOps, NodeLaws, StoreOps, StoreLaws, Place, placeAt, pathOf, carried}
+use Rattle.split.specs.Round.{grown, relink, splitNode, newRoot, climb}
 use Rattle.represent.proofs.LabelLaws.{ind-other}
 use Rattle.split.proofs.Grafts.{forked, occ-split}
 use Rattle.split.proofs.CarriedLaws.{carried-slack, carried-full}
@@ -22,20 +22,20 @@ use Rattle.split.proofs.Level.{ready-high, here-in, key-low}
 use Rattle.split.proofs.Splits.{Split, parts, Parted, parted, parted-split}
 use Rattle.split.proofs.Rise.{ClimbKeeps, grown-climbed, grown-links, lower-here, upper-here, rise}
 
-module _ (I : NodeOps) (O : StoreOps) (θ : ℕ) (s : O .S) (p : Step) (a c : ℕ) where
-  climb-room : (path : List Step) → p .depth < θ → climb I O θ s (p ∷ path) a c ≡ grown I O s p a c
+module _ (I : NodeOps) (O : StoreOps) (θ : ℕ) (s : O .S) (p : Place) (a c : ℕ) where
+  climb-room : (path : List Place) → p .depth < θ → climb I O θ s (p ∷ path) a c ≡ grown I O s p a c
   unfolding climb
   climb-room path h = rw (lt-ltb (p .depth) θ h, climb)
 
-  climb-full : (path : List Step) → θ ≤ p .depth
-      → climb I O θ s (p ∷ path) a c ≡ climb I O θ (halve I O s p a c) path (p .at) (suc (O .taken s))
+  climb-full : (path : List Place) → θ ≤ p .depth
+      → climb I O θ s (p ∷ path) a c ≡ climb I O θ (splitNode I O s p a c) path (p .at) (suc (O .taken s))
   unfolding climb
   climb-full path h = rw (le-ltb (p .depth) θ h, climb)
 
   -- a node above level 1 splits with no node behind it
-  halve-parts : halve I O s p a c
+  halve-parts : splitNode I O s p a c
       ≡ parts I O s (p .at) (I .lower (O .node s (p .at)) (p .bits) a c) (I .upper (O .node s (p .at)) (p .bits) a c) 0
-  unfolding halve relink
+  unfolding splitNode relink
   halve-parts = refl
 
 module _ {θ : ℕ} {I : NodeOps} {O : StoreOps} (A : NodeLaws θ I) (B : StoreLaws θ O) where
@@ -49,7 +49,7 @@ module _ {θ : ℕ} {I : NodeOps} {O : StoreOps} (A : NodeLaws θ I) (B : StoreL
       n = leafAt b key
 
       abbrev s₁ : S
-      s₁ = halve I O s (stepAt u b key) a c
+      s₁ = splitNode I O s (placeAt u b key) a c
 
       low : Written θ (I .lower (node s n) (rest b key) a c) (suc k) (backOf (node s) n) (forwardOf (node s) n) l
       low = lower-here A B y key a c e full
@@ -62,7 +62,7 @@ module _ {θ : ℕ} {I : NodeOps} {O : StoreOps} (A : NodeLaws θ I) (B : StoreL
 
       halve-parted : Parted I O s s₁ n (I .lower (node s n) (rest b key) a c) (I .upper (node s n) (rest b key) a c) 0
       halve-parted =
-          rw (halve-parts I O θ s (stepAt u b key) a c)
+          rw (halve-parts I O θ s (placeAt u b key) a c)
           (parted A B y key (low .is) (high .is) 0 not-null (λ i. absurd (i refl)) more)
 
       halve-split : Split θ O s s₁ (suc k) b n l r
@@ -114,7 +114,7 @@ module _ {θ : ℕ} {I : NodeOps} {O : StoreOps} (A : NodeLaws θ I) (B : StoreL
       elim (decLt (depth u key - depth b key) θ) [
         | yes small ↦
             rw (
-              climb-room I O θ s (stepAt u b key) a c (pathOf b bs key) small,
+              climb-room I O θ s (placeAt u b key) a c (pathOf b bs key) small,
               carried-slack θ (taken s) u b bs key small,
               bump-slack θ (depth u key - depth b key) (locals b bs key) small .1,
             )
@@ -124,12 +124,12 @@ module _ {θ : ℕ} {I : NodeOps} {O : StoreOps} (A : NodeLaws θ I) (B : StoreL
             let cost = bump-full θ (depth u key - depth b key) (locals b bs key) full .1 in
             let more : taken s < cap s = omega (arith, cost) in
             let t = forked (under b u key) (rest b key) a c in
-            let s₁ : S = halve I O s (stepAt u b key) a c in
+            let s₁ : S = splitNode I O s (placeAt u b key) a c in
             let s′ : S = climb I O θ s₁ (pathOf b bs key) (leafAt b key) (suc (taken s)) in
             let w = halve-split y key a c (t .2) full more in
             let z = rise A B y key a c (t .2) w (climb-keeps h bs) (omega (arith, cost)) (λ x o. f x (omega arith)) in
             rw (
-              climb-full I O θ s (stepAt u b key) a c (pathOf b bs key) full,
+              climb-full I O θ s (placeAt u b key) a c (pathOf b bs key) full,
               carried-full θ (taken s) u b bs key full,
               cost,
             ) (

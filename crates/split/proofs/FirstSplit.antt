@@ -7,7 +7,7 @@ use Rattle.tree.specs.Trie.{Trie, fork, Key, labels, leafAt, depth, rest, graft
 use Rattle.node.specs.Node.{backWord, forwardWord}
 use Rattle.represent.specs.Labelled.{occ, occs, under, before, after, first, Linked}
 use Rattle.represent.specs.Rep.{backOf, forwardOf}
-use Rattle.split.specs.Round.{NodeOps, NodeLaws, StoreOps, StoreLaws, stepAt, halveFirst}
+use Rattle.split.specs.Round.{NodeOps, NodeLaws, StoreOps, StoreLaws, placeAt, splitFirst}
 use Rattle.represent.proofs.LabelLaws.{ind-self, labels-graft, labels-at, over-in}
 use Rattle.represent.proofs.Chain.{count, count-labels, count-at, first-in, first-not, linked-next, Mended, linked-split}
 use Rattle.split.proofs.Blocks.{Written, linked-written}
@@ -49,7 +49,7 @@ module _ {θ : ℕ} {I : NodeOps} {O : StoreOps} (A : NodeLaws θ I) (B : StoreL
         (full : θ ≤ depth u key - depth b key) (more : taken s < cap s)
       where
         abbrev s₁ : S
-        s₁ = halveFirst I O s (stepAt u b key) a c
+        s₁ = splitFirst I O s (placeAt u b key) a c
 
         abbrev ws : List ℕ
         ws = I .linked (I .lower (node s n) (rest b key) a c) (backOf (node s) n) m
@@ -64,7 +64,7 @@ module _ {θ : ℕ} {I : NodeOps} {O : StoreOps} (A : NodeLaws θ I) (B : StoreL
         right = linked-written A (upper-here A B y key a c e full .is) n q
 
         first-parted : Parted I O s s₁ n ws ws′ q
-        unfolding halveFirst
+        unfolding splitFirst
         first-parted = parted A B y key (left .is) (right .is) q apart known more
 
         pub first-split : Split θ O s s₁ 1 b n l r

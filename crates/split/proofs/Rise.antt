@@ -11,7 +11,7 @@ use Rattle.tree.specs.Trie.{Trie, fork, Key, leafAt, depth, rest, graft, pair}
 use Rattle.tree.specs.Carry.{locals, bumpCost}
 use Rattle.represent.specs.Labelled.{occ, occs, Over, under}
 use Rattle.represent.specs.Rep.{backOf, forwardOf}
-use Rattle.split.specs.Round.{NodeOps, NodeLaws, StoreOps, StoreLaws, stepAt, pathOf, grown, climb, carried}
+use Rattle.split.specs.Round.{NodeOps, NodeLaws, StoreOps, StoreLaws, placeAt, pathOf, grown, climb, carried}
 use Rattle.represent.proofs.LabelLaws.{Numbered, ind-other, over-map}
 use Rattle.split.proofs.Grafts.{occ-split, over-graft}
 use Rattle.split.proofs.CarriedLaws.{numbered-above}
@@ -51,11 +51,11 @@ module _ {θ : ℕ} {I : NodeOps} {O : StoreOps} (A : NodeLaws θ I) (B : StoreL
           (graft v (rest b key) (pair a c))
       grow-here = grow-written A (here y key) (rest b key) a c (omega (arith, local-depth y key))
 
-      pub grown-climbed : Climbed θ O s (grown I O s (stepAt u b key) a c) k (graft u key (pair a c)) (b ∷ bs) (b ∷ bs) 0
+      pub grown-climbed : Climbed θ O s (grown I O s (placeAt u b key) a c) k (graft u key (pair a c)) (b ∷ bs) (b ∷ bs) 0
       unfolding grown
       grown-climbed = rewritten y key B (pair a c) grow-here
 
-      pub grown-links : (x : ℕ) → 1 ≤ occs x (b ∷ bs) → SameLinks θ (node s) (node (grown I O s (stepAt u b key) a c)) x
+      pub grown-links : (x : ℕ) → 1 ≤ occs x (b ∷ bs) → SameLinks θ (node s) (node (grown I O s (placeAt u b key) a c)) x
       unfolding grown
       grown-links = rewritten-links y key B (pair a c) grow-here
 

@@ -13,7 +13,7 @@ use Rattle.tree.proofs.TrieLaws.{graft-leafAt, shape-graft}
 use Rattle.tree.proofs.CarryLaws.{bump-slack, bump-full}
 use Rattle.represent.specs.Labelled.{occs, OneForOne, under}
 use Rattle.represent.specs.Rep.{backOf, forwardOf, Links, Directory}
-use Rattle.split.specs.Round.{NodeOps, NodeLaws, StoreOps, StoreLaws, Step, stepAt, pathOf, grown, halveFirst, climb, round, aimAt}
+use Rattle.split.specs.Round.{NodeOps, NodeLaws, StoreOps, StoreLaws, Place, placeAt, pathOf, grown, splitFirst, climb, round, aimAt}
 use Rattle.split.specs.Round.{carried, RoundCarries, AimKeeps}
 use Rattle.split.proofs.Grafts.{forked}
 use Rattle.represent.proofs.Chain.{count-labels, linked-frame}
@@ -25,13 +25,13 @@ use Rattle.split.proofs.Rise.{grown-climbed, grown-links, rise}
 use Rattle.split.proofs.Climb.{climb-keeps}
 use Rattle.split.proofs.FirstSplit.{first-split, first-linked}
 
-module _ (I : NodeOps) (O : StoreOps) (θ : ℕ) (s : O .S) (p : Step) (path : List Step) (a c : ℕ) where
+module _ (I : NodeOps) (O : StoreOps) (θ : ℕ) (s : O .S) (p : Place) (path : List Place) (a c : ℕ) where
   round-room : p .depth < θ → round I O θ s (p ∷ path) a c ≡ grown I O s p a c
   unfolding round
   round-room h = rw (lt-ltb (p .depth) θ h, round)
 
   round-full : θ ≤ p .depth
-      → round I O θ s (p ∷ path) a c ≡ climb I O θ (halveFirst I O s p a c) path (p .at) (suc (O .taken s))
+      → round I O θ s (p ∷ path) a c ≡ climb I O θ (splitFirst I O s p a c) path (p .at) (suc (O .taken s))
   unfolding round
   round-full h = rw (le-ltb (p .depth) θ h, round)
 
@@ -53,7 +53,7 @@ module _ {θ : ℕ} {I : NodeOps} {O : StoreOps} (A : NodeLaws θ I) (B : StoreL
       elim (decLt (depth u key - depth b key) θ) [
         | yes small ↦
             rw (
-              round-room I O θ s (stepAt u b key) (pathOf b bs key) a c small,
+              round-room I O θ s (placeAt u b key) (pathOf b bs key) a c small,
               carried-slack θ (taken s) u b bs key small,
               bump-slack θ (depth u key - depth b key) (locals b bs key) small .1,
             )
@@ -63,13 +63,13 @@ module _ {θ : ℕ} {I : NodeOps} {O : StoreOps} (A : NodeLaws θ I) (B : StoreL
             let cost = bump-full θ (depth u key - depth b key) (locals b bs key) full .1 in
             let more : taken s < cap s = omega (arith, cost) in
             let t = forked (under b u key) (rest b key) a c in
-            let s₁ : S = halveFirst I O s (stepAt u b key) a c in
+            let s₁ : S = splitFirst I O s (placeAt u b key) a c in
             let s′ : S = climb I O θ s₁ (pathOf b bs key) (leafAt b key) (suc (taken s)) in
             let b′ : Trie ℕ = graft b key (pair (leafAt b key) (suc (taken s))) in
             let w = first-split A B y key a c (links .0) (t .2) full more in
             let z = rise A B y key a c (t .2) w (climb-keeps A B pos bs) (omega (arith, cost)) (links .1) in
             rw (
-              round-full I O θ s (stepAt u b key) (pathOf b bs key) a c full,
+              round-full I O θ s (placeAt u b key) (pathOf b bs key) a c full,
               carried-full θ (taken s) u b bs key full,
               cost,
             ) (

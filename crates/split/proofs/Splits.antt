@@ -11,7 +11,7 @@ use Rattle.tree.specs.Trie.{Trie, Key, leafAt}
 use Rattle.node.specs.Node.{forwardWord}
 use Rattle.represent.specs.Labelled.{occ}
 use Rattle.represent.specs.Image.{NodeIs}
-use Rattle.split.specs.Round.{NodeOps, NodeLaws, StoreOps, StoreLaws, Changed, two, advance, relink}
+use Rattle.split.specs.Round.{NodeOps, NodeLaws, StoreOps, StoreLaws, Changed, putBoth, oneMoreTaken, relink}
 use Rattle.represent.proofs.LabelLaws.{over-in}
 use Rattle.split.proofs.Grafts.{off-key}
 use Rattle.split.proofs.Blocks.{linked-written}
@@ -34,7 +34,7 @@ module _ (I : NodeOps) (O : StoreOps) where
   open StoreOps O using (S, node, root, levels, taken)
 
   abbrev pub parts : S → ℕ → List ℕ → List ℕ → ℕ → S
-  parts s n ws ws′ q = advance O s (relink I O (two O s n ws ws′) q (suc (taken s)))
+  parts s n ws ws′ q = oneMoreTaken O s (relink I O (putBoth O s n ws ws′) q (suc (taken s)))
 
   pub record Parted (s s₁ : S) (n : ℕ) (ws ws′ : List ℕ) (q : ℕ) : Type 0 where
     pub at-n : node s₁ n ≡ ws
@@ -69,7 +69,7 @@ module _ {θ : ℕ} {I : NodeOps} {O : StoreOps} (A : NodeLaws θ I) (B : StoreL
         (λ ne.
         let v = over-in (At θ (node s) (suc k)) b u q (known ne) (y .nodes .0) in
         (v .0, is-moved (t .off q (q-low ne) q-high (λ e. apart (sym e))) (v .1))) in
-        let g = advanced B s (relink I O (two O s n ws ws′) q (suc (taken s))) (root s) (levels s) more (z .1) in
+        let g = advanced B s (relink I O (putBoth O s n ws ws′) q (suc (taken s))) (root s) (levels s) more (z .1) in
         let cap₂ = t .kept .cap-same in
         record {
           at-n =

@@ -12,7 +12,7 @@ use borrow.Author.Tests.{eq-eqb, ne-eqb}
 use Rattle.tree.specs.Trie.{Trie}
 use Rattle.node.specs.Node.{forwardWord}
 use Rattle.represent.specs.Image.{NodeIs}
-use Rattle.split.specs.Round.{NodeOps, NodeLaws, StoreOps, Put, StoreLaws, Changed, two, relink}
+use Rattle.split.specs.Round.{NodeOps, NodeLaws, StoreOps, Put, StoreLaws, Changed, putBoth, relink}
 use Rattle.split.proofs.Blocks.{linked-written}
 
 module _ (O : StoreOps) where
@@ -82,8 +82,8 @@ module _ {θ : ℕ} {O : StoreOps} (B : StoreLaws θ O) where
   open StoreOps O using (S, Ok, taken, cap, put)
 
   pub two-nodes : (s : S) (n : ℕ) {ws ws′ : List ℕ} {k : ℕ} {v v′ : Trie ℕ}
-      → Ok s → 1 ≤ n → n ≤ taken s → taken s < cap s → NodeIs θ ws k v → NodeIs θ ws′ k v′ → Two O s (two O s n ws ws′) n ws ws′
-  unfolding two
+      → Ok s → 1 ≤ n → n ≤ taken s → taken s < cap s → NodeIs θ ws k v → NodeIs θ ws′ k v′ → Two O s (putBoth O s n ws ws′) n ws ws′
+  unfolding putBoth
   two-nodes s n {ws} {ws′} {k} {v} {v′} ok low high more is is′ =
       let p = B .put-is s n ws k v ok low (omega arith) is in
       let q = B .put-is (put s n ws) (suc (taken s)) ws′ k v′ (p .ok) (omega arith) (omega (arith, p .cap-same)) is′ in

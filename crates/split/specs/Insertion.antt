@@ -37,7 +37,7 @@ use Rattle.store.specs.Head.{headOf, nodeWords}
 use Rattle.page.specs.Page.{lawfulItem}
 use Rattle.represent.specs.Image.{pageImage}
 use Rattle.represent.specs.Rep.{Stretch, numbers, keyOf, Rep, sizeOf, Sized}
-use Rattle.split.specs.Round.{NodeOps, NodeLaws, StoreOps, stepAt, pathOf, round, aimAt, carried}
+use Rattle.split.specs.Round.{NodeOps, NodeLaws, StoreOps, placeAt, pathOf, round, aimAt, carried}
 use Rattle.split.specs.Frame.{nodeOf, putNode, putPage, putHead, putPagesTaken}
 
 -- all but the node blocks and the three words of the head
@@ -184,5 +184,5 @@ module _ (f : Format) (I : NodeOps) (s : List ℕ) (b0 : Trie Stretch) (b : Trie
       → m ≤ headOf s .pageBlocks
       → Fit f (headOf s .capacity) (leftAt f b0 key) (prefixAt f b0 key) rs
       → Stepped f s
-      (aimAt I (wordStore f (headOf s .theta)) (takeItems f (headOf s .capacity) s m rs) (stepAt (numbers b0) b (bits (width f) key)) m)
+      (aimAt I (wordStore f (headOf s .theta)) (takeItems f (headOf s .capacity) s m rs) (placeAt (numbers b0) b (bits (width f) key)) m)
       (replacedAt f b0 key (leaf (m, rs))) (b ∷ bs)

@@ -7,10 +7,10 @@
 --   StoreLaws θ O      == that the operations come to this
 --   Changed s s′ more  == s′ is s with so many nodes more taken, and the same outside its nodes
 --   Rounded            == the same, and s′ has a directory
---   Step               == a node on the way of a key, the bits of the key that are left there, and the local depth of its run
---   stepAt u b k       == the step of the key k at the level b over u; pathOf u bs k: at the levels bs over u, lowest first
---   two, relink, advance == two blocks written, the second at the next unused number; a back link; the head with one node more taken
---   grown, halve, halveFirst, newRoot == one level of a climb: the node has room; it splits; it splits at level 1; a root is put above
+--   Place               == a node on the way of a key, the bits of the key that are left there, and the local depth of its run
+--   placeAt u b k       == the step of the key k at the level b over u; pathOf u bs k: at the levels bs over u, lowest first
+--   putBoth, relink, oneMoreTaken == two blocks written, the second at the next unused number; a back link; the head with one node more taken
+--   grown, splitNode, splitFirst, newRoot == one level of a climb: the node has room; it splits; it splits at level 1; a root is put above
 --   climb θ s path a c == the runs of a path halved, a and c the pointers of the lowest two halves, as far up as nodes split
 --   round θ s path a c == the same from level 1
 --   chosen k x y       == the one of x and y that the first bit of k chooses
@@ -118,17 +118,17 @@ module _ (θ : ℕ) (O : StoreOps) where
     pub directory : Directory θ (node s′) (root s′) (levels s′) (taken s′) u bs
     pub changed : Changed O s s′ more
 
-pub record Step : Type 0 where
+pub record Place : Type 0 where
   pub at : ℕ
   pub bits : Key
   pub depth : ℕ
 
-abbrev pub stepAt : Trie ℕ → Trie ℕ → Key → Step
-stepAt u b k = record { at = leafAt b k; bits = rest b k; depth = depth u k - depth b k }
+abbrev pub placeAt : Trie ℕ → Trie ℕ → Key → Place
+placeAt u b k = record { at = leafAt b k; bits = rest b k; depth = depth u k - depth b k }
 
-abbrev pub pathOf : Trie ℕ → List (Trie ℕ) → Key → List Step
+abbrev pub pathOf : Trie ℕ → List (Trie ℕ) → Key → List Place
 pathOf u [] k = []
-pathOf u (b ∷ bs) k = stepAt u b k ∷ pathOf b bs k
+pathOf u (b ∷ bs) k = placeAt u b k ∷ pathOf b bs k
 
 -- the label at the bits in a fork of two leaves
 abbrev pub chosen : Key → ℕ → ℕ → ℕ
@@ -136,7 +136,7 @@ chosen k x y = leafAt (pair x y) k
 
 -- A run with room is halved where it stands: one bit more. A run at θ stays at θ: its node is split, and the half that the key is in takes
 -- up the node's first bit. Above a split root stands the new one.
-unfoldable pub turned : ℕ → Key → ℕ → List Step → List Step
+unfoldable pub turned : ℕ → Key → ℕ → List Place → List Place
 turned θ k m [] = record { at = suc m; bits = k; depth = 1 } ∷ []
 turned θ k m (p ∷ path) =
     elim (ltb (p .depth) θ) [
@@ -148,35 +148,35 @@ module _ (O : StoreOps) where
   open StoreOps O using (S, root, levels, taken, put, head)
 
   -- "the left half keeps its number, the right takes a new node", "New blocks get the next unused number and are written whole"
-  unfoldable pub two : S → ℕ → List ℕ → List ℕ → S
-  two s n ws ws′ = put (put s n ws) (suc (taken s)) ws′
+  unfoldable pub putBoth : S → ℕ → List ℕ → List ℕ → S
+  putBoth s n ws ws′ = put (put s n ws) (suc (taken s)) ws′
 
   -- the head of s with one node more taken, on the blocks of s′
-  abbrev pub advance : S → S → S
-  advance s s′ = head s′ (root s) (levels s) (suc (taken s))
+  abbrev pub oneMoreTaken : S → S → S
+  oneMoreTaken s s′ = head s′ (root s) (levels s) (suc (taken s))
 
 module _ (I : NodeOps) (O : StoreOps) where
   open NodeOps I using (grow, lower, upper, aim, linked, top)
   open StoreOps O using (S, node, levels, taken, put, head)
 
-  unfoldable pub grown : S → Step → ℕ → ℕ → S
+  unfoldable pub grown : S → Place → ℕ → ℕ → S
   grown s p a c = put s (p .at) (grow (node s (p .at)) (p .bits) a c)
 
-  unfoldable pub halve : S → Step → ℕ → ℕ → S
-  halve s p a c = advance O s (two O s (p .at) (lower (node s (p .at)) (p .bits) a c) (upper (node s (p .at)) (p .bits) a c))
+  unfoldable pub splitNode : S → Place → ℕ → ℕ → S
+  splitNode s p a c = oneMoreTaken O s (putBoth O s (p .at) (lower (node s (p .at)) (p .bits) a c) (upper (node s (p .at)) (p .bits) a c))
 
   -- the node q, if there is one, is linked back to m
   unfoldable pub relink : S → ℕ → ℕ → S
   relink s q m = elim (eqb q 0) [ true ↦ s | false ↦ put s q (linked (node s q) m (forwardWord (node s q) 0)) ]
 
   -- "Level-1 nodes are linked both ways in key order": the right half stands between the left one and the node that was behind it
-  unfoldable pub halveFirst : S → Step → ℕ → ℕ → S
-  halveFirst s p a c =
+  unfoldable pub splitFirst : S → Place → ℕ → ℕ → S
+  splitFirst s p a c =
       let ws : List ℕ = node s (p .at) in
       let m : ℕ = suc (taken s) in
-      advance O s
+      oneMoreTaken O s
       (relink
-      (two O s (p .at) (linked (lower ws (p .bits) a c) (backWord ws 0) m) (linked (upper ws (p .bits) a c) (p .at) (forwardWord ws 0)))
+      (putBoth O s (p .at) (linked (lower ws (p .bits) a c) (backWord ws 0) m) (linked (upper ws (p .bits) a c) (p .at) (forwardWord ws 0)))
       (forwardWord ws 0)
       m)
 
@@ -186,23 +186,23 @@ module _ (I : NodeOps) (O : StoreOps) where
 
   -- "the parent's run is halved by the same rule", "in a climb, lower levels take first"
   -- (whether a run has room is said by the path: nothing is read again that the descent has read)
-  unfoldable pub climb : ℕ → S → List Step → ℕ → ℕ → S
+  unfoldable pub climb : ℕ → S → List Place → ℕ → ℕ → S
   climb θ s [] a c = newRoot s a c
   climb θ s (p ∷ path) a c =
       elim (ltb (p .depth) θ) [
         | true ↦ grown s p a c
-        | false ↦ climb θ (halve s p a c) path (p .at) (suc (taken s))
+        | false ↦ climb θ (splitNode s p a c) path (p .at) (suc (taken s))
       ]
 
-  unfoldable pub round : ℕ → S → List Step → ℕ → ℕ → S
+  unfoldable pub round : ℕ → S → List Place → ℕ → ℕ → S
   round θ s [] a c = s
   round θ s (p ∷ path) a c =
       elim (ltb (p .depth) θ) [
         | true ↦ grown s p a c
-        | false ↦ climb θ (halveFirst s p a c) path (p .at) (suc (taken s))
+        | false ↦ climb θ (splitFirst s p a c) path (p .at) (suc (taken s))
       ]
 
-  unfoldable pub aimAt : S → Step → ℕ → S
+  unfoldable pub aimAt : S → Place → ℕ → S
   aimAt s p q = put s (p .at) (aim (node s (p .at)) (p .bits) q)
 
 -- `carry` of crate tree, with the nodes' numbers
@@ -232,4 +232,4 @@ module _ (θ : ℕ) (I : NodeOps) (O : StoreOps) where
       NodeLaws θ I → StoreLaws θ O
       → (s : S) (u b : Trie ℕ) (bs : List (Trie ℕ)) (key : Key) (q : ℕ)
       → Ok s → taken s ≤ cap s → Directory θ (node s) (root s) (levels s) (taken s) u (b ∷ bs)
-      → Rounded θ O s (aimAt I O s (stepAt u b key) q) 0 (graft u key (leaf q)) (b ∷ bs)
+      → Rounded θ O s (aimAt I O s (placeAt u b key) q) 0 (graft u key (leaf q)) (b ∷ bs)
