@@ -9,7 +9,7 @@ use native.Mathlib.Nat.{suc-sub-suc, sub-zero, zero-add}
 use lib.ListN.{length, length-map, set, drop, replicate, getD, replicate-append-replicate}
 use lib.Seq.{drop-nil}
 use Rattle.lists.specs.Bits.{bits, index}
-use Rattle.tree.specs.Trie.{Trie, leaf, fork, Key, Shape, shape, height, leafAt, depth, rest}
+use Rattle.tree.specs.Trie.{Trie, leaf, fork, Key, Shape, shape, height, leafAt, depth, rest, relabel}
 use Rattle.tree.specs.Tower.{cut, levelsAbove, tower}
 use Rattle.tree.specs.Node.{flatten}
 use Rattle.tree.proofs.TrieLaws.{depth-le-height, height-shape}
@@ -26,7 +26,7 @@ use Rattle.store.proofs.HeadLaws.{sizes-limits}
 use Rattle.search.specs.declared.Step.{Step}
 use Rattle.search.specs.Descent.{noStep, noSteps, stepTaken, descend, descent}
 use Rattle.search.proofs.DescentLaws.{visit-entry, turn-on}
-use Rattle.represent.specs.Labelled.{relabel, occs, Over, under}
+use Rattle.represent.specs.Labelled.{occs, Over, under}
 use Rattle.represent.specs.Image.{nodeAt, NodeIs}
 use Rattle.represent.specs.Rep.{Stretch, numbers, Nodes, Rep}
 use Rattle.represent.specs.Promises.{RulesAbove, pathSteps}

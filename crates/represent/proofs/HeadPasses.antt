@@ -10,7 +10,7 @@ use lib.Dec.{leb}
 use lib.ListN.{length, length-map}
 use lib.Pow.{pow-mono}
 use borrow.Author.Tests.{le-leb}
-use Rattle.tree.specs.Trie.{Trie, leaf, fork, shape}
+use Rattle.tree.specs.Trie.{Trie, leaf, fork, shape, relabel}
 use Rattle.tree.specs.Tower.{levels, allLeaves, nodes}
 use Rattle.tree.specs.Build.{build, pages}
 use Rattle.tree.specs.Book.{log2}
@@ -23,21 +23,18 @@ use Rattle.store.specs.declared.Item.{Item}
 use Rattle.store.specs.Format.{width}
 use Rattle.store.specs.Head.{headOf}
 use Rattle.store.proofs.HeadLaws.{Limits, sizes-limits, Counts, counts-are, rule-is}
-use Rattle.represent.specs.Labelled.{relabel, occs}
+use Rattle.represent.specs.Labelled.{occs}
 use Rattle.represent.specs.Image.{nodeAt}
 use Rattle.represent.specs.Rep.{numbers, keyOf, Nodes, Links, Rep, Holds}
 use Rattle.represent.specs.Promises.{HeadPasses, LevelsAtMost, CountsAreTheTrees}
 use Rattle.represent.proofs.LabelLaws.{label-low, label-high, ind-self}
+use Rattle.tree.proofs.TrieLaws.{shape-relabel}
 use Rattle.represent.proofs.Counting.{rep-nodes, rep-pages}
 use Rattle.represent.proofs.Keyed.{lawful-bounded}
 
 width-low : (f : Format) → 7 ≤ width f
 unfolding width
 width-low Plots = omega arith
-
-pub shape-relabel : {A B : Type 0} (g : A → B) (t : Trie A) → shape (relabel g t) ≡ shape t
-shape-relabel g (leaf x) = refl
-shape-relabel g (fork l r) = rw (shape-relabel g l, shape-relabel g r)
 
 -- the end of the tower
 module _ (θ : ℕ) (node : ℕ → List ℕ) (root top : ℕ) where

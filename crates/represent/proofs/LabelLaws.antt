@@ -8,9 +8,9 @@ use native.Mathlib.Omega.{arith}
 use native.Mathlib.Decide.{ℕ-discrete, decLe}
 use borrow.Author.Tests.{eq-eqb, ne-eqb}
 use Rattle.lists.specs.Lists.{All}
-use Rattle.tree.specs.Trie.{Trie, leaf, fork, Key, labels, leafAt, depth, rest, graft}
+use Rattle.tree.specs.Trie.{Trie, leaf, fork, Key, labels, leafAt, depth, rest, graft, relabel}
 use Rattle.tree.proofs.TrieLaws.{graft-leafAt}
-use Rattle.represent.specs.Labelled.{relabel, Each, ind, occ, occs, OneForOne, Over, under, before, after}
+use Rattle.represent.specs.Labelled.{Each, ind, occ, occs, OneForOne, Over, under, before, after}
 use Rattle.lists.proofs.AppendLaws.{all-append, append-all}
 
 pub ind-eq : (x n : ℕ) → x ≡ n → ind x n ≡ 1

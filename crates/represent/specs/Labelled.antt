@@ -1,5 +1,4 @@
 -- Tries whose leaves are labelled with block numbers, one over another.
---   relabel g t     == t with each label x replaced by g x
 --   Each P t        == P holds of each label of t
 --   ind x n         == 1 if the two numbers are equal, else 0
 --   occ n t         == how often the number n labels a leaf of t; occs n bs: of the tries bs together
@@ -15,10 +14,6 @@ use mathlib.Core.List.{List, [], _∷_, _++_}
 use Prim.Native.Nat.{ℕ, _+_, _≤_, _<_}
 use lib.Dec.{eqb}
 use Rattle.tree.specs.Trie.{Trie, leaf, fork, Key, labels}
-
-abbrev pub relabel : {A B : Type 0} → (A → B) → Trie A → Trie B
-relabel g (leaf x) = leaf (g x)
-relabel g (fork l r) = fork (relabel g l) (relabel g r)
 
 abbrev pub Each : {A : Type 0} → (A → Type 0) → Trie A → Type 0
 Each P (leaf x) = P x

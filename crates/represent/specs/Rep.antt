@@ -25,7 +25,7 @@ use Prim.Native.Nat.{ℕ, zero, suc, _+_, _*_, _≤_, _<_}
 use lib.ListN.{length, replicate}
 use Rattle.lists.specs.Lists.{All}
 use Rattle.lists.specs.Keyed.{Sorted, Prefix}
-use Rattle.tree.specs.Trie.{Trie, leaf, fork, shape, labels}
+use Rattle.tree.specs.Trie.{Trie, leaf, fork, shape, labels, relabel}
 use Rattle.tree.specs.Tower.{tower}
 use Rattle.tree.specs.Build.{build}
 use Rattle.store.specs.declared.Format.{Format}
@@ -35,7 +35,7 @@ use Rattle.store.specs.Format.{width}
 use Rattle.store.specs.Head.{headOf, lawfulSizes, zeros, size, nodeWords, pageWords, pageAt}
 use Rattle.node.specs.Node.{backWord, forwardWord}
 use Rattle.page.specs.Page.{lawfulItem}
-use Rattle.represent.specs.Labelled.{relabel, Each, occ, occs, OneForOne, Over, Linked}
+use Rattle.represent.specs.Labelled.{Each, occ, occs, OneForOne, Over, Linked}
 use Rattle.represent.specs.Image.{pageImage, nodeAt, NodeIs}
 
 -- a level-0 stretch: its page's number and its records

@@ -13,3 +13,4 @@ pub mod RunRules
 pub mod Steps
 pub mod NodePromises
 pub mod Checks
+pub mod Renaming

@@ -9,7 +9,7 @@ use native.Mathlib.Omega.{arith}
 use mathlib.Core.Logic.{inl, inr}
 use Rattle.lists.specs.Bits.{bit, bits}
 use Rattle.lists.proofs.Cases.{bool-cases}
-use Rattle.tree.specs.Trie.{Trie, leaf, fork, Shape, Key, shape, height, leaves, leafAt, depth, rest, graft, pair}
+use Rattle.tree.specs.Trie.{Trie, leaf, fork, Shape, Key, shape, height, leaves, leafAt, depth, rest, graft, pair, relabel}
 
 module _ {A : Type 0} where
   pub depth-le-height : (t : Trie A) (k : Key) → depth t k ≤ height t
@@ -113,3 +113,7 @@ rest-split (leaf z) (true ∷ k) x y = refl
 rest-split (fork l r) [] x y = rest-split l [] x y
 rest-split (fork l r) (false ∷ k) x y = rest-split l k x y
 rest-split (fork l r) (true ∷ k) x y = rest-split r k x y
+
+pub shape-relabel : {A B : Type 0} (g : A → B) (t : Trie A) → shape (relabel g t) ≡ shape t
+shape-relabel g (leaf x) = refl
+shape-relabel g (fork l r) = rw (shape-relabel g l, shape-relabel g r)

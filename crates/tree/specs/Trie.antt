@@ -3,6 +3,7 @@
 --   Trie A       == a trie with a label of type A at each leaf
 --   Shape, tip   == a trie without labels; one leaf
 --   shape t      == t without its labels
+--   relabel g t  == t with each label x replaced by g x
 --   height t     == the length of the longest prefix below t
 --   leaves t     == the number of leaves
 --   labels t     == the labels, left to right
@@ -75,3 +76,7 @@ module _ {A : Type 0} where
 
 abbrev pub split : Shape → Key → Shape
 split t k = graft t k (pair tt tt)
+
+abbrev pub relabel : {A B : Type 0} → (A → B) → Trie A → Trie B
+relabel g (leaf x) = leaf (g x)
+relabel g (fork l r) = fork (relabel g l) (relabel g r)
