@@ -17,7 +17,7 @@ use Rattle.store.specs.declared.Item.{Item}
 use Rattle.page.specs.Page.{above}
 use Rattle.search.specs.declared.Sought.{Sought}
 use Rattle.search.specs.declared.Sought.the-variants.{Record, Nothing, Damaged}
-use Rattle.represent.specs.Rep.{keyOf}
+use Rattle.page.specs.Schema.{keyOf}
 use Rattle.readings.specs.Listing.{firstWhere}
 
 abbrev pub firstOf : List Item → Sought

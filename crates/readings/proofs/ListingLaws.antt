@@ -35,7 +35,7 @@ use Rattle.search.specs.Next.{nextOf}
 use Rattle.scan.specs.Range.{Ranged, ended, also, rangeFrom, ranged, listed, rangeOf}
 use Rattle.scan.specs.Summary.{done, sumFrom, summed, summingReply, summaryOf}
 use Rattle.scan.proofs.RangeLaws.{from-nothing, from-passed, from-full, from-last, from-on, adds-nothing, adds-passed, adds-last, adds-on}
-use Rattle.represent.specs.Rep.{keyOf}
+use Rattle.page.specs.Schema.{keyOf}
 use Rattle.readings.specs.Listing.{firstWhere, within, firstKey, findIn, nextIn, rangedIn, rangeIn, summaryIn}
 use Rattle.readings.specs.Promises.{Sound}
 use Rattle.lists.proofs.AppendLaws.{filter-none, filter-same, append-all, pairwise-right, pairwise-before}

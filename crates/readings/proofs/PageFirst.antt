@@ -21,7 +21,7 @@ use Rattle.search.specs.declared.Sought.{Sought}
 use Rattle.search.specs.declared.Sought.the-variants.{Record, Nothing, Damaged}
 use Rattle.search.specs.Find.{inPage, noItem}
 use Rattle.represent.specs.Image.{pageImage}
-use Rattle.represent.specs.Rep.{keyOf}
+use Rattle.page.specs.Schema.{keyOf}
 use Rattle.readings.specs.Listing.{firstWhere}
 use Rattle.readings.proofs.FirstLaws.{first-true, first-false, first-none}
 use Rattle.represent.proofs.PageImage.{page-count, page-item, page-key}

@@ -19,7 +19,8 @@ use Rattle.page.proofs.Laws.{lawful-key}
 use Rattle.search.specs.declared.Sought.{Sought}
 use Rattle.search.specs.Find.{soughtReply, checked, findOf, findReply}
 use Rattle.search.specs.Next.{nextOf, nextReply}
-use Rattle.represent.specs.Rep.{keyOf, Rep, Holds}
+use Rattle.page.specs.Schema.{keyOf}
+use Rattle.represent.specs.Rep.{Rep, Holds}
 use Rattle.readings.specs.Listing.{firstWhere, findIn, nextIn}
 use Rattle.readings.specs.Clauses.{Clauses}
 use Rattle.readings.specs.Promises.{Sound, FindReads, NextReads, RangeReads, SummaryReads, FindZero, OwnBitsLead}

@@ -30,7 +30,8 @@ use Rattle.store.specs.declared.Item.{Item}
 use Rattle.page.specs.Page.{above}
 use Rattle.search.specs.declared.Sought.the-variants.{Record, Nothing}
 use Rattle.represent.specs.Labelled.{before, after}
-use Rattle.represent.specs.Rep.{Stretch, contents, keyOf, Keyed}
+use Rattle.page.specs.Schema.{keyOf}
+use Rattle.represent.specs.Rep.{Stretch, contents, Keyed}
 use Rattle.readings.specs.Listing.{firstWhere}
 use Rattle.represent.proofs.LabelLaws.{labels-at}
 use Rattle.lists.proofs.AppendLaws.{filter-every, filter-none, all-append}

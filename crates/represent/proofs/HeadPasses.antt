@@ -25,7 +25,8 @@ use Rattle.store.specs.Head.{headOf}
 use Rattle.store.proofs.HeadLaws.{Limits, sizes-limits, Counts, counts-are, rule-is}
 use Rattle.represent.specs.Labelled.{occs}
 use Rattle.represent.specs.Image.{nodeAt}
-use Rattle.represent.specs.Rep.{numbers, keyOf, Nodes, Links, Rep, Holds}
+use Rattle.page.specs.Schema.{keyOf}
+use Rattle.represent.specs.Rep.{numbers, Nodes, Links, Rep, Holds}
 use Rattle.represent.specs.Promises.{HeadPasses, LevelsAtMost, CountsAreTheTrees}
 use Rattle.represent.proofs.LabelLaws.{label-low, label-high, ind-self}
 use Rattle.tree.proofs.TrieLaws.{shape-relabel}

@@ -18,7 +18,8 @@ use Rattle.store.specs.declared.Item.{Item}
 use Rattle.store.specs.Format.{width}
 use Rattle.page.specs.Page.{lawfulItem}
 use Rattle.page.proofs.Laws.{lawful-key}
-use Rattle.represent.specs.Rep.{Stretch, keyOf, Keyed}
+use Rattle.page.specs.Schema.{keyOf}
+use Rattle.represent.specs.Rep.{Stretch, Keyed}
 
 pub lawful-bounded : (f : Format) (S : List Item) → All (λ it. lawfulItem f it ≡ true) S → Bounded keyOf (2 ^ width f) S
 lawful-bounded f S = all-map (λ it. lawfulItem f it ≡ true) (λ it. it .key < 2 ^ width f) S (λ it l. lawful-key f it l .1)

@@ -23,7 +23,7 @@ use Rattle.search.specs.Find.{noItem}
 use Rattle.page.specs.Page.{itemWords, flat}
 use Rattle.page.proofs.Flat.{length-flat}
 use Rattle.represent.specs.Image.{pageImage}
-use Rattle.represent.specs.Rep.{keyOf}
+use Rattle.page.specs.Schema.{keyOf}
 use Rattle.represent.proofs.ImageLaws.{getD-zeros}
 
 -- one record's words, before the others

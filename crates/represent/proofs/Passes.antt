@@ -21,7 +21,8 @@ use Rattle.node.proofs.NodeLaws.{link-1, link-above, low-1, low-above, high-1, 
 use Rattle.page.specs.Page.{pageRule, agrees}
 use Rattle.represent.specs.Labelled.{Each, occ, occs, Over}
 use Rattle.represent.specs.Image.{nodeAt, NodeIs}
-use Rattle.represent.specs.Rep.{Stretch, numbers, keyOf, Nodes, backOf, forwardOf, Unlinked, Lawful, Rep}
+use Rattle.page.specs.Schema.{keyOf}
+use Rattle.represent.specs.Rep.{Stretch, numbers, Nodes, backOf, forwardOf, Unlinked, Lawful, Rep}
 use Rattle.represent.specs.Promises.{RulesAbove, NodesPass, PagesPass, AgreesPasses}
 use Rattle.represent.proofs.LabelLaws.{label-low, label-high, each-map, each-at, each-labels, labels-each, each-of, each-label}
 use Rattle.represent.proofs.LabelLaws.{leafAt-relabel, over-in, over-parts}

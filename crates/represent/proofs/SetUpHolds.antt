@@ -22,7 +22,8 @@ use Rattle.store.specs.SetUp.{setUpWords}
 use Rattle.store.proofs.HeadLaws.{Limits, sizes-limits}
 use Rattle.store.proofs.SetUpLaws.{size-low, done}
 use Rattle.represent.specs.Image.{nodeImage, nodeAt}
-use Rattle.represent.specs.Rep.{keyOf, Directory, Pages, Holds}
+use Rattle.page.specs.Schema.{keyOf}
+use Rattle.represent.specs.Rep.{Directory, Pages, Holds}
 use Rattle.represent.specs.Promises.{SetUpHolds}
 use Rattle.represent.proofs.LabelLaws.{ind-eq, ind-other}
 use Rattle.represent.proofs.ImageLaws.{part-word, getD-zeros}

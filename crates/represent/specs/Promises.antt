@@ -31,7 +31,8 @@ use Rattle.page.specs.Page.{pageRule, agrees}
 use Rattle.search.specs.declared.Step.{Step}
 use Rattle.search.specs.Descent.{noStep, descent}
 use Rattle.represent.specs.Labelled.{Each, under}
-use Rattle.represent.specs.Rep.{Stretch, numbers, keyOf, Rep, Holds}
+use Rattle.page.specs.Schema.{keyOf}
+use Rattle.represent.specs.Rep.{Stretch, numbers, Rep, Holds}
 
 abbrev pub SetUpHolds : Type 0
 SetUpHolds =

@@ -3,7 +3,6 @@
 -- levels 1, 2, .., each leaf with its node's number.
 --   Stretch           == a level-0 stretch: its page's number and its records
 --   numbers b0, contents b0 == the page numbers, and the records, of b0
---   keyOf it          == a record's key
 --   Nodes θ node root levels k u bs == the nodes of the levels above k: each shows what stands below it; u is level k, and root and
 --                        levels end the tower
 --   backOf, forwardOf node n == the links of node n
@@ -35,6 +34,7 @@ use Rattle.store.specs.Format.{width}
 use Rattle.store.specs.Head.{headOf, lawfulSizes, zeros, size, nodeWords, pageWords, pageAt}
 use Rattle.node.specs.Node.{backWord, forwardWord}
 use Rattle.page.specs.Page.{lawfulItem}
+use Rattle.page.specs.Schema.{keyOf}
 use Rattle.represent.specs.Labelled.{Each, occ, occs, OneForOne, Over, Linked}
 use Rattle.represent.specs.Image.{pageImage, nodeAt, NodeIs}
 
@@ -47,9 +47,6 @@ numbers = relabel (λ x. x .0)
 
 abbrev pub contents : Trie Stretch → Trie (List Item)
 contents = relabel (λ x. x .1)
-
-abbrev pub keyOf : Item → ℕ
-keyOf it = it .key
 
 -- node n is the block `node n`
 module _ (node : ℕ → List ℕ) where

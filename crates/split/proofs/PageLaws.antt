@@ -26,7 +26,8 @@ use Rattle.store.specs.Head.{headOf, pageWords, pageAt}
 use Rattle.page.specs.Page.{lawfulItem}
 use Rattle.represent.specs.Labelled.{Each, ind, occ, OneForOne}
 use Rattle.represent.specs.Image.{pageImage}
-use Rattle.represent.specs.Rep.{Stretch, numbers, keyOf, PageIs, Lawful, Keyed, Pages, Sized}
+use Rattle.page.specs.Schema.{keyOf}
+use Rattle.represent.specs.Rep.{Stretch, numbers, PageIs, Lawful, Keyed, Pages, Sized}
 use Rattle.represent.proofs.LabelLaws.{label-high, ind-eq, ind-other, occ-graft, occ-at, each-at, leafAt-relabel}
 use Rattle.represent.proofs.LabelLaws.{relabel-graft, each-map, each-graft}
 use Rattle.split.specs.Insertion.{stretchAt, leftAt, prefixAt, nextBit, halfAt, replacedAt, Fit, putItems, takeItems}

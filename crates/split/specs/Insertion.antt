@@ -36,7 +36,8 @@ use Rattle.store.specs.Format.{width}
 use Rattle.store.specs.Head.{headOf, nodeWords}
 use Rattle.page.specs.Page.{lawfulItem}
 use Rattle.represent.specs.Image.{pageImage}
-use Rattle.represent.specs.Rep.{Stretch, numbers, keyOf, Rep, sizeOf, Sized}
+use Rattle.page.specs.Schema.{keyOf}
+use Rattle.represent.specs.Rep.{Stretch, numbers, Rep, sizeOf, Sized}
 use Rattle.split.specs.Round.{NodeOps, NodeLaws, StoreOps, placeAt, pathOf, round, aimAt, carried}
 use Rattle.split.specs.Frame.{nodeOf, putNode, putPage, putHead, putPagesTaken}
 
