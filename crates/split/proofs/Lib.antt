@@ -12,6 +12,7 @@ pub mod Frame
 pub mod Lengths
 pub mod WordStore
 pub mod PageLaws
+pub mod Kept
 pub mod Stepping
 pub mod EntryLaws
 pub mod BlockLaws

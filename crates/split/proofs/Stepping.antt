@@ -21,7 +21,7 @@ use Rattle.store.specs.Head.{headOf, nodeWords, pageWords}
 use Rattle.store.proofs.HeadLaws.{sizes-limits}
 use Rattle.represent.specs.Labelled.{occs}
 use Rattle.represent.specs.Image.{pageImage}
-use Rattle.represent.specs.Rep.{Stretch, numbers, Directory, Pages, Rep, sizeOf, Sized}
+use Rattle.represent.specs.Rep.{Stretch, numbers, Directory, Pages, Rep, Sized}
 use Rattle.split.specs.Round.{NodeOps, StoreOps, Rounded, pathOf, round, carried}
 use Rattle.split.specs.Frame.{nodeOf, pageOf, putPagesTaken}
 use Rattle.split.specs.Insertion.{SameSizes, Ok, wordStore, stretchAt, leftAt, prefixAt, halfAt, replacedAt, Fit, putItems, takeItems}
@@ -35,6 +35,7 @@ use Rattle.split.proofs.WordStore.{others-sizes, others-pagesTaken, oth
 use Rattle.split.proofs.PageLaws.{number-high, half-fits, own-low, put-head, put-length, put-sized, put-other, take-pagesTaken}
 use Rattle.split.proofs.PageLaws.{take-other, pages-frame, pages-upper, pages-lower, pages-both, pages-put, pages-take}
 use Rattle.split.proofs.RoundLaws.{round-carries, aim-keeps}
+use Rattle.split.proofs.Kept.{Kept, same-head, same-then, size-same, kept-none, kept-then}
 
 -- a directory goes by the node blocks in use alone
 directory-frame : (θ : ℕ) (node node′ : ℕ → List ℕ) (h h′ : Head) (u : Trie ℕ) (bs : List (Trie ℕ))
@@ -55,13 +56,11 @@ directory-frame θ node node′ h h′ u (b ∷ bs) r l t e d =
     same n o = e n (label-low (b ∷ bs) n (d .positive) o) (label-high (h .nodesTaken) (λ x. occs x (b ∷ bs)) n (d .oneForOne .none) o)
 
 record NodesKept (f : Format) (s s′ : List ℕ) : Type 0 where
-  sized : Sized f s′
-  sizes-same : SameSizes (headOf s) (headOf s′)
+  whole : Kept f s s′
   root-same : headOf s′ .root ≡ headOf s .root
   levels-same : headOf s′ .levels ≡ headOf s .levels
   taken-same : headOf s′ .nodesTaken ≡ headOf s .nodesTaken
   nodes-same : (n : ℕ) → 1 ≤ n → n ≤ headOf s .nodeBlocks → nodeOf s′ n ≡ nodeOf s n
-  beyond : drop (sizeOf f s) s′ ≡ drop (sizeOf f s) s
 
 record PageStep (f : Format) (s s′ : List ℕ) (b0 : Trie Stretch) : Type 0 where
   kept : NodesKept f s s′
@@ -70,16 +69,13 @@ record PageStep (f : Format) (s s′ : List ℕ) (b0 : Trie Stretch) : Type 0 wh
   free-pages : (p : ℕ) → headOf s′ .pagesTaken < p → p ≤ headOf s′ .pageBlocks
       → pageOf f s′ p ≡ replicate (pageWords f (headOf s′ .capacity)) 0
 
-pub size-same : (f : Format) (s s′ : List ℕ) → SameSizes (headOf s) (headOf s′) → sizeOf f s′ ≡ sizeOf f s
-size-same f s s′ e = rw (e .theta, e .capacity, e .nodes, e .pages)
-
 module _ (f : Format) (s : List ℕ) (b0 b0′ : Trie Stretch) (bs : List (Trie ℕ)) (r : Rep f s b0 bs) (s₁ : List ℕ)
     (p : PageStep f s s₁ b0′) where
   abbrev θ : ℕ
   θ = headOf s .theta
 
   step-ok : Ok f θ s₁
-  step-ok = record { theta = p .kept .sizes-same .theta; sized = p .kept .sized }
+  step-ok = record { theta = p .kept .whole .sizes-same .theta; sized = p .kept .whole .sized }
 
   step-directory : Directory θ (nodeOf s₁) (headOf s₁ .root) (headOf s₁ .levels) (headOf s₁ .nodesTaken) (numbers b0) bs
   step-directory =
@@ -102,17 +98,17 @@ module _ (f : Format) (s : List ℕ) (b0 b0′ : Trie Stretch) (bs : List (Trie 
     -- a node block that no level has
     free-now : (n : ℕ) → headOf s₂ .nodesTaken < n → n ≤ headOf s₂ .nodeBlocks → nodeOf s₂ n ≡ replicate (nodeWords (headOf s₂ .theta)) 0
     free-now n l h =
-        let high : n ≤ headOf s .nodeBlocks = omega (arith, sizes-now .nodes, p .kept .sizes-same .nodes) in
-        w .changed .fresh n l (omega (arith, p .kept .sizes-same .nodes))
+        let high : n ≤ headOf s .nodeBlocks = omega (arith, sizes-now .nodes, p .kept .whole .sizes-same .nodes) in
+        w .changed .fresh n l (omega (arith, p .kept .whole .sizes-same .nodes))
         ∙ p .kept .nodes-same n (omega arith) high
         ∙ r .free-nodes n (omega (arith, w .changed .now, p .kept .taken-same)) high
-        ∙ ap (λ t. replicate (nodeWords t) 0) (sym (sizes-now .theta ∙ p .kept .sizes-same .theta))
+        ∙ ap (λ t. replicate (nodeWords t) 0) (sym (sizes-now .theta ∙ p .kept .whole .sizes-same .theta))
 
     now : Rep f s₂ b0′ bs′
     now =
         record {
           sized = w .changed .ok .sized;
-          nodes-fit = omega (arith, w .changed .now, p .kept .taken-same, sizes-now .nodes, p .kept .sizes-same .nodes);
+          nodes-fit = omega (arith, w .changed .now, p .kept .taken-same, sizes-now .nodes, p .kept .whole .sizes-same .nodes);
           pages-fit = omega (arith, filled-now, sizes-now .pages, p .pages-fit);
           directory =
               subst (λ t. Directory t (nodeOf s₂) (headOf s₂ .root) (headOf s₂ .levels) (headOf s₂ .nodesTaken) (numbers b0′) bs′)
@@ -129,62 +125,48 @@ module _ (f : Format) (s : List ℕ) (b0 b0′ : Trie Stretch) (bs : List (Trie 
     stepped =
         record {
           rep = now;
-          sizes-same = record {
-            theta = sizes-now .theta ∙ p .kept .sizes-same .theta;
-            capacity = sizes-now .capacity ∙ p .kept .sizes-same .capacity;
-            nodes = sizes-now .nodes ∙ p .kept .sizes-same .nodes;
-            pages = sizes-now .pages ∙ p .kept .sizes-same .pages;
-          };
+          sizes-same = same-then (headOf s) (headOf s₁) (headOf s₂) (p .kept .whole .sizes-same) sizes-now;
           beyond =
-              ap (λ n. drop n s₂) (sym (size-same f s₁ s₂ sizes-now ∙ size-same f s s₁ (p .kept .sizes-same)))
+              ap (λ n. drop n s₂) (sym (size-same f s₁ s₂ sizes-now ∙ size-same f s s₁ (p .kept .whole .sizes-same)))
               ∙ others-beyond f s₁ s₂ (w .changed .others-same)
-              ∙ ap (λ n. drop n s₁) (size-same f s s₁ (p .kept .sizes-same))
-              ∙ p .kept .beyond;
+              ∙ ap (λ n. drop n s₁) (size-same f s s₁ (p .kept .whole .sizes-same))
+              ∙ p .kept .whole .beyond;
         }
 
 -- page writes
 module _ (f : Format) where
-  kept-none : (s : List ℕ) → Sized f s → NodesKept f s s
-  kept-none s ok =
+  nodes-none : (s : List ℕ) → Sized f s → NodesKept f s s
+  nodes-none s ok =
       record {
-        sized = ok;
-        sizes-same = record { theta = refl; capacity = refl; nodes = refl; pages = refl };
+        whole = kept-none f s ok;
         root-same = refl;
         levels-same = refl;
         taken-same = refl;
         nodes-same = λ n low high. refl;
-        beyond = refl;
       }
 
-  kept-then : (s t v : List ℕ) → NodesKept f s t → NodesKept f t v → NodesKept f s v
-  kept-then s t v a b =
+  nodes-then : (s t v : List ℕ) → NodesKept f s t → NodesKept f t v → NodesKept f s v
+  nodes-then s t v a b =
       record {
-        sized = b .sized;
-        sizes-same = record {
-          theta = b .sizes-same .theta ∙ a .sizes-same .theta;
-          capacity = b .sizes-same .capacity ∙ a .sizes-same .capacity;
-          nodes = b .sizes-same .nodes ∙ a .sizes-same .nodes;
-          pages = b .sizes-same .pages ∙ a .sizes-same .pages;
-        };
+        whole = kept-then f s t v (a .whole) (b .whole);
         root-same = b .root-same ∙ a .root-same;
         levels-same = b .levels-same ∙ a .levels-same;
         taken-same = b .taken-same ∙ a .taken-same;
-        nodes-same = λ n low high. b .nodes-same n low (omega (arith, a .sizes-same .nodes)) ∙ a .nodes-same n low high;
-        beyond =
-            ap (λ n. drop n v) (sym (size-same f s t (a .sizes-same))) ∙ b .beyond ∙ ap (λ n. drop n t) (size-same f s t (a .sizes-same))
-            ∙ a .beyond;
+        nodes-same = λ n low high. b .nodes-same n low (omega (arith, a .whole .sizes-same .nodes)) ∙ a .nodes-same n low high;
       }
 
   filled-kept : (s : List ℕ) (m : ℕ) → Sized f s → NodesKept f s (putPagesTaken s m)
   filled-kept s m ok =
       record {
-        sized = putPagesTaken-sized s m f ok;
-        sizes-same = putPagesTaken-sizes s m;
+        whole = record {
+          sized = putPagesTaken-sized s m f ok;
+          sizes-same = putPagesTaken-sizes s m;
+          beyond = putPagesTaken-beyond s m f;
+        };
         root-same = putPagesTaken-root s m;
         levels-same = putPagesTaken-levels s m;
         taken-same = putPagesTaken-taken s m;
         nodes-same = λ n low high. putPagesTaken-nodes s m n;
-        beyond = putPagesTaken-beyond s m f;
       }
 
   module _ (C : ℕ) (s : List ℕ) (p : ℕ) (rs : List Item) (ok : Sized f s) (low : 1 ≤ p) (high : p ≤ headOf s .pageBlocks)
@@ -194,23 +176,20 @@ module _ (f : Format) where
         let e : headOf (putItems f C s p rs) ≡ headOf s = put-head f C s p rs ok low high full fits in
         let l : length (pageImage f C rs) ≡ pageWords f (headOf s .capacity) = put-length f C s p rs ok low high full fits in
         record {
-          sized = put-sized f C s p rs ok low high full fits;
-          sizes-same = record {
-            theta = ap (λ h. h .theta) e;
-            capacity = ap (λ h. h .capacity) e;
-            nodes = ap (λ h. h .nodeBlocks) e;
-            pages = ap (λ h. h .pageBlocks) e;
+          whole = record {
+            sized = put-sized f C s p rs ok low high full fits;
+            sizes-same = same-head (headOf s) (headOf (putItems f C s p rs)) e;
+            beyond = putPage-beyond f s p (pageImage f C rs) ok low high l;
           };
           root-same = ap (λ h. h .root) e;
           levels-same = ap (λ h. h .levels) e;
           taken-same = ap (λ h. h .nodesTaken) e;
           nodes-same = putPage-nodes f s p (pageImage f C rs) ok low high l;
-          beyond = putPage-beyond f s p (pageImage f C rs) ok low high l;
         }
 
     taken-kept : NodesKept f s (takeItems f C s p rs)
     taken-kept =
-        kept-then s (putItems f C s p rs) (takeItems f C s p rs) items-kept (filled-kept (putItems f C s p rs) _ (items-kept .sized))
+        nodes-then s (putItems f C s p rs) (takeItems f C s p rs) items-kept (filled-kept (putItems f C s p rs) _ (items-kept .whole .sized))
 
 numbers-graft : (b0 : Trie Stretch) (k : Key) (c : Trie Stretch) → numbers (graft b0 k c) ≡ graft (numbers b0) k (numbers c)
 numbers-graft b0 k c = relabel-graft (λ x. x .0) b0 k c
@@ -236,7 +215,7 @@ module _ (f : Format) (s : List ℕ) (b0 : Trie Stretch) (bs : List (Trie ℕ)) 
 
   -- no page written; one written anew; the next one taken; one written anew and the next one taken
   none-step : (c : Trie Stretch) → Pages f s (headOf s) (replacedAt f b0 key c) → PageStep f s s (replacedAt f b0 key c)
-  none-step c pg = record { kept = kept-none f s sized; pages = pg; pages-fit = r .pages-fit; free-pages = r .free-pages }
+  none-step c pg = record { kept = nodes-none f s sized; pages = pg; pages-fit = r .pages-fit; free-pages = r .free-pages }
 
   put-step : (rs : List Item) → 1 ≤ n → Fit f C (leftAt f b0 key) (prefixAt f b0 key) rs
       → PageStep f s (putItems f C s n rs) (replacedAt f b0 key (leaf (n, rs)))
@@ -261,11 +240,11 @@ module _ (f : Format) (s : List ℕ) (b0 : Trie Stretch) (bs : List (Trie ℕ)) 
       record {
         kept = kept;
         pages = pages-take f s b0 key sized (r .pages) narrow rs room null fit;
-        pages-fit = omega (arith, filled, kept .sizes-same .pages);
+        pages-fit = omega (arith, filled, kept .whole .sizes-same .pages);
         free-pages = λ p l h.
             take-other f C s m rs sized (omega arith) room refl (fit .fits) p (omega arith) (λ q. omega (arith, filled))
-            ∙ r .free-pages p (omega (arith, filled)) (omega (arith, kept .sizes-same .pages))
-            ∙ ap (λ c. replicate (pageWords f c) 0) (sym (kept .sizes-same .capacity));
+            ∙ r .free-pages p (omega (arith, filled)) (omega (arith, kept .whole .sizes-same .pages))
+            ∙ ap (λ c. replicate (pageWords f c) 0) (sym (kept .whole .sizes-same .capacity));
       }
 
   both-step : depth b0 k < width f → m ≤ headOf s .pageBlocks → 1 ≤ length (halfAt false f b0 key) → 1 ≤ length (halfAt true f b0 key)
@@ -275,12 +254,12 @@ module _ (f : Format) (s : List ℕ) (b0 : Trie Stretch) (bs : List (Trie ℕ)) 
       record {
         kept = kept;
         pages = pages-both f s b0 key sized (r .pages) narrow deep room some₀ some₁;
-        pages-fit = omega (arith, filled, kept .sizes-same .pages);
+        pages-fit = omega (arith, filled, kept .whole .sizes-same .pages);
         free-pages = λ p l h.
             take-other f C s₁ m o ok₁ (omega arith) room₁ full fits₁ p (omega arith) (λ q. omega (arith, filled))
             ∙ put-other f C s n z sized low n-high refl fits p (omega arith) (λ q. omega (arith, filled, n-used))
-            ∙ r .free-pages p (omega (arith, filled)) (omega (arith, kept .sizes-same .pages))
-            ∙ ap (λ c. replicate (pageWords f c) 0) (sym (kept .sizes-same .capacity));
+            ∙ r .free-pages p (omega (arith, filled)) (omega (arith, kept .whole .sizes-same .pages))
+            ∙ ap (λ c. replicate (pageWords f c) 0) (sym (kept .whole .sizes-same .capacity));
       }
     where
       z : List Item
@@ -308,16 +287,16 @@ module _ (f : Format) (s : List ℕ) (b0 : Trie Stretch) (bs : List (Trie ℕ)) 
       kept₁ = items-kept f C s n z sized low n-high refl fits
 
       ok₁ : Sized f s₁
-      ok₁ = kept₁ .sized
+      ok₁ = kept₁ .whole .sized
 
       room₁ : m ≤ headOf s₁ .pageBlocks
-      room₁ = omega (arith, kept₁ .sizes-same .pages)
+      room₁ = omega (arith, kept₁ .whole .sizes-same .pages)
 
       full : headOf s₁ .capacity ≡ C
-      full = kept₁ .sizes-same .capacity
+      full = kept₁ .whole .sizes-same .capacity
 
       kept : NodesKept f s (takeItems f C s₁ m o)
-      kept = kept-then f s s₁ (takeItems f C s₁ m o) kept₁ (taken-kept f C s₁ m o ok₁ (omega arith) room₁ full fits₁)
+      kept = nodes-then f s s₁ (takeItems f C s₁ m o) kept₁ (taken-kept f C s₁ m o ok₁ (omega arith) room₁ full fits₁)
 
       filled : headOf (takeItems f C s₁ m o) .pagesTaken ≡ m
       filled = take-pagesTaken f C s₁ m o ok₁ (omega arith) room₁ full fits₁
@@ -343,7 +322,7 @@ module _ (f : Format) (I : NodeOps) (s : List ℕ) (b0 : Trie Stretch) (bs : Lis
       (round-carries (headOf s .theta) I (wordStore f (headOf s .theta)) (y .laws) (store-laws f (headOf s .theta))
       (sizes-limits _ _ _ _ (y .rep .sized .sizes) .theta-low) s₁ (numbers b0) bs place (x .0) (z .0)
       (step-ok f s b0 _ bs (y .rep) s₁ p) (step-directory f s b0 _ bs (y .rep) s₁ p)
-      (omega (arith, y .room, p .kept .taken-same, p .kept .sizes-same .nodes))))
+      (omega (arith, y .room, p .kept .taken-same, p .kept .whole .sizes-same .nodes))))
       (y .room)
 
 module _ (f : Format) (I : NodeOps) (s : List ℕ) (b0 : Trie Stretch) (bs : List (Trie ℕ)) (key : ℕ) where
@@ -388,6 +367,6 @@ take-keeps f I s b0 b bs key rs laws r narrow null room fit =
     (rounded-same (headOf s .theta) (wordStore f (headOf s .theta)) (sym (numbers-graft b0 k (leaf (suc (headOf s .pagesTaken), rs)))) refl
     (aim-keeps (headOf s .theta) I (wordStore f (headOf s .theta)) laws (store-laws f (headOf s .theta)) _ (numbers b0) b bs k
     (suc (headOf s .pagesTaken))
-    (step-ok f s b0 _ (b ∷ bs) r _ p) (omega (arith, r .nodes-fit, p .kept .taken-same, p .kept .sizes-same .nodes))
+    (step-ok f s b0 _ (b ∷ bs) r _ p) (omega (arith, r .nodes-fit, p .kept .taken-same, p .kept .whole .sizes-same .nodes))
     (step-directory f s b0 _ (b ∷ bs) r _ p)))
     (omega (arith, r .nodes-fit))
