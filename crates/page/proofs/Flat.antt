@@ -38,4 +38,6 @@ length-flat f (it ∷ its) = length-append (itemWords f it) (flat f its) ∙ ome
 pub flat-last : (f : Format) (its : List Item) (it : Item) → flat f (its ++ (it ∷ [])) ≡ flat f its ++ itemWords f it
 unfolding flat
 flat-last f [] it = append-nil (itemWords f it)
-flat-last f (x ∷ its) it = ap (λ (l : List ℕ). itemWords f x ++ l) (flat-last f its it) ∙ sym (append-assoc (itemWords f x) (flat f its) (itemWords f it))
+flat-last f (x ∷ its) it =
+    ap (λ (l : List ℕ). itemWords f x ++ l) (flat-last f its it) ∙
+    sym (append-assoc (itemWords f x) (flat f its) (itemWords f it))

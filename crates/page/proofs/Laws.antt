@@ -21,11 +21,6 @@ use Rattle.store.specs.Format.{width, words}
 use Rattle.store.specs.Head.{word, zeros}
 use Rattle.page.specs.Page.{count, itemAt, keyAt, plotOf, lawfulItem, ordered, pageRule, agrees, above, firstFrom, firstAbove}
 
--- a key of a page of 32-bit words has no more bits than the format's keys
-pub key-below : (f : Format) (pg : List ℕ) (i : ℕ) → ((k : ℕ) → word pg k < 2 ^ 32) → keyAt f pg i < 2 ^ width f
-unfolding itemAt width
-key-below Plots pg i h = h (4 * i + 1)
-
 pub lawful-key : (f : Format) (it : Item) → lawfulItem f it ≡ true → (1 ≤ it .key) × (it .key < 2 ^ width f)
 unfolding lawfulItem width
 lawful-key Plots it e = let p = lawful-record (plotOf it) e in (omega (arith, p .1), p .0)

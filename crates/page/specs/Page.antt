@@ -6,6 +6,10 @@
 --   flat f its            == the words of records, one after another
 --   plotOf it             == the plot record of an item
 --   lawfulItem f it       == the record may be held
+--   inTurn f k it         == the record may be held, and its key is above the key k
+--   begun n               == a check of n records, before the first
+--   goesOn p              == all records checked so far are lawful and ascend, and some are left
+--   checkedOf f p it      == the check p after the next record, it
 --   ordered f pg n        == the first n records are lawful and their keys ascend
 --   pageRule f C pg       == a visited page, with the capacity C
 --   agrees f pg k used    == all keys agree with the key k in its first `used` bits
@@ -23,6 +27,7 @@ use Rattle.store.specs.declared.Format.the-variants.{Plots}
 use Rattle.store.specs.declared.Item.{Item}
 use Rattle.store.specs.Format.{width, words}
 use Rattle.store.specs.Head.{word, zeros}
+use Rattle.page.specs.declared.Progress.{Progress}
 
 abbrev pub count : List ℕ → ℕ
 count pg = word pg 0
@@ -53,6 +58,18 @@ plotOf it = record { key = it .key; price = it .price; lease = it .lease; last =
 
 unfoldable pub lawfulItem : Format → Item → Bool
 lawfulItem Plots it = plotSchema .lawful (plotOf it)
+
+unfoldable pub inTurn : Format → ℕ → Item → Bool
+inTurn f k it = lawfulItem f it && ltb k (it .key)
+
+abbrev pub begun : ℕ → Progress
+begun n = record { good = true; key = 0; left = n }
+
+unfoldable pub goesOn : Progress → Bool
+goesOn p = p .good && ltb 0 (p .left)
+
+unfoldable pub checkedOf : Format → Progress → Item → Progress
+checkedOf f p it = record { good = inTurn f (p .key) it; key = it .key; left = p .left - 1 }
 
 unfoldable pub ordered : Format → List ℕ → ℕ → Bool
 ordered f pg n = every n (λ i. lawfulItem f (itemAt f pg i)) && every (n - 1) (λ i. ltb (keyAt f pg i) (keyAt f pg (i + 1)))

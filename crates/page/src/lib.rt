@@ -3,11 +3,13 @@ use plot::Record;
 use store::Format;
 use store::Item;
 ghost use mathlib.Core.Path.{_≡_};
+ghost use mathlib.Core.Bool.{true};
 ghost use mathlib.Core.List.{_++_};
 ghost use Prim.Native.Nat.{_+_, _/_, _%_, _^_, _≤_, _<_};
 ghost use lib.ListN.{length, getD, drop};
 ghost use Rattle.store.specs.Format.{width, words};
-ghost use Rattle.page.specs.Page.{itemAt, itemWords, lawfulItem, ordered, pageRule, agrees, above, firstAbove};
+ghost use Rattle.page.specs.Page.{itemAt, itemWords, lawfulItem, begun, goesOn, inTurn, checkedOf};
+ghost use Rattle.page.specs.Page.{ordered, pageRule, agrees, above, firstAbove};
 
 // A reader stands at a record of a page.
 pub struct Reader<'a> {
@@ -31,7 +33,7 @@ pub fn count_of(page: &[u32]) -> usize
 // The work of a step: record number i of a page.
 fn item_at(page: &[u32], f: Format, i: usize) -> Item
     requires { ⌜ i < 2 ^ 32 ⌝ }
-    ensures { λ r. ⌜ r ≡ itemAt f (now (page .entry)) i ⌝ }
+    ensures { λ r. ⌜ (r ≡ itemAt f (now (page .entry)) i) × (r .key < 2 ^ width f) ⌝ }
 {
     match f {
         Format::Plots => Item {
@@ -61,7 +63,8 @@ fn after(at: usize) -> usize
 // One step: the record at the reader, and the reader at the next one.
 fn advance<'a>(r: Reader<'a>, f: Format) -> Read<'a>
     requires { ⌜ r .at < 2 ^ 32 ⌝ }
-    ensures { λ q. ⌜ (q .item ≡ itemAt f (now (r .entry .page)) (r .entry .at)) × (q .rest .page ≡ r .entry .page) × (q .rest .at ≡ r .entry .at + 1) ⌝ }
+    ensures { λ q. ⌜ (q .item ≡ itemAt f (now (r .entry .page)) (r .entry .at)) × (q .item .key < 2 ^ width f) ×
+        (q .rest .page ≡ r .entry .page) × (q .rest .at ≡ r .entry .at + 1) ⌝ }
 {
     let item = item_at(r.page, f, r.at);
     let at = after(r.at);
@@ -120,25 +123,70 @@ fn lawful_item(f: Format, item: Item) -> bool
     }
 }
 
-// Whether the first n records are lawful and their keys ascend.
+// How far a check of records has come: whether all so far are lawful and ascend, the last key, and how many are left.
+struct Progress {
+    good: bool,
+    key: u64,
+    left: usize,
+}
+
+// No record checked yet; 0 is below every lawful key.
+fn begin(n: usize) -> Progress
+    ensures { λ r. ⌜ r ≡ begun n ⌝ }
+{
+    Progress {
+        good: true,
+        key: 0,
+        left: n,
+    }
+}
+
+// Whether the check goes on.
+fn goes_on(p: Progress) -> bool
+    ensures { λ r. ⌜ r ≡ goesOn p ⌝ }
+{
+    if !p.good {
+        return false;
+    }
+    p.left > 0
+}
+
+// Whether a record is lawful and its key is above another.
+fn in_turn(f: Format, key: u64, item: Item) -> bool
+    requires { ⌜ item .key < 2 ^ width f ⌝ }
+    ensures { λ r. ⌜ r ≡ inTurn f key item ⌝ }
+{
+    if !lawful_item(f, item) {
+        return false;
+    }
+    key < item.key
+}
+
+// The next record checked.
+fn checked(p: Progress, f: Format, item: Item) -> Progress
+    requires { ⌜ (goesOn p ≡ true) × (item .key < 2 ^ width f) ⌝ }
+    ensures { λ r. ⌜ r ≡ checkedOf f p item ⌝ }
+{
+    Progress {
+        good: in_turn(f, p.key, item),
+        key: item.key,
+        left: p.left - 1,
+    }
+}
+
+// Whether the first n records are lawful and their keys ascend: one reader goes through them.
 fn in_order(page: &[u32], f: Format, n: usize) -> bool
     requires { ⌜ n < 2 ^ 32 ⌝ }
     ensures { λ r. ⌜ r ≡ ordered f (now (page .entry)) n ⌝ }
 {
-    let mut before: u64 = 0;
-    let mut i: usize = 0;
-    while i < n {
-        let item = read_one(page, f, i);
-        if !lawful_item(f, item) {
-            return false;
-        }
-        if item.key <= before {
-            return false;
-        }
-        before = item.key;
-        i += 1;
+    let mut p = begin(n);
+    let mut reader = open(page, 0);
+    while goes_on(p) {
+        let q = advance(reader, f);
+        p = checked(p, f, q.item);
+        reader = q.rest;
     }
-    true
+    p.good
 }
 
 // Whether a page keeps the rule of a visited one.

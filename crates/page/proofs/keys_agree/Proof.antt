@@ -16,7 +16,8 @@ use Rattle.page.proofs.keys_agree.Statement.{statement}
 use Rattle.page.proofs.keys_agree.Tie as tie
 
 -- n, w and sought are the numbers that the function has
-module _ (f : Format) (pg : List ℕ) (k used : ℕ) {n w sought : ℕ} (en : n ≡ count pg) (ew : w ≡ width f) (es : sought ≡ k / 2 ^ (w - used)) where
+module _ (f : Format) (pg : List ℕ) (k used : ℕ) {n w sought : ℕ}
+    (en : n ≡ count pg) (ew : w ≡ width f) (es : sought ≡ k / 2 ^ (w - used)) where
   abbrev high : ℕ → ℕ → ℕ
   high x v = x / 2 ^ (v - used)
 
