@@ -3,10 +3,10 @@ use mathlib.Core.Path.{_≡_, refl, sym, ap, _∙_}
 use mathlib.Core.Bool.{Bool, true, false, false≢true}
 use mathlib.Core.Logic.{inl, inr}
 use mathlib.Core.List.{List, [], _∷_, _++_, append-assoc, append-nil}
-use Prim.Native.Nat.{ℕ, zero, suc, _+_, _-_, _*_, _/_, _%_, _^_, _≤_, _<_}
+use Prim.Native.Nat.{ℕ, zero, suc, _+_, _-_, _*_, _/_, _≤_, _<_}
 use native.Mathlib.Decide.{decLt, ℕ-discrete}
 use native.Mathlib.Omega.{arith}
-use lib.ListN.{length, take, drop, set, length-append, length-take, length-drop}
+use lib.ListN.{length, take, drop, length-append, length-take, length-drop}
 use lib.Seq.{take-at, drop-at, take-length, drop-length, drop-drop}
 use native.Mathlib.Nat.{mul-le-mul-left, mul-comm, le-div-iff-mul-le}
 use borrow.Author.Tests.{lt-ltb, le-ltb}
@@ -27,7 +27,8 @@ use Rattle.scan.proofs.RangeLaws.{from-damaged, from-nothing, from-pass
 
 -- the records of a range are the first ones of its walk
 module _ (f : Format) (s : List ℕ) (h : Head) where
-  pub firsts-on : (strict : Bool) (k n : ℕ) (it : Item) → nextOf f s h strict k ≡ Record it → firsts f s h strict k (suc n) ≡ it ∷ firsts f s h true (it .key) n
+  pub firsts-on : (strict : Bool) (k n : ℕ) (it : Item) → nextOf f s h strict k ≡ Record it
+      → firsts f s h strict k (suc n) ≡ it ∷ firsts f s h true (it .key) n
   unfolding firsts
   firsts-on strict k n it e = rw (e, firsts)
 
@@ -69,7 +70,8 @@ fill-more f its it i at out first last o l a e =
     let whole : take (length out - at) (drop at out) ≡ B = rw (back, rest) (take-length B) in
     let none : drop (length out - at) (drop at out) ≡ [] = rw (back, rest) (drop-length B) in
     let next : words f * i + words f ≡ words f * (i + 1) = omega arith in
-    let tail : drop (words f) B ≡ drop (words f * (i + 1)) first = drop-drop (words f) (words f * i) first ∙ ap (λ (m : ℕ). drop m first) next in
+    let tail : drop (words f) B ≡ drop (words f * (i + 1)) first =
+    drop-drop (words f) (words f * i) first ∙ ap (λ (m : ℕ). drop m first) next in
     rw (front, none, e, whole, flat-last f its it, ← tail) (simp (append-nil, append-assoc))
 
 -- the walk, one record on
@@ -96,8 +98,8 @@ walk-end f s h strict k i n its all e q =
     let z : n - i ≡ 0 = omega arith in
     sym (append-nil its) ∙ ap (λ (m : ℕ). its ++ firsts f s h strict k m) (sym z) ∙ q
 
-pub fill-end : (f : Format) (its all : List Item) (i n : ℕ) (out first : List ℕ) → its ≡ all → i ≡ n → out ≡ flat f its ++ drop (words f * i) first
-    → out ≡ flat f all ++ drop (words f * n) first
+pub fill-end : (f : Format) (its all : List Item) (i n : ℕ) (out first : List ℕ) → its ≡ all → i ≡ n
+    → out ≡ flat f its ++ drop (words f * i) first → out ≡ flat f all ++ drop (words f * n) first
 fill-end f its all i n out first a b e = e ∙ rw (a, b)
 
 -- a range's records are the first ones of its walk
@@ -111,7 +113,8 @@ module _ (f : Format) (s : List ℕ) (h : Head) (high : ℕ) where
   unfolding firsts
   none-read strict k = refl
 
-  same-on : (fuel : ℕ) (strict : Bool) (k room : ℕ) (it : Item) → nextOf f s h strict k ≡ Record it → Same fuel true (it .key) (room - 1) → Same (suc fuel) strict k room
+  same-on : (fuel : ℕ) (strict : Bool) (k room : ℕ) (it : Item) → nextOf f s h strict k ≡ Record it
+      → Same fuel true (it .key) (room - 1) → Same (suc fuel) strict k room
   unfolding also
   same-on fuel strict k room it e ih =
       elim (decLt high (it .key)) [
@@ -124,12 +127,14 @@ module _ (f : Format) (s : List ℕ) (h : Head) (high : ℕ) where
                     | yes r ↦ rw (from-last f s h high fuel strict k room it e q r)
                         (λ o. firsts-on f s h strict k 0 it e ∙ ap (λ (l : List Item). it ∷ l) (none-read true (it .key)))
                     | no r ↦ rw (from-on f s h high fuel strict k room it e q (omega arith))
-                        (λ o. firsts-on f s h strict k (length (rangeFrom f s h high fuel true (it .key) (room - 1) .items)) it e ∙ ap (λ (l : List Item). it ∷ l) (ih o))
+                        (λ o. firsts-on f s h strict k (length (rangeFrom f s h high fuel true (it .key) (room - 1) .items)) it e
+                        ∙ ap (λ (l : List Item). it ∷ l) (ih o))
                   ]
             ]
       ]
 
-  same-step : (fuel : ℕ) (strict : Bool) (k room : ℕ) (a : Sought) → nextOf f s h strict k ≡ a → ((it : Item) → Same fuel true (it .key) (room - 1)) → Same (suc fuel) strict k room
+  same-step : (fuel : ℕ) (strict : Bool) (k room : ℕ) (a : Sought) → nextOf f s h strict k ≡ a
+      → ((it : Item) → Same fuel true (it .key) (room - 1)) → Same (suc fuel) strict k room
   same-step fuel strict k room Damaged e ih = rw (from-damaged f s h high fuel strict k room e) (λ o. absurd (false≢true o))
   same-step fuel strict k room Nothing e ih = rw (from-nothing f s h high fuel strict k room e) (λ o. none-read strict k)
   same-step fuel strict k room (Record it) e ih = same-on fuel strict k room it e (ih it)
@@ -137,7 +142,8 @@ module _ (f : Format) (s : List ℕ) (h : Head) (high : ℕ) where
   pub range-firsts : (fuel : ℕ) (strict : Bool) (k room : ℕ) → Same fuel strict k room
   unfolding rangeFrom
   range-firsts zero strict k room o = none-read strict k
-  range-firsts (suc fuel) strict k room o = same-step fuel strict k room (nextOf f s h strict k) refl (λ it. range-firsts fuel true (it .key) (room - 1)) o
+  range-firsts (suc fuel) strict k room o =
+      same-step fuel strict k room (nextOf f s h strict k) refl (λ it. range-firsts fuel true (it .key) (room - 1)) o
 
 -- the outcome without the records
 pub listing-ok : (r : Ranged) → listing r .ok ≡ r .ok
@@ -158,7 +164,8 @@ module _ (f : Format) (s : List ℕ) (low high : ℕ) (out : List ℕ) where
   unfolding rangeOf
   range-head r = (rw (r, rangeOf), rw (r, rangeOf))
 
-  pub range-order : headRule f s ≡ true → high < low → (refused 7 ≡ rangeOf f s low high out .reply) × (out ≡ rangeOf f s low high out .words)
+  pub range-order : headRule f s ≡ true → high < low
+      → (refused 7 ≡ rangeOf f s low high out .reply) × (out ≡ rangeOf f s low high out .words)
   unfolding rangeOf
   range-order r o = (rw (r, lt-ltb high low o, rangeOf), rw (r, lt-ltb high low o, rangeOf))
 
@@ -189,8 +196,10 @@ module _ (f : Format) (s : List ℕ) (low high : ℕ) (out : List ℕ) where
     pub range-length : l .ok ≡ true → length (firsts f s (headOf s) false low (l .count)) ≡ l .count
     range-length d = ap length (range-walk d) ∙ sym (counted d)
 
-    pub range-listed : (t : List ℕ) → l .ok ≡ true → t ≡ flat f (firsts f s (headOf s) false low (l .count)) ++ drop (words f * l .count) out
-        → (record { number = 0; count = l .count; more = l .more } ≡ rangeOf f s low high out .reply) × (t ≡ rangeOf f s low high out .words)
+    pub range-listed : (t : List ℕ) → l .ok ≡ true
+        → t ≡ flat f (firsts f s (headOf s) false low (l .count)) ++ drop (words f * l .count) out
+        → (record { number = 0; count = l .count; more = l .more } ≡ rangeOf f s low high out .reply)
+        × (t ≡ rangeOf f s low high out .words)
     unfolding listed
     range-listed t d w =
         let m : l .more ≡ R .more = ap (λ (x : Listing). x .more) e ∙ listing-count R (sound d) .1 in

@@ -1,4 +1,6 @@
 pub mod RangeLaws
+pub mod CursorLaws
+pub mod SumLaws
 pub mod SummaryLaws
 pub mod FillLaws
 pub mod Promises

@@ -1,3 +1,4 @@
+pub mod Cursor
 pub mod Range
 pub mod Summary
 pub mod Promises

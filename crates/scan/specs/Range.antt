@@ -3,6 +3,7 @@
 --   rangeFrom f s h high fuel strict k room == the records from the key k to high, with room for so many
 --   ranged f s h low high room == the same from low on
 --   listing r            == a range's outcome without its records
+--   listingOf c n        == the outcome after n records, with the cursor c at the first one not written
 --   firsts f s h strict k n == the first n records from the key k on
 --   RangeReply, rangeReply == document 01's number and values for each case of a `RangeAnswer`
 --   rangeOf f s low high out == what range replies and the output words after it
@@ -18,6 +19,7 @@ use Rattle.store.specs.Format.{words}
 use Rattle.store.specs.Head.{headOf, headRule}
 use Rattle.page.specs.Page.{flat}
 use Rattle.search.specs.declared.Sought.the-variants.{Record, Nothing, Damaged}
+use Rattle.scan.specs.declared.Cursor.{Cursor}
 use Rattle.scan.specs.declared.Listing.{Listing}
 use Rattle.scan.specs.declared.RangeAnswer.{RangeAnswer}
 use Rattle.scan.specs.declared.RangeAnswer.the-variants.{Listed, RangeHeadBroken, LowAboveHigh, RangeDamaged}
@@ -64,7 +66,18 @@ unfoldable pub ranged : Format → List ℕ → Head → ℕ → ℕ → ℕ →
 ranged f s h low high room = rangeFrom f s h high (high + 1 - low + 1) false low room
 
 unfoldable pub listing : Ranged → Listing
-listing r = elim (r .ok) [ true ↦ record { ok = true; count = length (r .items); more = r .more } | false ↦ record { ok = false; count = 0; more = 0 } ]
+listing r =
+    elim (r .ok) [
+      | true ↦ record { ok = true; count = length (r .items); more = r .more }
+      | false ↦ record { ok = false; count = 0; more = 0 }
+    ]
+
+unfoldable pub listingOf : Cursor → ℕ → Listing
+listingOf c n =
+    elim (c .ok) [
+      | true ↦ record { ok = true; count = n; more = c .item .key }
+      | false ↦ record { ok = false; count = 0; more = 0 }
+    ]
 
 unfoldable pub firsts : Format → List ℕ → Head → Bool → ℕ → ℕ → List Item
 firsts f s h strict k zero = []
@@ -93,8 +106,8 @@ pub record After : Type 0 where
   pub reply : RangeReply
   pub words : List ℕ
 
--- "it fills a lent output slice with as many whole records as fit, leaves its other words, and gives the count and the range's first key not
--- written, or 0"; a damaged store's refusal leaves the output as it was
+-- "it fills a lent output slice with as many whole records as fit, leaves its other words, and gives the count and the range's first key
+-- not written, or 0"; a damaged store's refusal leaves the output as it was
 unfoldable pub listed : Format → List ℕ → Ranged → After
 listed f out r =
     elim (r .ok) [

@@ -1,5 +1,6 @@
 -- Summary. Document 01, "Reading".
---   Summed               == whether no damage was met, and the totals
+--   done t, damage       == a summary's end with the totals t, and where damage was met
+--   summingOf ok t       == the one or the other
 --   sumFrom f s h high today fuel strict k t == the totals t with the records from the key k to high
 --   summed f s h low high today == the totals from low to high
 --   SummaryReply, summaryReply == document 01's number and values for each case of a `SummaryAnswer`
@@ -17,7 +18,8 @@ use Rattle.totals.specs.Totals.{noTotals, updatedOf}
 use Rattle.search.specs.declared.Sought.the-variants.{Record, Nothing, Damaged}
 use Rattle.scan.specs.declared.Summing.{Summing}
 use Rattle.scan.specs.declared.SummaryAnswer.{SummaryAnswer}
-use Rattle.scan.specs.declared.SummaryAnswer.the-variants.{Summed, SummaryHeadBroken, SummaryLowAboveHigh, TodayOutside, SummaryDamaged}
+use Rattle.scan.specs.declared.SummaryAnswer.the-variants.{Summed, SummaryHeadBroken, SummaryLowAboveHigh}
+use Rattle.scan.specs.declared.SummaryAnswer.the-variants.{TodayOutside, SummaryDamaged}
 use Rattle.search.specs.Next.{nextOf}
 
 abbrev pub done : Totals → Summing
@@ -25,6 +27,10 @@ done t = record { ok = true; totals = t }
 
 unfoldable pub damage : Summing
 damage = record { ok = false; totals = noTotals }
+
+unfoldable pub summingOf : Bool → Totals → Summing
+summingOf true t = done t
+summingOf false t = damage
 
 unfoldable pub sumFrom : Format → List ℕ → Head → ℕ → ℕ → ℕ → Bool → ℕ → Totals → Summing
 sumFrom f s h high today zero strict k t = done t

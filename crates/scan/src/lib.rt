@@ -11,8 +11,69 @@ ghost use Prim.Native.Nat.{_*_, _^_, _≤_, _<_};
 ghost use lib.ListN.{length, drop};
 ghost use Rattle.store.specs.Format.{words};
 ghost use Rattle.page.specs.Page.{flat};
-ghost use Rattle.scan.specs.Range.{ranged, listing, firsts, rangeReply, rangeOf};
-ghost use Rattle.scan.specs.Summary.{summed, summaryReply, summaryOf};
+ghost use Rattle.scan.specs.Cursor.{pastLast, cursorAt, cursorFrom};
+ghost use Rattle.scan.specs.Range.{ranged, listing, listingOf, firsts, rangeReply, rangeOf};
+ghost use Rattle.scan.specs.Summary.{summed, summingOf, summaryReply, summaryOf};
+
+// Where a walk by next stands: no damage met so far, whether there is a record, and the record.
+pub struct Cursor {
+    pub ok: bool,
+    pub more: bool,
+    pub item: Item,
+}
+
+// A cursor past the last record.
+fn past_last(ok: bool) -> Cursor
+    ensures { λ r. ⌜ r ≡ pastLast ok ⌝ }
+{
+    Cursor {
+        ok,
+        more: false,
+        item: Item {
+            key: 0,
+            price: 0,
+            lease: 0,
+            last: 0,
+        },
+    }
+}
+
+// A cursor at what next gave, past the last record if that is above high.
+fn cursor_at(high: u64, a: Sought) -> Cursor
+    ensures { λ r. ⌜ r ≡ cursorAt high a ⌝ }
+{
+    match a {
+        Sought::Damaged => {
+            return past_last(false);
+        }
+        Sought::Nothing => {
+            return past_last(true);
+        }
+        Sought::Record(item) => {
+            if item.key > high {
+                return past_last(true);
+            }
+            return Cursor {
+                ok: true,
+                more: true,
+                item,
+            };
+        }
+    }
+}
+
+// The cursor at the first record above the key, or, if not strict, at or above it. Nothing is read once the key reached is high.
+fn seek(store: &[u32], f: Format, head: Head, high: u64, strict: bool, key: u64) -> Cursor
+    requires { ⌜ (head .theta ≤ 6) × (head .capacity ≤ 64) × (head .nodesTaken ≤ 4096) × (1 ≤ head .levels) × (head .levels ≤ 32) ⌝ }
+    ensures { λ r. ⌜ r ≡ cursorFrom f (now (store .entry)) head high strict key ⌝ }
+{
+    if strict {
+        if key == high {
+            return past_last(true);
+        }
+    }
+    cursor_at(high, search::next_under(store, f, head, strict, key))
+}
 
 pub enum RangeAnswer {
     Listed(u64, u64),
@@ -28,52 +89,43 @@ pub struct Listing {
     pub more: u64,
 }
 
-// An outcome from its parts.
-fn outcome_of(ok: bool, count: u64, more: u64) -> Listing
-    ensures { λ r. ⌜ (r .ok ≡ ok) × (r .count ≡ count) × (r .more ≡ more) ⌝ }
+// How a range ends after so many records, with the cursor at the first one not written.
+fn listing_of(c: Cursor, count: u64) -> Listing
+    ensures { λ r. ⌜ r ≡ listingOf c count ⌝ }
 {
-    Listing { ok, count, more }
+    if c.ok {
+        return Listing {
+            ok: true,
+            count,
+            more: c.item.key,
+        };
+    }
+    Listing {
+        ok: false,
+        count: 0,
+        more: 0,
+    }
 }
 
 // The outcome of a range with room for so many records; nothing is written.
 fn list(store: &[u32], f: Format, head: Head, low: u64, high: u64, room: u64) -> Listing
-    requires { ⌜ (head .theta ≤ 6) × (head .capacity ≤ 64) × (head .nodesTaken ≤ 4096) × (1 ≤ head .levels) × (head .levels ≤ 32) × (low ≤ high) ⌝ }
+    requires { ⌜ (head .theta ≤ 6) × (head .capacity ≤ 64) × (head .nodesTaken ≤ 4096) × (1 ≤ head .levels) × (head .levels ≤ 32)
+        × (low ≤ high) ⌝ }
     ensures { λ r. ⌜ (r ≡ listing (ranged f (now (store .entry)) head low high room)) × (r .count ≤ room) ⌝ }
 {
-    let mut strict = false;
-    let mut k = low;
     let mut count: u64 = 0;
-    while k <= high {
-        let a = search::next_under(store, f, head, strict, k);
-        match a {
-            Sought::Damaged => {
-                return outcome_of(false, 0, 0);
-            }
-            Sought::Nothing => {
-                return outcome_of(true, count, 0);
-            }
-            Sought::Record(item) => {
-                if item.key > high {
-                    return outcome_of(true, count, 0);
-                }
-                if count == room {
-                    return outcome_of(true, count, item.key);
-                }
-                count += 1;
-                if item.key == high {
-                    return outcome_of(true, count, 0);
-                }
-                k = item.key;
-                strict = true;
-            }
-        }
+    let mut c = seek(store, f, head, high, false, low);
+    while c.more && count < room {
+        count += 1;
+        c = seek(store, f, head, high, true, c.item.key);
     }
-    outcome_of(true, count, 0)
+    listing_of(c, count)
 }
 
 // Writes the first n records at or above low.
 fn fill(store: &[u32], f: Format, head: Head, low: u64, n: u64, out: &mut [u32])
-    requires { ⌜ (head .theta ≤ 6) × (head .capacity ≤ 64) × (head .nodesTaken ≤ 4096) × (1 ≤ head .levels) × (head .levels ≤ 32) × (words f * n ≤ length (now out)) × (length (firsts f (now store) head false low n) ≡ n) ⌝ }
+    requires { ⌜ (head .theta ≤ 6) × (head .capacity ≤ 64) × (head .nodesTaken ≤ 4096) × (1 ≤ head .levels) × (head .levels ≤ 32)
+        × (words f * n ≤ length (now out)) × (length (firsts f (now store) head false low n) ≡ n) ⌝ }
     ensures { λ _. ⌜ now (out .exit) ≡ flat f (firsts f (now (store .entry)) head false low n) ++ drop (words f * n) (now (out .entry)) ⌝ }
 {
     let w = store::words_of(f);
@@ -103,7 +155,8 @@ fn fill(store: &[u32], f: Format, head: Head, low: u64, n: u64, out: &mut [u32])
 
 // Lists the records from low to high in the lent output: as many whole ones as fit. A first pass finds the outcome, a second one writes.
 pub fn range(store: &[u32], f: Format, low: u64, high: u64, out: &mut [u32]) -> RangeAnswer
-    ensures { λ r. ⌜ (rangeReply r ≡ rangeOf f (now (store .entry)) low high (now (out .entry)) .reply) × (now (out .exit) ≡ rangeOf f (now (store .entry)) low high (now (out .entry)) .words) ⌝ }
+    ensures { λ r. ⌜ (rangeReply r ≡ rangeOf f (now (store .entry)) low high (now (out .entry)) .reply)
+        × (now (out .exit) ≡ rangeOf f (now (store .entry)) low high (now (out .entry)) .words) ⌝ }
 {
     if !store::head_ok(store, f) {
         return RangeAnswer::RangeHeadBroken;
@@ -134,44 +187,32 @@ pub enum SummaryAnswer {
     SummaryDamaged,
 }
 
-// Totals, and whether no damage was met.
+// A summary's end: the totals, or none of them where damage was met.
 fn summing_of(ok: bool, totals: Totals) -> Summing
-    ensures { λ r. ⌜ (r .ok ≡ ok) × (r .totals ≡ totals) ⌝ }
+    ensures { λ r. ⌜ r ≡ summingOf ok totals ⌝ }
 {
-    Summing { ok, totals }
+    if ok {
+        return Summing { ok, totals };
+    }
+    Summing {
+        ok,
+        totals: totals::no_totals(),
+    }
 }
 
-// The totals of the records from low to high.
+// The totals of the records from low to high: one sheet, lent for each record.
 fn sum(store: &[u32], f: Format, head: Head, low: u64, high: u64, today: u32) -> Summing
-    requires { ⌜ (head .theta ≤ 6) × (head .capacity ≤ 64) × (head .nodesTaken ≤ 4096) × (1 ≤ head .levels) × (head .levels ≤ 32) × (low ≤ high) × (high < 2 ^ 32) ⌝ }
+    requires { ⌜ (head .theta ≤ 6) × (head .capacity ≤ 64) × (head .nodesTaken ≤ 4096) × (1 ≤ head .levels) × (head .levels ≤ 32)
+        × (low ≤ high) × (high < 2 ^ 32) ⌝ }
     ensures { λ r. ⌜ r ≡ summed f (now (store .entry)) head low high today ⌝ }
 {
-    let mut strict = false;
-    let mut k = low;
     let mut t = totals::no_totals();
-    while k <= high {
-        let a = search::next_under(store, f, head, strict, k);
-        match a {
-            Sought::Damaged => {
-                return summing_of(false, totals::no_totals());
-            }
-            Sought::Nothing => {
-                return summing_of(true, t);
-            }
-            Sought::Record(item) => {
-                if item.key > high {
-                    return summing_of(true, t);
-                }
-                t = totals::added(t, item, today);
-                if item.key == high {
-                    return summing_of(true, t);
-                }
-                k = item.key;
-                strict = true;
-            }
-        }
+    let mut c = seek(store, f, head, high, false, low);
+    while c.more {
+        totals::add(&mut t, c.item, today);
+        c = seek(store, f, head, high, true, c.item.key);
     }
-    summing_of(true, t)
+    summing_of(c.ok, t)
 }
 
 // Counts the records from low to high, adds up their balances today, and names the earliest to end.

@@ -1,5 +1,5 @@
--- The earliest last day, down a list of records in ascending key order: totals that have a key keep it unless a record ends before their last
--- day, so among equal last days the first record stays, which has the lowest key.
+-- The earliest last day, down a list of records in ascending key order: totals that have a key keep it unless a record ends before their
+-- last day, so among equal last days the first record stays, which has the lowest key.
 use mathlib.Core.Bool.{true, false}
 use mathlib.Core.Path.{_≡_, refl, ap, _∙_}
 use mathlib.Core.List.{List, [], _∷_, List·Memᴰ·head, List·Memᴰ·tail}
@@ -133,7 +133,8 @@ module _ (today : ℕ) where
   from-none t [] k s z = inl record { perpetual = tt; key = k }
   from-none t (it ∷ its) k s z =
       elim (bool-cases (earlier t it)) [
-        | inl e ↦ inr (in-front t it its e (s .0) (follow (updatedOf t it today) its (rw (taken-key t it e) (z .0)) (s .1) (z .1)) .earliest)
+        | inl e ↦
+            inr (in-front t it its e (s .0) (follow (updatedOf t it today) its (rw (taken-key t it e) (z .0)) (s .1) (z .1)) .earliest)
         | inr e ↦
             elim (from-none (updatedOf t it today) its (kept-key t it e ∙ k) (s .1) (z .1)) [
               | inl n ↦

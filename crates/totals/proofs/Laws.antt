@@ -1,5 +1,5 @@
--- What the functions' proofs, the promises and callers share: a balance is at most the price, what one record does to each total, and that totals
--- with fewer than 2^32 records have room for one more.
+-- What the functions' proofs, the promises and callers share: a balance is at most the price, what one record does to each total, and that
+-- totals with fewer than 2^32 records have room for one more.
 use mathlib.Core.Bool.{true, false, _&&_, true≢false}
 use mathlib.Core.Path.{_≡_, refl, sym, ap, _∙_}
 use mathlib.Core.List.{List, [], _∷_}

@@ -1,3 +1,4 @@
 pub mod Laws
 pub mod Earliest
+pub mod Lent
 pub mod Promises

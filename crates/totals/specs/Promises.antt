@@ -1,8 +1,10 @@
--- What holds of a summary's totals, as document 01 has it. `proofs/Promises.antt` proves each: `CountAndTotal` as `count-and-total`, and so on.
+-- What holds of a summary's totals, as document 01 has it. `proofs/Promises.antt` proves each: `CountAndTotal` as `count-and-total` and
+-- `EarliestKey` as `earliest-key`.
 --   worths its today == the balances of the records its together
 --   CountAndTotal    == of a list of records the count is its length and the total its balances together
 --   NoneLeased its t == no record of its is leased, and the key of t is 0
---   Earliest its t   == t has the key and the last day of the leased record of its with the earliest last day; of several, that with the lowest key
+--   Earliest its t   == t has the key and the last day of the leased record of its with the earliest last day; of several, that with the
+--                       lowest key
 --   EarliestKey      == of records in ascending key order the key is that of the earliest last day among leased ones, 0 if none is leased
 use mathlib.Core.Path.{_≡_}
 use mathlib.Core.List.{List, [], _∷_, List·Memᴰ}
@@ -38,7 +40,8 @@ pub record Earliest (its : List Item) (t : Totals) : Type 0 where
   pub first : All (λ it. (it .lease ≡ 0 → ⊥) → item .last ≤ it .last) its
   pub lowest : All (λ it. (it .lease ≡ 0 → ⊥) → it .last ≡ item .last → item .key ≤ it .key) its
 
--- "the key of the earliest last day among leased records (lease days above 0, ended ones too), 0 if none. Equal last days: the lowest key."
+-- "the key of the earliest last day among leased records (lease days above 0, ended ones too), 0 if none. Equal last days: the lowest
+-- key."
 abbrev pub EarliestKey : Type 0
 EarliestKey =
     (its : List Item) (today : ℕ) →

@@ -1,5 +1,5 @@
--- A summary's running totals. Document 01, "Reading": "Summary .. is one running sheet, brought up to date record by record: count, total balance
--- (64 bits), and the key of the earliest last day among leased records (lease days above 0, ended ones too), 0 if none."
+-- A summary's running totals. Document 01, "Reading": "Summary .. is one running sheet, brought up to date record by record: count, total
+-- balance (64 bits), and the key of the earliest last day among leased records (lease days above 0, ended ones too), 0 if none."
 --   noTotals          == the totals of no record
 --   worth it today    == the balance of a record
 --   earlier t it      == the record it has the earliest last day so far

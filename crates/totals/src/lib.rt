@@ -72,19 +72,9 @@ fn updated(totals: Totals, item: Item, today: u32) -> Totals
 }
 
 // The totals are lent, and the update is handed through.
-fn add(totals: &mut Totals, item: Item, today: u32)
+pub fn add(totals: &mut Totals, item: Item, today: u32)
     requires { ⌜ Room (now totals) ⌝ }
     ensures { λ _. ⌜ now (totals .exit) ≡ updatedOf (now (totals .entry)) item today ⌝ }
 {
     *totals = updated(*totals, item, today);
-}
-
-// A local value lent to `add`: what loops call.
-pub fn added(totals: Totals, item: Item, today: u32) -> Totals
-    requires { ⌜ Room totals ⌝ }
-    ensures { λ r. ⌜ r ≡ updatedOf totals item today ⌝ }
-{
-    let mut t = totals;
-    add(&mut t, item, today);
-    t
 }

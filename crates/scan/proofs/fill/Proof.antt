@@ -3,29 +3,57 @@ use borrow.Author.Needs.{needs}
 use mathlib.Core.Path.{_≡_, refl, sym, _∙_}
 use mathlib.Core.Bool.{false}
 use mathlib.Core.List.{List, [], _∷_, _++_}
-use Prim.Native.Nat.{ℕ, _+_, _-_, _*_, _≤_, _<_}
+use Prim.Native.Nat.{ℕ, suc, _+_, _-_, _*_, _≤_}
 use native.Mathlib.Omega.{arith}
 use lib.ListN.{length, drop, length-append}
 use Rattle.store.specs.declared.Format.{Format}
 use Rattle.store.specs.declared.Item.{Item}
 use Rattle.store.specs.Format.{words}
 use Rattle.page.specs.Page.{flat}
+use Rattle.search.specs.declared.Sought.the-variants.{Record}
+use Rattle.search.specs.Next.{nextOf}
 use Rattle.scan.specs.Range.{firsts}
-use Rattle.scan.proofs.FillLaws.{firsts-none, firsts-lost, room-more, part-room, length-filled, fill-more, walk-more, walk-short, walk-end, fill-end}
+use Rattle.scan.proofs.FillLaws.{firsts-none, firsts-lost, walk-more, walk-short, walk-end}
+use Rattle.scan.proofs.FillLaws.{room-more, part-room, length-filled, fill-more, fill-end}
 use Rattle.scan.proofs.fill.Statement.{statement}
 use Rattle.scan.proofs.fill.Tie as tie
 
 abbrev Inv-loop : tie.InvT-loop
-Inv-loop store f head low n out₀ w strict₀ k₀ at₀ i₀ out strict k at i = (its : List Item) × (length its ≡ i) × (i ≤ n) × (at ≡ words f * i) × (length out ≡ length out₀) × (out ≡ flat f its ++ drop (words f * i) out₀) × (its ++ firsts f store head strict k (n - i) ≡ firsts f store head false low n) × (w ≡ words f)
+Inv-loop store f head low n out₀ w strict₀ k₀ at₀ i₀ out strict k at i =
+    (its : List Item) × (length its ≡ i) × (i ≤ n) × (at ≡ words f * i) × (length out ≡ length out₀)
+    × (out ≡ flat f its ++ drop (words f * i) out₀)
+    × (its ++ firsts f store head strict k (n - i) ≡ firsts f store head false low n) × (w ≡ words f)
 
 abbrev μ-loop : tie.MeasureT-loop
 μ-loop store f head low n out₀ w strict₀ k₀ at₀ i₀ out strict k at i = n - i
 
-room : (c : tie.In-loop Inv-loop μ-loop) → c .before .loop .at + words (c .before .before .before .before .before .args .f) ≤ length (c .before .loop .out)
-room c =
-    let a = c .before .before .before .before .before .args in
+-- there is room for the record that is read
+room : (c : tie.In-loop Inv-loop μ-loop)
+    → let a = c .before .before .before .before .before .args in
     let l = c .before .loop in
-    omega (arith, l .inv .3, l .inv .4, room-more (words (a .f)) (l .i) (a .n) (length (a .out .now)) (c .loop-test .taken) (c .before .before .before .before .before .pre .5))
+    l .at + words (a .f) ≤ length (l .out)
+room c =
+    let start = c .before .before .before .before .before in
+    let a = start .args in
+    let l = c .before .loop in
+    let more = room-more (words (a .f)) (l .i) (a .n) (length (a .out .now)) (c .loop-test .taken) (start .pre .5) in
+    omega (arith, l .inv .3, l .inv .4, more)
+
+-- there is a record to be read
+not-short : (c : tie.After-next-under Inv-loop μ-loop)
+    → let a = c .before .before .before .before .before .before .args in
+    let l = c .before .before .loop in
+    firsts (a .f) (a .store .now) (a .head) (l .strict) (l .k) (suc (a .n - (l .i + 1))) ≡ [] → ⊥
+not-short c e =
+    let l = c .before .before .loop in
+    let start = c .before .before .before .before .before .before in
+    walk-short _ _ _ _ _ _ _ (l .inv .0) _ (c .before .loop-test .taken) (l .inv .1) e (l .inv .6) (start .pre .6)
+
+record-is : (c : tie.After-a Inv-loop μ-loop)
+    → let l = c .before .before .before .before in
+    let a = l .before .before .before .before .args in
+    nextOf (a .f) (a .store .now) (a .head) (l .loop .strict) (l .loop .k) ≡ Record (c .a .given .0 .0)
+record-is c = sym (c .before .before .next-under .ensures) ∙ c .a .given .1
 
 start : (f : Format) (out : List ℕ) → out ≡ flat f [] ++ drop 0 out
 unfolding flat
@@ -60,10 +88,14 @@ part-write-item-end : tie.Need-part-write-item-end Inv-loop μ-loop
 part-write-item-end c = let r = room (c .before .before .before .before) in search needs
 
 write-item-requires : tie.Need-write-item-requires Inv-loop μ-loop
-write-item-requires c κs = part-room _ _ (c .before .before .before .before .before .before .loop .out) (room (c .before .before .before .before .before))
+write-item-requires c κs =
+    let t = c .before .before .before .before .before in
+    part-room _ _ (t .before .loop .out) (room t)
 
 add-at : tie.Need-add-at Inv-loop μ-loop
-add-at c = let r = room (c .before .before .before .before .before .before .before .before) in omega (arith, r, c .before .before .before .before .before .before .before .before .before .loop .inv .7)
+add-at c =
+    let t = c .before .before .before .before .before .before .before .before in
+    omega (arith, room t, t .before .loop .inv .7)
 
 add-i : tie.Need-add-i Inv-loop μ-loop
 add-i c = search needs
@@ -73,21 +105,26 @@ loop-less c = search needs
 
 loop-again : tie.Need-loop-again Inv-loop μ-loop
 loop-again c =
-    let a = c .before .before .before .before .before .before .before .before .before .before .before .before .before .args in
-    let p = c .before .before .before .before .before .before .before .before .before in
-    let l = p .loop in
-    let it = c .before .before .before .before .before .a .given .0 .0 in
-    let lt : l .i < a .n = c .before .before .before .before .before .before .before .before .loop-test .taken in
-    let len : length (l .inv .0 ++ (it ∷ [])) ≡ l .i + 1 = length-append (l .inv .0) (it ∷ []) ∙ omega (arith, l .inv .1) in
-    let e = fill-more (a .f) (l .inv .0) it (l .i) (l .at) (l .out) (a .out .now) (c .before .before .write-item .last .0) (l .inv .5) (l .inv .1) (l .inv .3) (c .before .before .write-item .ensures) in
-    let room = room-more (words (a .f)) (l .i) (a .n) (length (a .out .now)) lt (c .before .before .before .before .before .before .before .before .before .before .before .before .before .pre .5) in (
-      l .inv .0 ++ (it ∷ []),
+    let w = c .before .before in
+    let r = w .before .before .before in
+    let t = r .before .before .before in
+    let l = t .before .loop in
+    let start = t .before .before .before .before .before in
+    let a = start .args in
+    let it = r .a .given .0 .0 in
+    let its = l .inv .0 in
+    let len : length (its ++ (it ∷ [])) ≡ l .i + 1 = length-append its (it ∷ []) ∙ omega (arith, l .inv .1) in
+    let e =
+    fill-more (a .f) its it (l .i) (l .at) (l .out) (a .out .now) (w .write-item .last .0) (l .inv .5) (l .inv .1) (l .inv .3)
+    (w .write-item .ensures) in
+    let room = room-more (words (a .f)) (l .i) (a .n) (length (a .out .now)) (t .loop-test .taken) (start .pre .5) in (
+      its ++ (it ∷ []),
       len,
-      omega arith,
+      omega (arith, t .loop-test .taken),
       omega (arith, l .inv .3, l .inv .7),
-      length-filled (a .f) (l .inv .0 ++ (it ∷ [])) (l .i + 1) (a .out .now) _ len (omega arith) e,
+      length-filled (a .f) (its ++ (it ∷ [])) (l .i + 1) (a .out .now) _ len (omega arith) e,
       e,
-      walk-more _ _ _ _ _ (l .i) (a .n) (l .inv .0) _ it lt (sym (c .before .before .before .before .before .before .before .next-under .ensures) ∙ c .before .before .before .before .before .a .given .1) (l .inv .6),
+      walk-more _ _ _ _ _ (l .i) (a .n) its _ it (t .loop-test .taken) (record-is r) (l .inv .6),
       l .inv .7,
     )
 
@@ -98,7 +135,9 @@ same-length : tie.Need-same-length Inv-loop μ-loop
 same-length c = c .before .before .before .before .loop .inv .4
 
 returns : tie.Need-returns Inv-loop μ-loop
-returns c = absurd (walk-short _ _ _ _ _ _ _ (c .before .before .before .before .loop .inv .0) _ (c .before .before .before .loop-test .taken) (c .before .before .before .before .loop .inv .1) (firsts-none _ _ _ _ _ _ (sym (c .before .before .next-under .ensures) ∙ c .enum-told .given .1)) (c .before .before .before .before .loop .inv .6) (c .before .before .before .before .before .before .before .before .pre .6))
+returns c =
+    absurd
+    (not-short (c .before .before) (firsts-none _ _ _ _ _ _ (sym (c .before .before .next-under .ensures) ∙ c .enum-told .given .1)))
 
 enum-told-2 : tie.Need-enum-told-2 Inv-loop μ-loop
 enum-told-2 c = search needs
@@ -107,7 +146,9 @@ same-length-2 : tie.Need-same-length-2 Inv-loop μ-loop
 same-length-2 c = c .before .before .before .before .loop .inv .4
 
 returns-2 : tie.Need-returns-2 Inv-loop μ-loop
-returns-2 c = absurd (walk-short _ _ _ _ _ _ _ (c .before .before .before .before .loop .inv .0) _ (c .before .before .before .loop-test .taken) (c .before .before .before .before .loop .inv .1) (firsts-lost _ _ _ _ _ _ (sym (c .before .before .next-under .ensures) ∙ c .enum-told2 .given .1)) (c .before .before .before .before .loop .inv .6) (c .before .before .before .before .before .before .before .before .pre .6))
+returns-2 c =
+    absurd
+    (not-short (c .before .before) (firsts-lost _ _ _ _ _ _ (sym (c .before .before .next-under .ensures) ∙ c .enum-told2 .given .1)))
 
 same-length-3 : tie.Need-same-length-3 Inv-loop μ-loop
 same-length-3 c = c .before .loop .inv .4

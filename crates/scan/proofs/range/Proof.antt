@@ -1,11 +1,32 @@
 -- One law for each way out; the second pass writes what the first one found.
 use borrow.Author.Needs.{needs}
+use mathlib.Core.Path.{_≡_}
+use mathlib.Core.Bool.{true}
+use Prim.Native.Nat.{_/_, _≤_}
+use lib.ListN.{length}
 use borrow.Author.Tests.{not-true, not-false}
 use Rattle.lists.proofs.Tests.{passed, failed}
+use Rattle.store.specs.Format.{words}
+use Rattle.store.specs.Head.{headOf, headRule}
+use Rattle.scan.specs.Range.{ranged, listing}
 use Rattle.scan.proofs.SummaryLaws.{readable}
 use Rattle.scan.proofs.FillLaws.{range-head, range-order, range-damaged, range-length, range-listed, records-fit}
 use Rattle.scan.proofs.range.Statement.{statement}
 use Rattle.scan.proofs.range.Tie as tie
+
+-- past both tests: the head rule is kept, and low is not above high
+head-sound : (c : tie.Else2) → let a = c .before .before .before .before .before .args in headRule (a .f) (a .store .now) ≡ true
+head-sound c = passed (c .before .before .head-ok .ensures) (c .before .if1 .left)
+
+in-order : (c : tie.Else2) → let a = c .before .before .before .before .before .args in a .low ≤ a .high
+in-order c = c .if2 .left
+
+-- what `list` gives is the outcome
+list-is : (c : tie.After-list)
+    → let a = c .before .before .before .before .before .before .before .before .args in
+    c .list .result
+    ≡ listing (ranged (a .f) (a .store .now) (headOf (a .store .now)) (a .low) (a .high) (length (a .out .now) / words (a .f)))
+list-is c = rw (c .before .before .head-of .ensures, c .before .words-of .ensures .0) at (c .list .ensures .0)
 
 head-ok-requires : tie.Need-head-ok-requires
 head-ok-requires c κs = search needs
@@ -26,29 +47,41 @@ div-room : tie.Need-div-room
 div-room c = search needs
 
 list-requires : tie.Need-list-requires
-list-requires c κs = let p = readable _ _ _ (c .before .head-of .ensures) (passed (c .before .before .before .before .head-ok .ensures) (c .before .before .before .if1 .left)) in (p .0, p .1, p .2, p .3, p .4, c .before .before .if2 .left)
+list-requires c κs =
+    let p = readable _ _ _ (c .before .head-of .ensures) (head-sound (c .before .before)) in
+    (p .0, p .1, p .2, p .3, p .4, in-order (c .before .before))
 
 returns-3 : tie.Need-returns-3
-returns-3 c = range-damaged _ _ _ _ _ (passed (c .before .before .before .before .before .before .before .head-ok .ensures) (c .before .before .before .before .before .before .if1 .left)) (c .before .before .before .before .before .if2 .left) _ (rw (c .before .before .before .before .head-of .ensures, c .before .before .before .words-of .ensures .0) at (c .before .before .list .ensures .0)) (not-true _ (c .if3 .taken))
+returns-3 c =
+    let t = c .before .before .before .before .before in
+    range-damaged _ _ _ _ _ (head-sound t) (in-order t) _ (list-is (c .before .before)) (not-true _ (c .if3 .taken))
 
 fill-requires : tie.Need-fill-requires
 fill-requires c κs =
-    let p = readable _ _ _ (c .before .before .before .before .before .head-of .ensures) (passed (c .before .before .before .before .before .before .before .before .head-ok .ensures) (c .before .before .before .before .before .before .before .if1 .left)) in
-    let a = c .before .before .before .before .before .before .before .before .before .before .before .args in (
+    let l = c .before .before .before in
+    let t = l .before .before .before in
+    let head = l .before .before .head-of .ensures in
+    let p = readable _ _ _ head (head-sound t) in
+    let a = t .before .before .before .before .before .args in (
       p .0,
       p .1,
       p .2,
       p .3,
       p .4,
-      records-fit (a .f) _ _ (rw (c .before .before .before .before .words-of .ensures .0) at (c .before .before .before .list .ensures .1)),
-      rw (c .before .before .before .before .before .head-of .ensures) (range-length (a .f) _ _ _ (a .out .now) (passed (c .before .before .before .before .before .before .before .before .head-ok .ensures) (c .before .before .before .before .before .before .before .if1 .left)) (c .before .before .before .before .before .before .if2 .left) _ (rw (c .before .before .before .before .before .head-of .ensures, c .before .before .before .before .words-of .ensures .0) at (c .before .before .before .list .ensures .0)) (not-false _ (c .before .if3 .left))),
+      records-fit (a .f) _ _ (rw (l .before .words-of .ensures .0) at (l .list .ensures .1)),
+      rw head (range-length (a .f) _ _ _ (a .out .now) (head-sound t) (in-order t) _ (list-is l) (not-false _ (c .before .if3 .left))),
     )
 
 same-length : tie.Need-same-length
 same-length c = search needs
 
 returns-4 : tie.Need-returns-4
-returns-4 c = range-listed _ _ _ _ _ (passed (c .before .before .before .before .before .before .before .before .before .before .before .head-ok .ensures) (c .before .before .before .before .before .before .before .before .before .before .if1 .left)) (c .before .before .before .before .before .before .before .before .before .if2 .left) _ (rw (c .before .before .before .before .before .before .before .before .head-of .ensures, c .before .before .before .before .before .before .before .words-of .ensures .0) at (c .before .before .before .before .before .before .list .ensures .0)) _ (not-false _ (c .before .before .before .before .if3 .left)) (rw (c .before .before .before .before .before .before .before .before .head-of .ensures) at (c .before .before .fill .ensures))
+returns-4 c =
+    let l = c .before .before .before .before .before .before in
+    let t = l .before .before .before in
+    range-listed _ _ _ _ _ (head-sound t) (in-order t) _ (list-is l) _
+    (not-false _ (c .before .before .before .before .if3 .left))
+    (rw (l .before .before .head-of .ensures) at (c .before .before .fill .ensures))
 
 pub range-spec : {M : Type 1} → statement M
 range-spec =
