@@ -20,7 +20,7 @@ use borrow.Author.Tests.{eqb-false, ltb-false, le-ltb, le-leb, lt-leb}
 use Rattle.lists.specs.Lists.{All, filter}
 use Rattle.lists.specs.Keyed.{Sorted, Bounded}
 use Rattle.lists.proofs.Cases.{bool-cases}
-use Rattle.lists.proofs.ListLaws.{filter-true, filter-false, all-map}
+use Rattle.lists.proofs.ListLaws.{filter-true, filter-false, all-filter, all-map, pairwise-filter}
 use Rattle.plot.specs.Plot.{lawfulDay}
 use Rattle.store.specs.declared.Format.{Format}
 use Rattle.store.specs.declared.Head.{Head}
@@ -302,3 +302,17 @@ summary-sound S low high today =
             | inr d ↦ rw (e, d, summaryIn) (sound-at 6 refl refl)
           ]
     ]
+
+-- what a summary that is not refused adds up
+pub summary-in : (S : List Item) (low high today : ℕ) → low ≤ high → lawfulDay today ≡ true
+    → summaryIn S low high today ≡ summingReply (done (totalsOf noTotals (within low high S) today))
+unfolding summaryIn
+summary-in S low high today l d = rw (le-ltb high low l, d, summaryIn)
+
+pub within-sorted : (low high : ℕ) (S : List Item) → Sorted keyOf S → Sorted keyOf (within low high S)
+unfolding within
+within-sorted low high S = pairwise-filter (λ x y. x .key < y .key) (λ it. leb low (it .key) && leb (it .key) high) S
+
+pub within-all : (P : Item → Type 0) (low high : ℕ) (S : List Item) → All P S → All P (within low high S)
+unfolding within
+within-all P low high S = all-filter (λ it. leb low (it .key) && leb (it .key) high) P S

@@ -1,5 +1,7 @@
 -- What is promised of the readings of a store that holds a set, each as a type; proofs/Promises.antt proves them.
 --   FindReads, NextReads, RangeReads, SummaryReads == the readings are those of the ascending list
+--   Summarised its today a == a is the summary of the records its: how many, their balances together, the earliest key
+--   SummaryOutright  == a summary that is not refused is that of the held records from low to high
 --   FindZero         == find with the key 0, which no record has, gives none
 --   OwnBitsLead      == the bits of each held record's key lead to it
 --   Sound n          == the answer n is neither 3 nor 9
@@ -8,17 +10,29 @@
 --   ClausesHold      == a store that holds a set keeps the report's five clauses
 use mathlib.Core.Path.{_≡_}
 use mathlib.Core.List.{List, List·Memᴰ}
-use Prim.Native.Nat.{ℕ, _^_, _<_}
+use mathlib.Core.Bool.{true}
+use Prim.Native.Nat.{ℕ, _^_, _≤_, _<_}
+use lib.ListN.{length}
+use Rattle.plot.specs.Plot.{lawfulDay}
 use Rattle.store.specs.declared.Format.{Format}
 use Rattle.store.specs.declared.Item.{Item}
 use Rattle.store.specs.Format.{width}
+use Rattle.totals.specs.Promises.{worths, EarliestOf}
 use Rattle.search.specs.Find.{noItem, findReply}
 use Rattle.search.specs.Next.{nextReply}
 use Rattle.scan.specs.Range.{rangeOf}
-use Rattle.scan.specs.Summary.{summaryOf}
+use Rattle.scan.specs.Summary.{SummaryReply, summaryOf}
 use Rattle.represent.specs.Rep.{Holds}
-use Rattle.readings.specs.Listing.{findIn, nextIn, rangeIn, summaryIn}
+use Rattle.readings.specs.Listing.{findIn, nextIn, within, rangeIn, summaryIn}
 use Rattle.readings.specs.Clauses.{Clauses}
+
+-- "count, total balance (64 bits), and the key of the earliest last day among leased records (lease days above 0, ended ones too), 0 if none.
+-- Equal last days: the lowest key."
+pub record Summarised (its : List Item) (today : ℕ) (a : SummaryReply) : Type 0 where
+  pub number : a .number ≡ 0
+  pub count : a .count ≡ length its
+  pub total : a .total ≡ worths its today
+  pub key : EarliestOf its (a .key)
 
 -- an answer that is neither 3 nor 9
 pub record Sound (n : ℕ) : Type 0 where
@@ -37,6 +51,11 @@ module _ (f : Format) (s : List ℕ) (S : List Item) where
 
   abbrev pub SummaryReads : Type 0
   SummaryReads = Holds f s S → (low high today : ℕ) → high < 2 ^ width f → summaryOf f s low high today ≡ summaryIn S low high today
+
+  abbrev pub SummaryOutright : Type 0
+  SummaryOutright =
+      Holds f s S → (low high today : ℕ) → low ≤ high → high < 2 ^ width f → lawfulDay today ≡ true
+      → Summarised (within low high S) today (summaryOf f s low high today)
 
   abbrev pub FindZero : Type 0
   FindZero = Holds f s S → findReply f s 0 ≡ record { number = 1; item = noItem }

@@ -15,7 +15,7 @@ use Rattle.lists.proofs.ListLaws.{all-map}
 use Rattle.store.specs.declared.Item.{Item}
 use Rattle.totals.specs.declared.Totals.{Totals}
 use Rattle.totals.specs.Totals.{earlier, updatedOf, totalsOf}
-use Rattle.totals.specs.Promises.{NoneLeased, Earliest}
+use Rattle.totals.specs.Promises.{NoneLeased, Earliest, EarliestOf}
 use Rattle.totals.proofs.Laws.{earlier-leased, earlier-before, later-after, updated-taken, updated-kept}
 
 abbrev Leased : Item → Type 0
@@ -27,26 +27,34 @@ record Kept (its : List Item) (t u : Totals) : Type 0 where
   last : u .last ≡ t .last
   later : All (λ it. Leased it → t .last ≤ it .last) its
 
+-- u has the key and the last day of the earliest record.
+record Dated (its : List Item) (u : Totals) : Type 0 where
+  earliest : Earliest its (u .key)
+  last : u .last ≡ earliest .item .last
+
 record Beaten (its : List Item) (t u : Totals) : Type 0 where
-  earliest : Earliest its u
+  dated : Dated its u
   before : u .last < t .last
 
 -- A record in front of others that is leased: the earliest last day is at most its own.
 record Within (it : Item) (its : List Item) (u : Totals) : Type 0 where
-  earliest : Earliest (it ∷ its) u
+  dated : Dated (it ∷ its) u
   within : u .last ≤ it .last
 
 -- a record in front that is perpetual or ends later
-behind : (it : Item) (its : List Item) {u : Totals} → Earliest its u → (Leased it → u .last < it .last) → Earliest (it ∷ its) u
-behind it its e h =
+behind : (it : Item) (its : List Item) {u : Totals} → Dated its u → (Leased it → u .last < it .last) → Dated (it ∷ its) u
+behind it its d h =
+    let e = d .earliest in
     record {
-      item = e .item;
-      held = List·Memᴰ·tail (e .held);
-      leased = e .leased;
-      key = e .key;
-      last = e .last;
-      first = (λ l. omega (arith, h l), e .first);
-      lowest = (λ l q. absurd (omega (arith, h l)), e .lowest);
+      earliest = record {
+        item = e .item;
+        held = List·Memᴰ·tail (e .held);
+        leased = e .leased;
+        key = e .key;
+        first = (λ l. omega (arith, h l, d .last), e .first);
+        lowest = (λ l q. absurd (omega (arith, h l, d .last)), e .lowest);
+      };
+      last = d .last;
     }
 
 module _ (today : ℕ) where
@@ -72,23 +80,25 @@ module _ (today : ℕ) where
         Within it its u
     in-front its e above (inl w) =
         record {
-          earliest = record {
-            item = it;
-            held = List·Memᴰ·head refl;
-            leased = earlier-leased t it e;
-            key = w .key ∙ taken-key e;
+          dated = record {
+            earliest = record {
+              item = it;
+              held = List·Memᴰ·head refl;
+              leased = earlier-leased t it e;
+              key = w .key ∙ taken-key e;
+              first = (λ _. omega arith, rw (taken-last e) at (w .later));
+              lowest = (
+                λ _ _. omega arith,
+                all-map (λ x. it .key < x .key) (λ x. Leased x → x .last ≡ it .last → it .key ≤ x .key) its (λ x h _ _. omega arith) above,
+              );
+            };
             last = w .last ∙ taken-last e;
-            first = (λ _. omega arith, rw (taken-last e) at (w .later));
-            lowest = (
-              λ _ _. omega arith,
-              all-map (λ x. it .key < x .key) (λ x. Leased x → x .last ≡ it .last → it .key ≤ x .key) its (λ x h _ _. omega arith) above,
-            );
           };
           within = omega (arith, w .last, taken-last e);
         }
     in-front its e above (inr b) =
         let before = rw (taken-last e) at (b .before) in
-        record { earliest = behind it its (b .earliest) (λ _. before); within = le-of-lt before }
+        record { dated = behind it its (b .dated) (λ _. before); within = le-of-lt before }
 
     -- a record in front that was not taken
     passed-by :
@@ -105,7 +115,7 @@ module _ (today : ℕ) where
         }
     passed-by its e (inr b) =
         let before = rw (kept-last e) at (b .before) in
-        inr record { earliest = behind it its (b .earliest) (λ l. omega (arith, later-after t it e l .1)); before = before }
+        inr record { dated = behind it its (b .dated) (λ l. omega (arith, later-after t it e l .1)); before = before }
 
   follow :
       (t : Totals) (its : List Item) →
@@ -119,24 +129,25 @@ module _ (today : ℕ) where
       elim (bool-cases (earlier t it)) [
         | inl e ↦
             let f = in-front t it its e (s .0) (follow (updatedOf t it today) its (rw (taken-key t it e) (z .0)) (s .1) (z .1)) in
-            inr record { earliest = f .earliest; before = omega (arith, f .within, earlier-before t it e k) }
+            inr record { dated = f .dated; before = omega (arith, f .within, earlier-before t it e k) }
         | inr e ↦ passed-by t it its e (follow (updatedOf t it today) its (rw (kept-key t it e) k) (s .1) (z .1))
       ]
 
-  pub from-none :
+  -- totals that have no key yet
+  first-key :
       (t : Totals) (its : List Item) →
       t .key ≡ 0 →
       Sorted (λ it. it .key) its →
       Lacks (λ it. it .key) 0 its →
-      NoneLeased its (totalsOf t its today) ⊎ Earliest its (totalsOf t its today)
+      NoneLeased its (totalsOf t its today .key) ⊎ Dated its (totalsOf t its today)
   unfolding totalsOf
-  from-none t [] k s z = inl record { perpetual = tt; key = k }
-  from-none t (it ∷ its) k s z =
+  first-key t [] k s z = inl record { perpetual = tt; key = k }
+  first-key t (it ∷ its) k s z =
       elim (bool-cases (earlier t it)) [
         | inl e ↦
-            inr (in-front t it its e (s .0) (follow (updatedOf t it today) its (rw (taken-key t it e) (z .0)) (s .1) (z .1)) .earliest)
+            inr (in-front t it its e (s .0) (follow (updatedOf t it today) its (rw (taken-key t it e) (z .0)) (s .1) (z .1)) .dated)
         | inr e ↦
-            elim (from-none (updatedOf t it today) its (kept-key t it e ∙ k) (s .1) (z .1)) [
+            elim (first-key (updatedOf t it today) its (kept-key t it e ∙ k) (s .1) (z .1)) [
               | inl n ↦
                   inl
                   record {
@@ -146,3 +157,7 @@ module _ (today : ℕ) where
               | inr b ↦ inr (behind it its b (λ l. absurd (later-after t it e l .0 k)))
             ]
       ]
+
+  pub from-none : (t : Totals) (its : List Item) → t .key ≡ 0 → Sorted (λ it. it .key) its → Lacks (λ it. it .key) 0 its
+      → EarliestOf its (totalsOf t its today .key)
+  from-none t its k s z = elim (first-key t its k s z) [ inl n ↦ inl n | inr d ↦ inr (d .earliest) ]

@@ -2,9 +2,9 @@
 -- `EarliestKey` as `earliest-key`.
 --   worths its today == the balances of the records its together
 --   CountAndTotal    == of a list of records the count is its length and the total its balances together
---   NoneLeased its t == no record of its is leased, and the key of t is 0
---   Earliest its t   == t has the key and the last day of the leased record of its with the earliest last day; of several, that with the
---                       lowest key
+--   NoneLeased its k == no record of its is leased, and k is 0
+--   Earliest its k   == k is the key of the leased record of its with the earliest last day; of several, that with the lowest key
+--   EarliestOf its k == the one or the other
 --   EarliestKey      == of records in ascending key order the key is that of the earliest last day among leased ones, 0 if none is leased
 use mathlib.Core.Path.{_≡_}
 use mathlib.Core.List.{List, [], _∷_, List·Memᴰ}
@@ -14,7 +14,6 @@ use lib.ListN.{length}
 use Rattle.lists.specs.Lists.{All}
 use Rattle.lists.specs.Keyed.{Sorted, Lacks}
 use Rattle.store.specs.declared.Item.{Item}
-use Rattle.totals.specs.declared.Totals.{Totals}
 use Rattle.totals.specs.Totals.{noTotals, worth, totalsOf}
 
 abbrev pub worths : List Item → ℕ → ℕ
@@ -27,24 +26,26 @@ CountAndTotal =
     (its : List Item) (today : ℕ) →
     (totalsOf noTotals its today .count ≡ length its) × (totalsOf noTotals its today .total ≡ worths its today)
 
-pub record NoneLeased (its : List Item) (t : Totals) : Type 0 where
+pub record NoneLeased (its : List Item) (k : ℕ) : Type 0 where
   pub perpetual : All (λ it. it .lease ≡ 0) its
-  pub key : t .key ≡ 0
+  pub key : k ≡ 0
 
-pub record Earliest (its : List Item) (t : Totals) : Type 0 where
+pub record Earliest (its : List Item) (k : ℕ) : Type 0 where
   pub item : Item
   pub held : List·Memᴰ item its
   pub leased : item .lease ≡ 0 → ⊥
-  pub key : t .key ≡ item .key
-  pub last : t .last ≡ item .last
+  pub key : k ≡ item .key
   pub first : All (λ it. (it .lease ≡ 0 → ⊥) → item .last ≤ it .last) its
   pub lowest : All (λ it. (it .lease ≡ 0 → ⊥) → it .last ≡ item .last → item .key ≤ it .key) its
 
 -- "the key of the earliest last day among leased records (lease days above 0, ended ones too), 0 if none. Equal last days: the lowest
 -- key."
+abbrev pub EarliestOf : List Item → ℕ → Type 0
+EarliestOf its k = NoneLeased its k ⊎ Earliest its k
+
 abbrev pub EarliestKey : Type 0
 EarliestKey =
     (its : List Item) (today : ℕ) →
     Sorted (λ it. it .key) its →
     Lacks (λ it. it .key) 0 its →
-    NoneLeased its (totalsOf noTotals its today) ⊎ Earliest its (totalsOf noTotals its today)
+    EarliestOf its (totalsOf noTotals its today .key)
