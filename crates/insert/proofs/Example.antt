@@ -1,6 +1,6 @@
 -- The broken sample store, by one computation.
 use mathlib.Core.Path.{refl}
-use Rattle.plot.specs.Plot.{lawful, word, lawfulTerm, lawfulDay}
+use Rattle.plot.specs.Plot.{lawful, isWord, lawfulTerm, lawfulDay}
 use Rattle.lists.specs.Bits.{bit}
 use Rattle.lists.specs.Lists.{replaced, part, tab, every, greatest}
 use Rattle.lists.specs.Keyed.{contains, insert}
@@ -24,7 +24,8 @@ use Rattle.insert.specs.Enter.{written, planned, wayOf, visited, enterOf
 use Rattle.insert.specs.Example.{NeighbourTested}
 
 pub neighbour-tested : NeighbourTested
-unfolding stored lawful word lawfulTerm lawfulDay bit replaced part tab every greatest contains insert rounds pagesAt bump bumpCost logBelow
+unfolding stored lawful isWord lawfulTerm lawfulDay bit replaced part tab every greatest contains insert rounds pagesAt bump bumpCost
+    logBelow
     levelBound width words zeros headOf nodeWords pageWords size nodeStart pageStart pageAt lawfulSizes lawfulCounts headRule sameRun
     runRule
     goodRuns linkRule pointerLow pointerHigh nodeRule entryNumber itemAt lawfulItem ordered pageRule agrees noSteps damagedNode entryVisit

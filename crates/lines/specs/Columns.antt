@@ -7,6 +7,7 @@
 --   isNumber bs   == the columns bs hold a 32-bit number as document 01 has it
 --   byteAt w n i  == the byte in column i of w columns that hold the number n
 --   column w n    == the number n in w columns
+--   blank, nought == the bytes of a blank and of the digit 0
 use mathlib.Core.Bool.{Bool, true, false, not, _&&_, _||_}
 use mathlib.Core.List.{List, [], _∷_}
 use Prim.Native.Nat.{ℕ, _+_, _-_, _*_, _/_, _%_, _^_}

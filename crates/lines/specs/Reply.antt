@@ -1,6 +1,9 @@
 -- Reply lines. Document 01, "The counter program": "Each reply is kind, answer (2 columns each), four fields."
 --   replyLine r    == the line of a reply, with its byte 0A
 --   written r out  == how many bytes writing gives, and the bytes after it
+--   lineFeed       == the byte 0A hexadecimal
+--   fourFields, summaryFields == the columns behind kind and answer
+--   After          == how many bytes were written, and the buffer after it
 use mathlib.Core.Bool.{true, false}
 use mathlib.Core.List.{List, [], _∷_, _++_}
 use Prim.Native.Nat.{ℕ}

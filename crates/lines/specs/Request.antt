@@ -4,6 +4,7 @@
 --   fieldOf bs j    == the columns of field number j of a line, counted from 0
 --   requestOf kind a b c d == the request that a kind and four fields make
 --   parsed bs       == the request that a line makes
+--   unused, wellFormed == fields that the kind does not use are 0; the columns are plain numbers
 use mathlib.Core.Bool.{Bool, true, false, _&&_}
 use mathlib.Core.List.{List, [], _∷_, _++_}
 use Prim.Native.Nat.{ℕ, zero, suc, _+_, _*_}

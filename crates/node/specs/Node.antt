@@ -9,6 +9,7 @@
 --   linkRule, pointerLow, pointerHigh == what the level says of links and pointers
 --   nodeRule h s b level == a visited node at this level
 --   entryNumber W k used H == the entry that a key takes, after the used bits
+--   sameEntry x y, sameRun e i n == two entries are equal; entries i .. i + n − 1 are as entry i
 use mathlib.Core.Bool.{Bool, true, false, _&&_}
 use mathlib.Core.List.{List}
 use Prim.Native.Nat.{ℕ, _+_, _-_, _*_, _/_, _%_, _^_}

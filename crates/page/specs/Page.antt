@@ -15,6 +15,7 @@
 --   agrees f pg k used    == all keys agree with the key k in its first `used` bits
 --   above strict k x      == the key x is above k, or, if not strict, at or above it
 --   firstAbove f pg strict k == the number of the first record with such a key, or the count where there is none
+--   firstFrom f pg strict k n i == the first such record of n from number i on
 use mathlib.Core.Bool.{Bool, true, false, _&&_}
 use mathlib.Core.List.{List, [], _∷_, _++_}
 use Prim.Native.Nat.{ℕ, zero, suc, _+_, _-_, _*_, _/_, _%_, _^_}

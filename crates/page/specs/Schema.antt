@@ -1,4 +1,5 @@
--- What the tree of a set and the book are to know of a store's records, and how a plot's record and a store's item are tied (`plotOf` is the way back).
+-- What the tree of a set and the book are to know of a store's records, and how a plot's record and a store's item are tied (`plotOf` is
+-- the way back).
 --   keyOf it   == the key of an item
 --   itemOf r   == a plot's record as a store has it
 --   unlawful f == the number that refuses a record outside its limits

@@ -5,7 +5,7 @@ use native.Mathlib.Nat.{mul-zero, zero-div}
 use native.Mathlib.Omega.{arith}
 use lib.Dec.{eqb}
 use borrow.Author.Tests.{ltb-true, eqb-false, not-true}
-use Rattle.plot.specs.Plot.{word, lawful, lawfulTerm}
+use Rattle.plot.specs.Plot.{isWord, lawful, lawfulTerm}
 use Rattle.plot.specs.Label.{pack, sectionOf, rowOf, placeOf}
 use Rattle.plot.specs.Promises.{DaysWithinLease, NoneLeftAtTheEnd, BalanceWithinPrice, LabelKeyLabel, KeyLabelKey, LawfulRecord}
 use Rattle.plot.proofs.Laws.{days-within, days-ended, amount-quotient, amount-within}
@@ -38,9 +38,9 @@ key-label-key k h =
     )
 
 pub lawful-record : LawfulRecord
-unfolding lawful word
+unfolding lawful isWord
 lawful-record r h =
-    let rest = word (r .price) && lawfulTerm (r .lease) (r .last) in
-    let a = and-eq-true-iff (word (r .key)) (not (eqb (r .key) 0) && rest) .0 h in
+    let rest = isWord (r .price) && lawfulTerm (r .lease) (r .last) in
+    let a = and-eq-true-iff (isWord (r .key)) (not (eqb (r .key) 0) && rest) .0 h in
     let b = and-eq-true-iff (not (eqb (r .key) 0)) rest .0 (a .1) in
     (ltb-true (r .key) (2 ^ 32) (a .0), eqb-false (r .key) 0 (not-true (eqb (r .key) 0) (b .0)))

@@ -1,5 +1,5 @@
 -- A plot's record and its limits. Document 01, "Plots and money".
---   word n               == n is a 32-bit number
+--   isWord n             == n is a 32-bit number
 --   largestLease         == 36,525, the longest lease in days
 --   largestDay           == 99,999, the last day number
 --   lawfulDay d          == d is a day number: a last day, or today
@@ -11,8 +11,8 @@ use lib.Dec.{leb, ltb, eqb}
 use Rattle.plot.specs.declared.Record.{Record}
 
 -- "A record is four 32-bit unsigned words: key, price in pence, lease days, last day."
-unfoldable pub word : ℕ → Bool
-word n = ltb n (2 ^ 32)
+unfoldable pub isWord : ℕ → Bool
+isWord n = ltb n (2 ^ 32)
 
 abbrev pub largestLease : ℕ
 largestLease = 36525
@@ -30,4 +30,4 @@ lawfulTerm lease last = elim (eqb lease 0) [ true ↦ eqb last 0 | false ↦ leb
 
 -- "Key 0 is never held." A price is any 32-bit number.
 unfoldable pub lawful : Record → Bool
-lawful r = word (r .key) && (not (eqb (r .key) 0) && (word (r .price) && lawfulTerm (r .lease) (r .last)))
+lawful r = isWord (r .key) && (not (eqb (r .key) 0) && (isWord (r .price) && lawfulTerm (r .lease) (r .last)))

@@ -1,4 +1,5 @@
--- What holds of plots, money and labels, as document 01 has it. `proofs/Promises.antt` proves each: `DaysWithinLease` as `days-within-lease`, and so on.
+-- What holds of plots, money and labels, as document 01 has it. `proofs/Promises.antt` proves each: `DaysWithinLease` as
+-- `days-within-lease`, and so on.
 --   DaysWithinLease    == days left are at most the lease days
 --   NoneLeftAtTheEnd   == at or past the last day no days and no money are left
 --   BalanceWithinPrice == a balance is at most the price

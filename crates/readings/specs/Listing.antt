@@ -19,8 +19,8 @@ use Rattle.totals.specs.Totals.{noTotals, totalsOf}
 use Rattle.search.specs.declared.Sought.{Sought}
 use Rattle.search.specs.declared.Sought.the-variants.{Record, Nothing}
 use Rattle.search.specs.Find.{Reply, soughtReply}
-use Rattle.scan.specs.Range.{Ranged, After, refused, listed}
-use Rattle.scan.specs.Summary.{SummaryReply, done, summingReply}
+use Rattle.scan.specs.Range.{Ranged, After, rangeRefused, listed}
+use Rattle.scan.specs.Summary.{SummaryReply, done, summingReply, summaryRefused}
 
 unfoldable pub firstWhere : (Item → Bool) → List Item → Sought
 firstWhere test [] = Nothing
@@ -49,7 +49,7 @@ rangedIn S low high n = record { ok = true; items = take n (within low high S); 
 unfoldable pub rangeIn : Format → List Item → ℕ → ℕ → List ℕ → After
 rangeIn f S low high out =
     elim (ltb high low) [
-      | true ↦ record { reply = refused 7; words = out }
+      | true ↦ record { reply = rangeRefused 7; words = out }
       | false ↦ listed f out (rangedIn S low high (length out / words f))
     ]
 
@@ -57,10 +57,10 @@ rangeIn f S low high out =
 unfoldable pub summaryIn : List Item → ℕ → ℕ → ℕ → SummaryReply
 summaryIn S low high today =
     elim (ltb high low) [
-      | true ↦ Rattle.scan.specs.Summary.refused 7
+      | true ↦ summaryRefused 7
       | false ↦
           elim (lawfulDay today) [
-            | false ↦ Rattle.scan.specs.Summary.refused 6
+            | false ↦ summaryRefused 6
             | true ↦ summingReply (done (totalsOf noTotals (within low high S) today))
           ]
     ]

@@ -10,7 +10,7 @@ use Rattle.lists.specs.Lists.{part, every}
 use Rattle.tree.specs.Trie.{leaf}
 use Rattle.tree.specs.Tower.{cut, tower}
 use Rattle.tree.specs.Build.{build}
-use Rattle.plot.specs.Plot.{lawful, word, lawfulTerm, lawfulDay}
+use Rattle.plot.specs.Plot.{lawful, isWord, lawfulTerm, lawfulDay}
 use Rattle.store.specs.declared.Format.the-variants.{Plots}
 use Rattle.store.specs.Format.{width, words}
 use Rattle.store.specs.Head.{headOf, zeros, lawfulSizes, size, nodeWords, nodeStart, pageStart, pageWords, pageAt}
@@ -43,7 +43,7 @@ pages-once (suc (suc (suc (suc n)))) p q = absurd (omega arith)
 pub example-holds : ExampleHolds
 unfolding stored headOf zeros lawfulSizes size nodeWords nodeStart pageStart pageWords pageAt part every nodeImage pageImage nodeAt
     itemWords flat
-    lawfulItem lawful word lawfulTerm lawfulDay width words build cut tower bit
+    lawfulItem lawful isWord lawfulTerm lawfulDay width words build cut tower bit
 example-holds =
     record {
       b0 = stretches;

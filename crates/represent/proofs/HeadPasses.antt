@@ -10,7 +10,7 @@ use lib.Dec.{leb}
 use lib.ListN.{length, length-map}
 use lib.Pow.{pow-mono}
 use borrow.Author.Tests.{le-leb}
-use Rattle.tree.specs.Trie.{Trie, leaf, fork, shape, relabel}
+use Rattle.tree.specs.Trie.{Trie, shape}
 use Rattle.tree.specs.Tower.{levels, allLeaves, nodes}
 use Rattle.tree.specs.Build.{build, pages}
 use Rattle.tree.specs.Book.{log2}

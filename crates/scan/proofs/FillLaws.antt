@@ -22,7 +22,7 @@ use Rattle.search.specs.Next.{nextOf}
 use Rattle.scan.specs.declared.Listing.{Listing}
 use Rattle.page.specs.Page.{itemWords, flat}
 use Rattle.page.proofs.Flat.{plot-words, length-flat, flat-last}
-use Rattle.scan.specs.Range.{Ranged, also, rangeFrom, ranged, listing, firsts, refused, listed, rangeOf}
+use Rattle.scan.specs.Range.{Ranged, also, rangeFrom, ranged, listing, firsts, rangeRefused, listed, rangeOf}
 use Rattle.scan.proofs.RangeLaws.{from-damaged, from-nothing, from-passed, from-full, from-last, from-on}
 
 -- the records of a range are the first ones of its walk
@@ -160,12 +160,12 @@ listing-count r e = (rw (e, listing), rw (e, listing))
 
 -- the ways out of range
 module _ (f : Format) (s : List ℕ) (low high : ℕ) (out : List ℕ) where
-  pub range-head : headRule f s ≡ false → (refused 3 ≡ rangeOf f s low high out .reply) × (out ≡ rangeOf f s low high out .words)
+  pub range-head : headRule f s ≡ false → (rangeRefused 3 ≡ rangeOf f s low high out .reply) × (out ≡ rangeOf f s low high out .words)
   unfolding rangeOf
   range-head r = (rw (r, rangeOf), rw (r, rangeOf))
 
   pub range-order : headRule f s ≡ true → high < low
-      → (refused 7 ≡ rangeOf f s low high out .reply) × (out ≡ rangeOf f s low high out .words)
+      → (rangeRefused 7 ≡ rangeOf f s low high out .reply) × (out ≡ rangeOf f s low high out .words)
   unfolding rangeOf
   range-order r o = (rw (r, lt-ltb high low o, rangeOf), rw (r, lt-ltb high low o, rangeOf))
 
@@ -177,7 +177,7 @@ module _ (f : Format) (s : List ℕ) (low high : ℕ) (out : List ℕ) where
   range-given r o = rw (r, le-ltb high low o, rangeOf)
 
   module _ (r : headRule f s ≡ true) (o : low ≤ high) (l : Listing) (e : l ≡ listing R) where
-    pub range-damaged : l .ok ≡ false → (refused 9 ≡ rangeOf f s low high out .reply) × (out ≡ rangeOf f s low high out .words)
+    pub range-damaged : l .ok ≡ false → (rangeRefused 9 ≡ rangeOf f s low high out .reply) × (out ≡ rangeOf f s low high out .words)
     unfolding listed
     range-damaged d =
         let k : R .ok ≡ false = sym (ap (λ (x : Listing). x .ok) e ∙ listing-ok R) ∙ d in

@@ -11,7 +11,7 @@ use Rattle.store.specs.declared.Head.{Head}
 use Rattle.store.specs.Head.{headOf, headRule}
 use Rattle.store.proofs.HeadLaws.{head-facts, levels-within}
 use Rattle.scan.specs.declared.Summing.{Summing}
-use Rattle.scan.specs.Summary.{refused, summed, summingReply, summaryOf}
+use Rattle.scan.specs.Summary.{summaryRefused, summed, summingReply, summaryOf}
 
 -- what a store that keeps the head rule has, as the readings ask it
 pub readable : (f : Format) (s : List ℕ) (h : Head) → h ≡ headOf s → headRule f s ≡ true
@@ -28,15 +28,15 @@ readable f s h e r =
     )
 
 module _ (f : Format) (s : List ℕ) (low high today : ℕ) where
-  pub summary-head : headRule f s ≡ false → refused 3 ≡ summaryOf f s low high today
+  pub summary-head : headRule f s ≡ false → summaryRefused 3 ≡ summaryOf f s low high today
   unfolding summaryOf
   summary-head r = rw (r, summaryOf)
 
-  pub summary-order : headRule f s ≡ true → high < low → refused 7 ≡ summaryOf f s low high today
+  pub summary-order : headRule f s ≡ true → high < low → summaryRefused 7 ≡ summaryOf f s low high today
   unfolding summaryOf
   summary-order r o = rw (r, lt-ltb high low o, summaryOf)
 
-  pub summary-day : headRule f s ≡ true → low ≤ high → lawfulDay today ≡ false → refused 6 ≡ summaryOf f s low high today
+  pub summary-day : headRule f s ≡ true → low ≤ high → lawfulDay today ≡ false → summaryRefused 6 ≡ summaryOf f s low high today
   unfolding summaryOf
   summary-day r o d = rw (r, le-ltb high low o, d, summaryOf)
 
@@ -45,7 +45,7 @@ module _ (f : Format) (s : List ℕ) (low high today : ℕ) where
   unfolding summaryOf
   summary-is r o d t e = ap summingReply e ∙ rw (r, le-ltb high low o, d, summaryOf)
 
-pub summing-bad : (r : Summing) → r .ok ≡ false → refused 9 ≡ summingReply r
+pub summing-bad : (r : Summing) → r .ok ≡ false → summaryRefused 9 ≡ summingReply r
 summing-bad r e = rw e
 
 pub summing-good : (r : Summing) → r .ok ≡ true

@@ -1,7 +1,7 @@
 -- What is promised of range and summary on any words, each as a type; proofs/Promises.antt proves them.
 --   RangeAscends   == a range's records ascend and are from low to high
---   RangeRefusals  == a refused range replies zeros and leaves the output
---   SummaryRefusals == a refused summary replies zeros
+--   RangeRefusals  == a rangeRefused range replies zeros and leaves the output
+--   SummaryRefusals == a rangeRefused summary replies zeros
 use mathlib.Core.Path.{_≡_}
 use mathlib.Core.List.{List}
 use Prim.Native.Nat.{ℕ, _≤_}
@@ -10,7 +10,7 @@ use Rattle.lists.specs.Keyed.{Sorted}
 use Rattle.store.specs.declared.Format.{Format}
 use Rattle.store.specs.declared.Head.{Head}
 use Rattle.store.specs.declared.Item.{Item}
-use Rattle.scan.specs.Range.{ranged, refused, rangeOf}
+use Rattle.scan.specs.Range.{ranged, rangeRefused, rangeOf}
 use Rattle.scan.specs.Summary.{summaryOf}
 
 abbrev pub RangeAscends : Type 0
@@ -22,7 +22,7 @@ RangeAscends =
 abbrev pub RangeRefusals : Type 0
 RangeRefusals =
     (f : Format) (s : List ℕ) (low high : ℕ) (out : List ℕ) → (rangeOf f s low high out .reply .number ≡ 0 → ⊥)
-    → (rangeOf f s low high out .reply ≡ refused (rangeOf f s low high out .reply .number)) × (rangeOf f s low high out .words ≡ out)
+    → (rangeOf f s low high out .reply ≡ rangeRefused (rangeOf f s low high out .reply .number)) × (rangeOf f s low high out .words ≡ out)
 
 abbrev pub SummaryRefusals : Type 0
 SummaryRefusals =

@@ -7,6 +7,9 @@
 --   firsts f s h strict k n == the first n records from the key k on
 --   RangeReply, rangeReply == document 01's number and values for each case of a `RangeAnswer`
 --   rangeOf f s low high out == what range replies and the output words after it
+--   ended, broken, also it r == a range that is over, one that met damage, one with a record in front
+--   rangeRefused n       == the reply of a refusal with the number n
+--   After, listed        == a reply with the output words; what a walk that has ended replies and writes
 use mathlib.Core.Bool.{Bool, true, false}
 use mathlib.Core.List.{List, [], _∷_, _++_}
 use Prim.Native.Nat.{ℕ, zero, suc, _+_, _-_, _*_, _/_}
@@ -93,14 +96,14 @@ pub record RangeReply : Type 0 where
   pub count : ℕ
   pub more : ℕ
 
-abbrev pub refused : ℕ → RangeReply
-refused n = record { number = n; count = 0; more = 0 }
+abbrev pub rangeRefused : ℕ → RangeReply
+rangeRefused n = record { number = n; count = 0; more = 0 }
 
 abbrev pub rangeReply : RangeAnswer → RangeReply
 rangeReply (Listed n k) = record { number = 0; count = n; more = k }
-rangeReply RangeHeadBroken = refused 3
-rangeReply LowAboveHigh = refused 7
-rangeReply RangeDamaged = refused 9
+rangeReply RangeHeadBroken = rangeRefused 3
+rangeReply LowAboveHigh = rangeRefused 7
+rangeReply RangeDamaged = rangeRefused 9
 
 pub record After : Type 0 where
   pub reply : RangeReply
@@ -111,7 +114,7 @@ pub record After : Type 0 where
 unfoldable pub listed : Format → List ℕ → Ranged → After
 listed f out r =
     elim (r .ok) [
-      | false ↦ record { reply = refused 9; words = out }
+      | false ↦ record { reply = rangeRefused 9; words = out }
       | true ↦
           record {
             reply = record { number = 0; count = length (r .items); more = r .more };
@@ -123,10 +126,10 @@ listed f out r =
 unfoldable pub rangeOf : Format → List ℕ → ℕ → ℕ → List ℕ → After
 rangeOf f s low high out =
     elim (headRule f s) [
-      | false ↦ record { reply = refused 3; words = out }
+      | false ↦ record { reply = rangeRefused 3; words = out }
       | true ↦
           elim (ltb high low) [
-            | true ↦ record { reply = refused 7; words = out }
+            | true ↦ record { reply = rangeRefused 7; words = out }
             | false ↦ listed f out (ranged f s (headOf s) low high (length out / words f))
           ]
     ]

@@ -5,6 +5,8 @@
 --   summed f s h low high today == the totals from low to high
 --   SummaryReply, summaryReply == document 01's number and values for each case of a `SummaryAnswer`
 --   summaryOf f s low high today == what summary is to reply
+--   summaryRefused n     == the reply of a refusal with the number n
+--   summingReply r       == the reply to a walk that has ended
 use mathlib.Core.Bool.{Bool, true, false}
 use mathlib.Core.List.{List}
 use Prim.Native.Nat.{ℕ, zero, suc, _+_, _-_}
@@ -59,34 +61,34 @@ pub record SummaryReply : Type 0 where
   pub total : ℕ
   pub key : ℕ
 
-abbrev pub refused : ℕ → SummaryReply
-refused n = record { number = n; count = 0; total = 0; key = 0 }
+abbrev pub summaryRefused : ℕ → SummaryReply
+summaryRefused n = record { number = n; count = 0; total = 0; key = 0 }
 
 abbrev pub summaryReply : SummaryAnswer → SummaryReply
 summaryReply (Summed n t k) = record { number = 0; count = n; total = t; key = k }
-summaryReply SummaryHeadBroken = refused 3
-summaryReply SummaryLowAboveHigh = refused 7
-summaryReply TodayOutside = refused 6
-summaryReply SummaryDamaged = refused 9
+summaryReply SummaryHeadBroken = summaryRefused 3
+summaryReply SummaryLowAboveHigh = summaryRefused 7
+summaryReply TodayOutside = summaryRefused 6
+summaryReply SummaryDamaged = summaryRefused 9
 
 abbrev pub summingReply : Summing → SummaryReply
 summingReply r =
     elim (r .ok) [
       | true ↦ record { number = 0; count = r .totals .count; total = r .totals .total; key = r .totals .key }
-      | false ↦ refused 9
+      | false ↦ summaryRefused 9
     ]
 
 -- "the others 3, 7, 6, then 9, 8, 10"
 unfoldable pub summaryOf : Format → List ℕ → ℕ → ℕ → ℕ → SummaryReply
 summaryOf f s low high today =
     elim (headRule f s) [
-      | false ↦ refused 3
+      | false ↦ summaryRefused 3
       | true ↦
           elim (ltb high low) [
-            | true ↦ refused 7
+            | true ↦ summaryRefused 7
             | false ↦
                 elim (lawfulDay today) [
-                  | false ↦ refused 6
+                  | false ↦ summaryRefused 6
                   | true ↦ summingReply (summed f s (headOf s) low high today)
                 ]
           ]

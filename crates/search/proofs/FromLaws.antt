@@ -8,7 +8,7 @@ use borrow.Author.Tests.{lt-ltb, le-ltb, eq-eqb, ne-eqb}
 use Rattle.store.specs.declared.Format.{Format}
 use Rattle.store.specs.declared.Head.{Head}
 use Rattle.store.specs.declared.Item.{Item}
-use Rattle.store.specs.Head.{nodeStart, pageAt}
+use Rattle.store.specs.Head.{nodeStart}
 use Rattle.node.specs.Node.{depthWord}
 use Rattle.node.proofs.NodeLaws.{node-facts}
 use Rattle.page.specs.Page.{count, itemAt, firstAbove}

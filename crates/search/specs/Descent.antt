@@ -3,7 +3,11 @@
 --   lost                         == a descent that met damage
 --   descend f s h k level n used steps == the way of the key k from node n of this level down to its page, with the steps on it
 --   descent f s h k              == the same from the root
--- A step is the node, the key's entry number in it, that entry's local depth, and the bits used before the node; the step of level l stands at
+--   noStep, noSteps              == a step not taken; a path before its first step
+--   damagedNode, entryVisit s b i == what a visit gives: damage, or entry i of the node block at b
+--   stepTaken steps l n used v   == the path with the step of level l + 1
+-- A step is the node, the key's entry number in it, that entry's local depth, and the bits used before the node; the step of level l
+-- stands at
 -- l − 1 of the 32 steps.
 use mathlib.Core.Bool.{true, false, _&&_}
 use mathlib.Core.List.{List}

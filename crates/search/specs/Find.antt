@@ -4,6 +4,8 @@
 --   findOf f s h k          == find in a store that keeps the head rule
 --   Reply, reply            == document 01's number and values for each case of an answer
 --   findReply f s k         == what find is to reply
+--   noItem                  == zeros: the item of a reply that has none
+--   soughtReply, checked f s a == the reply for what was sought; the same behind the head rule
 use mathlib.Core.Bool.{Bool, true, false, _&&_}
 use mathlib.Core.List.{List}
 use Prim.Native.Nat.{ℕ}

@@ -1,6 +1,7 @@
 -- Next. Document 01, "Reading": "Next gives the smallest key above the given one, passing null entries and forward links, or none."
 -- With strict false: at or above, which is how a range begins.
---   firstPointer s b H n i     == the first pointer that is not null, from entry i on, in the node block at b of depth H; 0 if none; at most n runs
+--   firstPointer s b H n i == the first pointer that is not null, from entry i on, in the node block at b of depth H; 0 if none; at most
+--     n runs
 --   runAfter H h i             == where the run after that of entry i starts, in a node of depth H, if entry i has the local depth h
 --   visitAfter f s h strict k p == what page p gives, read after the sought key's own: its first record
 --   linked h s m n             == node m, reached by a forward link, is a level-1 node that links back to n
@@ -8,6 +9,9 @@
 --   follow f s h strict k turns n i == the answer from entry i of node n on
 --   nextOf f s h strict k      == next in a store that keeps the head rule
 --   nextReply f s k            == what next is to reply
+--   onward h s n left          == the node behind n, with so many links left, or an end
+--   afterOwn f s h strict k t  == the answer behind the run of the terminal step t
+--   fromDescent f s h strict k d == the answer at the end of the descent d
 use mathlib.Core.Bool.{Bool, true, false, _&&_}
 use mathlib.Core.List.{List}
 use Prim.Native.Nat.{ℕ, zero, suc, _+_, _-_, _%_, _^_}
@@ -63,7 +67,8 @@ onward h s n left =
       | false ↦
           elim (eqb left 0) [
             | true ↦ Ends Damaged
-            | false ↦ elim (linked h s (forwardWord s (nodeStart h n)) n) [ true ↦ On (forwardWord s (nodeStart h n)) | false ↦ Ends Damaged ]
+            | false ↦
+                elim (linked h s (forwardWord s (nodeStart h n)) n) [ true ↦ On (forwardWord s (nodeStart h n)) | false ↦ Ends Damaged ]
           ]
     ]
 

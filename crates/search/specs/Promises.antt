@@ -16,7 +16,8 @@ use Rattle.search.specs.Next.{nextOf}
 
 abbrev pub NextAbove : Type 0
 NextAbove =
-    (f : Format) (s : List ℕ) (h : Head) (strict : Bool) (k : ℕ) (it : Item) → nextOf f s h strict k ≡ Record it → above strict k (it .key) ≡ true
+    (f : Format) (s : List ℕ) (h : Head) (strict : Bool) (k : ℕ) (it : Item) → nextOf f s h strict k ≡ Record it
+    → above strict k (it .key) ≡ true
 
 -- (find and next reply `checked f s a`, with what was sought as a)
 abbrev pub FindRefusals : Type 0

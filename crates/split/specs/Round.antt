@@ -9,7 +9,8 @@
 --   Rounded            == the same, and s′ has a directory
 --   Place               == a node on the way of a key, the bits of the key that are left there, and the local depth of its run
 --   placeAt u b k       == the step of the key k at the level b over u; pathOf u bs k: at the levels bs over u, lowest first
---   putBoth, relink, oneMoreTaken == two blocks written, the second at the next unused number; a back link; the head with one node more taken
+--   putBoth, relink, oneMoreTaken == two blocks written, the second at the next unused number; a back link; the head with one node more
+--     taken
 --   grown, splitNode, splitFirst, newRoot == one level of a climb: the node has room; it splits; it splits at level 1; a root is put above
 --   climb θ s path a c == the runs of a path halved, a and c the pointers of the lowest two halves, as far up as nodes split
 --   round θ s path a c == the same from level 1

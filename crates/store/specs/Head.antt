@@ -10,6 +10,8 @@
 --   pageAt f s h p     == the words of page block p
 --   lawfulSizes θ C N P == θ, C, N and P within their limits
 --   headRule f s       == the head rule
+--   largestTheta, largestCapacity, largestBlocks == document 01's limits
+--   lawfulCounts f h   == the counts, the root and the levels of a head within their limits
 use mathlib.Core.Bool.{Bool, _&&_}
 use mathlib.Core.List.{List}
 use Prim.Native.Nat.{ℕ, _+_, _-_, _*_, _^_}
@@ -80,11 +82,13 @@ lawfulSizes θ C N P =
 -- "nodes taken is 1 to N, pages taken 0 to P, root is a taken node, and levels is 1 to L."
 unfoldable pub lawfulCounts : Format → Head → Bool
 lawfulCounts f h =
-    leb 1 (h .nodesTaken) && leb (h .nodesTaken) (h .nodeBlocks) && leb (h .pagesTaken) (h .pageBlocks) && leb 1 (h .root) && leb (h .root) (h .nodesTaken)
+    leb 1 (h .nodesTaken) && leb (h .nodesTaken) (h .nodeBlocks) && leb (h .pagesTaken) (h .pageBlocks) && leb 1 (h .root)
+    && leb (h .root) (h .nodesTaken)
     && leb 1 (h .levels) && leb (h .levels) (levelBound (width f) (h .theta) (h .capacity))
 
 -- "Head rule: the limits and the eight zeros above hold, the slice has the size, .."
 unfoldable pub headRule : Format → List ℕ → Bool
 headRule f s =
     lawfulSizes (headOf s .theta) (headOf s .capacity) (headOf s .nodeBlocks) (headOf s .pageBlocks) && zeros s 8 8
-    && leb (size f (headOf s .theta) (headOf s .capacity) (headOf s .nodeBlocks) (headOf s .pageBlocks)) (length s) && lawfulCounts f (headOf s)
+    && leb (size f (headOf s .theta) (headOf s .capacity) (headOf s .nodeBlocks) (headOf s .pageBlocks)) (length s)
+    && lawfulCounts f (headOf s)

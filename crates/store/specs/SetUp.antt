@@ -3,6 +3,7 @@
 --   marked s θ C N P      == s with the words of such a store that are not 0
 --   Reply, reply          == document 01's number and value for each case of a `SetUpAnswer`
 --   setUp f θ C N P s     == what set-up replies and the words after it
+--   After                 == a reply, and the words after it
 use mathlib.Core.Bool.{true, false}
 use mathlib.Core.List.{List, _∷_, _++_}
 use Prim.Native.Nat.{ℕ, _-_}

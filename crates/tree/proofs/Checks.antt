@@ -1,7 +1,7 @@
 -- The desk checks hold: antt computes each row of the table.
 use mathlib.Core.Path.{_≡_, refl}
 use mathlib.Core.Bool.{true}
-use Rattle.plot.specs.Plot.{lawful, word, lawfulTerm, lawfulDay}
+use Rattle.plot.specs.Plot.{lawful, isWord, lawfulTerm, lawfulDay}
 use Rattle.plot.specs.Money.{daysLeft, amount, balanceReply}
 use Rattle.plot.specs.Label.{lawfulLabel, pack, keyOfReply}
 use Rattle.lists.specs.Bits.{bit}
@@ -13,6 +13,6 @@ use Rattle.tree.specs.Book.{fits, entered, book, logBelow, levelBound}
 use Rattle.tree.specs.Checks.{holds, table}
 
 pub checks : all holds table ≡ true
-unfolding holds table lawful word lawfulTerm lawfulDay daysLeft amount balanceReply lawfulLabel pack keyOfReply bit contains insert cut
+unfolding holds table lawful isWord lawfulTerm lawfulDay daysLeft amount balanceReply lawfulLabel pack keyOfReply bit contains insert cut
     tower build fits entered book logBelow levelBound
 checks = refl

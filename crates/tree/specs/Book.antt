@@ -13,6 +13,9 @@
 --   Narrow F         == every lawful key fits the key width
 --   log2 C           == the largest f with 2^f ≤ C
 --   levelBound W θ C == document 01's L
+--   refused n        == the reply of a refusal with the number n
+--   Entered, Booked  == a reply or replies, with the records held after them
+--   logBelow n C     == the largest f ≤ n with 2^f ≤ C
 use mathlib.Core.Path.{_≡_}
 use mathlib.Core.Bool.{Bool, true, false, not, _&&_}
 use mathlib.Core.List.{List, [], _∷_}

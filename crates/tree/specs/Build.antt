@@ -10,6 +10,7 @@
 --   put w r t        == r put in order into the leaf at its key
 --   roundsAt C w k t == the number of rounds that make room at the key: 0 unless the leaf is full
 --   pagesAt C ls     == the pages that a record more takes where the leaf at its key holds ls: 1 if that is empty or full, else 0
+--   same a b      == the two bits are the same
 use mathlib.Core.Bool.{Bool, true, false, not}
 use mathlib.Core.List.{List, [], _∷_}
 use Prim.Native.Nat.{ℕ, zero, suc, _+_, _-_}

@@ -9,6 +9,7 @@
 --   AnyOrder        == a set that fits is accepted in every order, and ends in the same list
 --   LevelsWithin    == Levels ≤ L
 --   BookKeeps       == the records in the book ascend, are lawful, and their tree fits
+--   Insertion       == Inserted, for every record whose key is new
 use mathlib.Core.Path.{_≡_}
 use mathlib.Core.Bool.{true}
 use mathlib.Core.List.{List, [], _∷_, Sublistᴰ, List·Permᴰ}

@@ -6,6 +6,8 @@
 --   nodes θ t    == the number of nodes: a node for each stretch of the levels 1 to Levels
 --   Tall θ b t   == b has a leaf only over at most θ bits of t, and a fork only over more
 --   Canonical θ t bs == each level of bs is tall over the one below (t first), none but the last is one stretch, and the last is
+--   allLeaves bs == the leaves of all levels together
+--   IsFork b, Topped b bs == b is more than one stretch; b is one stretch just if no level is above it
 use mathlib.Core.Bool.{true, false}
 use mathlib.Core.List.{List, [], _∷_}
 use mathlib.Core.Path.{_≡_}

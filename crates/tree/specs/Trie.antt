@@ -13,6 +13,7 @@
 --   graft t k c  == t with the leaf at the key replaced by the trie c
 --   pair x y     == a fork of two leaves
 --   split t k    == the shape t with the leaf at the key halved
+--   Key          == the bits of a key, high bit first
 use mathlib.Core.Bool.{Bool, true, false}
 use mathlib.Core.List.{List, [], _∷_, _++_}
 use Prim.Native.Nat.{ℕ, suc, _+_, max}

@@ -5,7 +5,7 @@ use borrow.Author.Tests.{eq-eqb, ne-eqb, lt-ltb}
 use mathlib.Core.Bool.{and-false}
 use Prim.Native.Nat.{_^_}
 use native.Mathlib.Omega.{arith}
-use Rattle.plot.specs.Plot.{word, lawful}
+use Rattle.plot.specs.Plot.{isWord, lawful}
 use Rattle.plot.proofs.lawful_record.Statement.{statement}
 use Rattle.plot.proofs.lawful_record.Tie as tie
 
@@ -17,7 +17,7 @@ lawful-term-requires : tie.Need-lawful-term-requires
 lawful-term-requires c κs = search needs
 
 returns-2 : tie.Need-returns-2
-unfolding lawful word
+unfolding lawful isWord
 returns-2 c =
     let r = c .before .before .before .args .«record» in
     simp (lt-ltb (r .key) (2 ^ 32) (search needs), ne-eqb (r .key) 0 (omega arith), lt-ltb (r .price) (2 ^ 32) (search needs))
