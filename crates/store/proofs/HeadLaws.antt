@@ -7,7 +7,7 @@ use native.Mathlib.Nat.{div-le-of-le-mul}
 use native.Mathlib.Omega.{arith}
 use lib.Dec.{leb}
 use lib.ListN.{length, take, drop}
-use borrow.Author.Tests.{leb-true}
+use borrow.Author.Tests.{leb-true, le-leb}
 use Rattle.lists.proofs.Parts.{part-in, part-out}
 use Rattle.lists.proofs.Tests.{and-true}
 use Rattle.tree.specs.Book.{log2, levelBound}
@@ -15,7 +15,8 @@ use Rattle.store.specs.declared.Format.{Format}
 use Rattle.store.specs.declared.Format.the-variants.{Plots}
 use Rattle.store.specs.declared.Head.{Head}
 use Rattle.store.specs.Format.{width, words}
-use Rattle.store.specs.Head.{word, zeros, headOf, nodeWords, pageWords, size, nodeStart, pageStart, pageAt, lawfulSizes, lawfulCounts, headRule}
+use Rattle.store.specs.Head.{word, zeros, headOf, nodeWords, pageWords, size, nodeStart, pageStart, pageAt}
+use Rattle.store.specs.Head.{lawfulSizes, lawfulCounts, headRule}
 
 -- what the code computes is what the definitions name
 pub level-bound-is : (w l W θ C : ℕ) → w ≡ W → l ≡ log2 C → (w - l + (θ - 1)) / θ ≡ levelBound W θ C
@@ -26,7 +27,8 @@ pub page-words-is : (f : Format) (a b C : ℕ) → a ≡ words f → b ≡ C →
 unfolding pageWords
 page-words-is f a b C p q = rw (p, q)
 
-pub size-is : (f : Format) (θ C N P a b c d : ℕ) → a ≡ N → b ≡ nodeWords θ → c ≡ P → d ≡ pageWords f C → 16 + a * b + c * d ≡ size f θ C N P
+pub size-is : (f : Format) (θ C N P a b c d : ℕ) → a ≡ N → b ≡ nodeWords θ → c ≡ P → d ≡ pageWords f C
+    → 16 + a * b + c * d ≡ size f θ C N P
 unfolding size
 size-is f θ C N P a b c d p q r t = rw (p, q, r, t)
 
@@ -34,25 +36,27 @@ pub node-start-is : (h : Head) (n a b : ℕ) → a ≡ n - 1 → b ≡ nodeWords
 unfolding nodeStart
 node-start-is h n a b p q = rw (p, q)
 
-pub page-start-is : (f : Format) (h : Head) (p a b c d : ℕ) → a ≡ h .nodeBlocks → b ≡ nodeWords (h .theta) → c ≡ p - 1 → d ≡ pageWords f (h .capacity)
-    → 16 + a * b + c * d ≡ pageStart f h p
+pub page-start-is : (f : Format) (h : Head) (p a b c d : ℕ) → a ≡ h .nodeBlocks → b ≡ nodeWords (h .theta)
+    → c ≡ p - 1 → d ≡ pageWords f (h .capacity) → 16 + a * b + c * d ≡ pageStart f h p
 unfolding pageStart
 page-start-is f h p a b c d i j k l = rw (i, j, k, l)
 
-pub head-is : (s : List ℕ) (a b c d e g i j : ℕ) → a ≡ word s 0 → b ≡ word s 1 → c ≡ word s 2 → d ≡ word s 3 → e ≡ word s 4 → g ≡ word s 5 → i ≡ word s 6 → j ≡ word s 7
+pub head-is : (s : List ℕ) (a b c d e g i j : ℕ) → a ≡ word s 0 → b ≡ word s 1 → c ≡ word s 2 → d ≡ word s 3
+    → e ≡ word s 4 → g ≡ word s 5 → i ≡ word s 6 → j ≡ word s 7
     → record { theta = a; capacity = b; nodeBlocks = c; pageBlocks = d; nodesTaken = e; pagesTaken = g; root = i; levels = j } ≡ headOf s
 unfolding headOf
 head-is s a b c d e g i j p q r t u v w x = rw (p, q, r, t, u, v, w, x)
 
-pub counts-are : (f : Format) (h : Head) (a b c d e g i : Bool)
-    → a ≡ leb 1 (h .nodesTaken) → b ≡ leb (h .nodesTaken) (h .nodeBlocks) → c ≡ leb (h .pagesTaken) (h .pageBlocks) → d ≡ leb 1 (h .root) → e ≡ leb (h .root) (h .nodesTaken)
-    → g ≡ leb 1 (h .levels) → i ≡ leb (h .levels) (levelBound (width f) (h .theta) (h .capacity)) → (a && b && c && d && e && g && i) ≡ lawfulCounts f h
+pub counts-are : (f : Format) (h : Head) (a b c d e g i : Bool) → a ≡ leb 1 (h .nodesTaken) → b ≡ leb (h .nodesTaken) (h .nodeBlocks)
+    → c ≡ leb (h .pagesTaken) (h .pageBlocks) → d ≡ leb 1 (h .root) → e ≡ leb (h .root) (h .nodesTaken) → g ≡ leb 1 (h .levels)
+    → i ≡ leb (h .levels) (levelBound (width f) (h .theta) (h .capacity)) → (a && b && c && d && e && g && i) ≡ lawfulCounts f h
 unfolding lawfulCounts
 counts-are f h a b c d e g i p q r t u v w = rw (p, q, r, t, u, v, w)
 
 pub rule-is : (f : Format) (s : List ℕ) (h : Head) (a b c d : Bool) → h ≡ headOf s
     → a ≡ lawfulSizes (h .theta) (h .capacity) (h .nodeBlocks) (h .pageBlocks) → b ≡ zeros s 8 8
-    → c ≡ leb (size f (h .theta) (h .capacity) (h .nodeBlocks) (h .pageBlocks)) (length s) → d ≡ lawfulCounts f h → (a && b && c && d) ≡ headRule f s
+    → c ≡ leb (size f (h .theta) (h .capacity) (h .nodeBlocks) (h .pageBlocks)) (length s) → d ≡ lawfulCounts f h
+    → (a && b && c && d) ≡ headRule f s
 unfolding headRule
 rule-is f s h a b c d e p q r t = rw (p, q, r, t, e)
 
@@ -87,6 +91,14 @@ sizes-limits θ C N P e =
       pages-low = leb-true _ _ (b .1);
       pages = leb-true _ _ (a .1);
     }
+
+-- where all tests but the last hold, the last decides
+pub sizes-last : (θ C N P : ℕ) → (1 ≤ θ) × (θ ≤ 6) × (1 ≤ C) × (C ≤ 64) × (1 ≤ N) × (N ≤ 4096) × (1 ≤ P)
+    → leb P 4096 ≡ lawfulSizes θ C N P
+unfolding lawfulSizes
+sizes-last θ C N P l =
+    simp
+    (le-leb _ _ (l .0), le-leb _ _ (l .1), le-leb _ _ (l .2), le-leb _ _ (l .3), le-leb _ _ (l .4), le-leb _ _ (l .5), le-leb _ _ (l .6))
 
 pub width-within : (f : Format) → width f ≤ 64
 unfolding width
@@ -125,6 +137,13 @@ counts-facts f h e =
       levels = leb-true _ _ (a .1);
     }
 
+pub counts-last : (f : Format) (h : Head) (l : ℕ) → (1 ≤ h .nodesTaken) × (h .nodesTaken ≤ h .nodeBlocks)
+    × (h .pagesTaken ≤ h .pageBlocks) × (1 ≤ h .root) × (h .root ≤ h .nodesTaken) × (1 ≤ h .levels)
+    → l ≡ levelBound (width f) (h .theta) (h .capacity) → leb (h .levels) l ≡ lawfulCounts f h
+unfolding lawfulCounts
+counts-last f h l t e =
+    simp (le-leb _ _ (t .0), le-leb _ _ (t .1), le-leb _ _ (t .2), le-leb _ _ (t .3), le-leb _ _ (t .4), le-leb _ _ (t .5), e)
+
 -- what a store that keeps the head rule has
 pub record Headed (f : Format) (s : List ℕ) : Type 0 where
   pub limits : Limits (headOf s .theta) (headOf s .capacity) (headOf s .nodeBlocks) (headOf s .pageBlocks)
@@ -139,13 +158,14 @@ head-facts f s e =
     let c = and-true _ _ (b .0) in
     record { limits = sizes-limits _ _ _ _ (c .0); counts = counts-facts f (headOf s) (a .1); room = leb-true _ _ (b .1) }
 
-pub page-given : (f : Format) (s : List ℕ) (h : Head) (p a w : ℕ) → a ≡ pageStart f h p → w ≡ pageWords f (h .capacity) → a + w ≤ length s
-    → take (a + w - a) (drop a s) ≡ pageAt f s h p
+pub page-given : (f : Format) (s : List ℕ) (h : Head) (p a w : ℕ) → a ≡ pageStart f h p → w ≡ pageWords f (h .capacity)
+    → a + w ≤ length s → take (a + w - a) (drop a s) ≡ pageAt f s h p
 unfolding pageAt
 page-given f s h p a w i j l =
     let e : a + w - a ≡ w = omega arith in
     rw (e, ← i, ← j) (sym (part-in s a w l))
 
-pub page-none : (f : Format) (s : List ℕ) (h : Head) (p a w : ℕ) → a ≡ pageStart f h p → w ≡ pageWords f (h .capacity) → length s < a + w → [] ≡ pageAt f s h p
+pub page-none : (f : Format) (s : List ℕ) (h : Head) (p a w : ℕ) → a ≡ pageStart f h p → w ≡ pageWords f (h .capacity)
+    → length s < a + w → [] ≡ pageAt f s h p
 unfolding pageAt
 page-none f s h p a w i j l = rw (← i, ← j) (sym (part-out s a w l))

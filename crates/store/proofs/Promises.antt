@@ -11,8 +11,7 @@ use Rattle.store.specs.declared.Format.{Format}
 use Rattle.store.specs.Head.{size, lawfulSizes}
 use Rattle.store.specs.SetUp.{setUpWords, setUp}
 use Rattle.store.specs.Promises.{SetUpRefusals, BeyondStays}
-use Rattle.store.proofs.HeadLaws.{sizes-limits}
-use Rattle.store.proofs.SetUpLaws.{size-low}
+use Rattle.store.proofs.SetUpLaws.{at-least}
 
 pub set-up-refusals : SetUpRefusals
 unfolding setUp
@@ -40,6 +39,7 @@ beyond-stays f θ C N P s =
             | inr b ↦ rw (a, b, setUp)
             | inl b ↦
                 rw (a, b, setUp)
-                (drop-at (setUpWords f θ C N P) (drop (size f θ C N P) s) (size f θ C N P) (length-set-up f θ C N P (omega (arith, size-low f θ C N P (sizes-limits θ C N P a)))))
+                (drop-at (setUpWords f θ C N P) (drop (size f θ C N P) s) (size f θ C N P)
+                (length-set-up f θ C N P (at-least f θ C N P _ refl a)))
           ]
     ]

@@ -31,13 +31,23 @@ loop-less : tie.Need-loop-less Inv-loop μ-loop
 loop-less c = search needs
 
 loop-again : tie.Need-loop-again Inv-loop μ-loop
-loop-again c = (search needs, search needs, simp length-set (c .before .loop .inv .2), rw (c .before .loop .inv .3) (fill-more (c .before .loop .i) 0 (c .before .before .args .part .now) (omega arith)))
+loop-again c =
+    let l = c .before .loop in (
+      search needs,
+      search needs,
+      simp length-set (l .inv .2),
+      rw (l .inv .3) (fill-more (l .i) 0 (c .before .before .args .part .now) (omega arith)),
+    )
 
 same-length : tie.Need-same-length Inv-loop μ-loop
 same-length c = c .before .loop .inv .2
 
 returns : tie.Need-returns Inv-loop μ-loop
-returns c = let l = c .before .loop in let s = c .before .before .args .part .now in let e : l .i ≡ length s = omega arith in l .inv .3 ∙ rw (e, drop-of-length-le s {i = length s} (omega arith)) (append-nil _)
+returns c =
+    let l = c .before .loop in
+    let s = c .before .before .args .part .now in
+    let e : l .i ≡ length s = omega arith in
+    l .inv .3 ∙ rw (e, drop-of-length-le s {i = length s} (omega arith)) (append-nil _)
 
 pub clear-spec : {M : Type 1} → statement M
 clear-spec =

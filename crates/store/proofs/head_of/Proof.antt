@@ -29,7 +29,11 @@ word-requires-8 : tie.Need-word-requires-8
 word-requires-8 c κs = search needs
 
 returns : tie.Need-returns
-returns c = head-is _ _ _ _ _ _ _ _ _ (c .before .before .before .before .before .before .before .word .ensures) (c .before .before .before .before .before .before .word2 .ensures) (c .before .before .before .before .before .word3 .ensures) (c .before .before .before .before .word4 .ensures) (c .before .before .before .word5 .ensures) (c .before .before .word6 .ensures) (c .before .word7 .ensures) (c .word8 .ensures)
+returns c =
+    let p = c .before .before .before in
+    let q = p .before .before .before in
+    head-is _ _ _ _ _ _ _ _ _ (q .before .word .ensures) (q .word2 .ensures) (p .before .before .word3 .ensures) (p .before .word4 .ensures)
+    (p .word5 .ensures) (c .before .before .word6 .ensures) (c .before .word7 .ensures) (c .word8 .ensures)
 
 pub head-of-spec : {M : Type 1} → statement M
 head-of-spec =

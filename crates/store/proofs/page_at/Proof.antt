@@ -26,7 +26,9 @@ part-result-end : tie.Need-part-result-end
 part-result-end c = search needs
 
 returns : tie.Need-returns
-returns c = page-given _ _ _ _ _ _ (c .before .before .before .page-start .ensures .0) (c .before .before .page-words .ensures .0) (c .before .if1 .taken)
+returns c =
+    let p = c .before .before in
+    page-given _ _ _ _ _ _ (p .before .page-start .ensures .0) (p .page-words .ensures .0) (c .before .if1 .taken)
 
 sub-result-2 : tie.Need-sub-result-2
 sub-result-2 c = search needs
@@ -38,7 +40,9 @@ part-result-end-2 : tie.Need-part-result-end-2
 part-result-end-2 c = search needs
 
 returns-2 : tie.Need-returns-2
-returns-2 c = page-none _ _ _ _ _ _ (c .before .before .before .page-start .ensures .0) (c .before .before .page-words .ensures .0) (c .before .if1 .left)
+returns-2 c =
+    let p = c .before .before in
+    page-none _ _ _ _ _ _ (p .before .page-start .ensures .0) (p .page-words .ensures .0) (c .before .if1 .left)
 
 pub page-at-spec : {M : Type 1} → statement M
 page-at-spec =

@@ -38,7 +38,12 @@ add-result-2 : tie.Need-add-result-2
 add-result-2 c = omega (arith, nodes (c .before .before), pages c)
 
 returns : tie.Need-returns
-returns c = (page-start-is _ _ _ _ _ _ _ (c .before .before .before .to-index .ensures .0) (c .before .before .node-words .ensures .0) (c .before .from-zero .ensures .0) (c .page-words .ensures .0), omega (arith, nodes (c .before .before), pages c))
+returns c =
+    let p = c .before .before in (
+      page-start-is _ _ _ _ _ _ _ (p .before .to-index .ensures .0) (p .node-words .ensures .0) (c .before .from-zero .ensures .0)
+          (c .page-words .ensures .0),
+      omega (arith, nodes p, pages c),
+    )
 
 pub page-start-spec : {M : Type 1} → statement M
 page-start-spec =

@@ -38,7 +38,12 @@ add-result-2 : tie.Need-add-result-2
 add-result-2 c = omega (arith, nodes (c .before .before), pages c)
 
 returns : tie.Need-returns
-returns c = (size-is _ _ _ _ _ _ _ _ _ (c .before .before .before .to-index .ensures .0) (c .before .before .node-words .ensures .0) (c .before .to-index2 .ensures .0) (c .page-words .ensures .0), omega (arith, nodes (c .before .before), pages c))
+returns c =
+    let p = c .before .before in (
+      size-is _ _ _ _ _ _ _ _ _ (p .before .to-index .ensures .0) (p .node-words .ensures .0) (c .before .to-index2 .ensures .0)
+          (c .page-words .ensures .0),
+      omega (arith, nodes p, pages c),
+    )
 
 pub size-of-spec : {M : Type 1} → statement M
 size-of-spec =

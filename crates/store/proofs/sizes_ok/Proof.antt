@@ -1,40 +1,34 @@
--- Test by test.
-use borrow.Author.Tests.{le-leb, lt-leb}
-use Rattle.store.specs.Head.{lawfulSizes}
+-- A test that fails breaks the rule; where seven hold, the rule is the last.
+use borrow.Author.Needs.{needs}
+use native.Mathlib.Omega.{arith}
+use Rattle.lists.proofs.Tests.{untrue}
+use Rattle.store.proofs.HeadLaws.{sizes-limits, sizes-last}
 use Rattle.store.proofs.sizes_ok.Statement.{statement}
 use Rattle.store.proofs.sizes_ok.Tie as tie
 
 returns : tie.Need-returns
-unfolding lawfulSizes
-returns c = simp (lt-leb _ _ (c .if1 .taken))
+returns c = untrue (λ e. omega (arith, sizes-limits _ _ _ _ e .theta-low))
 
 returns-2 : tie.Need-returns-2
-unfolding lawfulSizes
-returns-2 c = simp (le-leb _ _ (c .before .if1 .left), lt-leb _ _ (c .if2 .taken))
+returns-2 c = untrue (λ e. omega (arith, sizes-limits _ _ _ _ e .theta))
 
 returns-3 : tie.Need-returns-3
-unfolding lawfulSizes
-returns-3 c = simp (le-leb _ _ (c .before .before .if1 .left), le-leb _ _ (c .before .if2 .left), lt-leb _ _ (c .if3 .taken))
+returns-3 c = untrue (λ e. omega (arith, sizes-limits _ _ _ _ e .capacity-low))
 
 returns-4 : tie.Need-returns-4
-unfolding lawfulSizes
-returns-4 c = simp (le-leb _ _ (c .before .before .before .if1 .left), le-leb _ _ (c .before .before .if2 .left), le-leb _ _ (c .before .if3 .left), lt-leb _ _ (c .if4 .taken))
+returns-4 c = untrue (λ e. omega (arith, sizes-limits _ _ _ _ e .capacity))
 
 returns-5 : tie.Need-returns-5
-unfolding lawfulSizes
-returns-5 c = simp (le-leb _ _ (c .before .before .before .before .if1 .left), le-leb _ _ (c .before .before .before .if2 .left), le-leb _ _ (c .before .before .if3 .left), le-leb _ _ (c .before .if4 .left), lt-leb _ _ (c .if5 .taken))
+returns-5 c = untrue (λ e. omega (arith, sizes-limits _ _ _ _ e .nodes-low))
 
 returns-6 : tie.Need-returns-6
-unfolding lawfulSizes
-returns-6 c = simp (le-leb _ _ (c .before .before .before .before .before .if1 .left), le-leb _ _ (c .before .before .before .before .if2 .left), le-leb _ _ (c .before .before .before .if3 .left), le-leb _ _ (c .before .before .if4 .left), le-leb _ _ (c .before .if5 .left), lt-leb _ _ (c .if6 .taken))
+returns-6 c = untrue (λ e. omega (arith, sizes-limits _ _ _ _ e .nodes))
 
 returns-7 : tie.Need-returns-7
-unfolding lawfulSizes
-returns-7 c = simp (le-leb _ _ (c .before .before .before .before .before .before .if1 .left), le-leb _ _ (c .before .before .before .before .before .if2 .left), le-leb _ _ (c .before .before .before .before .if3 .left), le-leb _ _ (c .before .before .before .if4 .left), le-leb _ _ (c .before .before .if5 .left), le-leb _ _ (c .before .if6 .left), lt-leb _ _ (c .if7 .taken))
+returns-7 c = untrue (λ e. omega (arith, sizes-limits _ _ _ _ e .pages-low))
 
 returns-8 : tie.Need-returns-8
-unfolding lawfulSizes
-returns-8 c = simp (le-leb _ _ (c .before .before .before .before .before .before .if1 .left), le-leb _ _ (c .before .before .before .before .before .if2 .left), le-leb _ _ (c .before .before .before .before .if3 .left), le-leb _ _ (c .before .before .before .if4 .left), le-leb _ _ (c .before .before .if5 .left), le-leb _ _ (c .before .if6 .left), le-leb _ _ (c .if7 .left))
+returns-8 c = sizes-last _ _ _ _ (search needs)
 
 pub sizes-ok-spec : {M : Type 1} → statement M
 sizes-ok-spec =
