@@ -1,5 +1,5 @@
--- The entry that a key takes is the one that its next H bits, high bit first, spell: the bits after the used ones are the bits of a narrower key,
--- and a field of a number is the same whether it is cut off above or shifted down first.
+-- The entry that a key takes is the one that its next H bits, high bit first, spell: the bits after the used ones are the bits of a
+-- narrower key, and a field of a number is the same whether it is cut off above or shifted down first.
 use mathlib.Core.Path.{_≡_, sym, ap, _∙_}
 use Prim.Native.Nat.{ℕ, _+_, _-_, _/_, _%_, _^_, _≤_, _<_}
 use native.Mathlib.Nat.{add-sub-of-le, mod-lt}

@@ -15,7 +15,8 @@ use Rattle.lists.proofs.Shifts.{low-bits, mod-below}
 use Rattle.tree.specs.Node.{Entry}
 use Rattle.store.specs.declared.Head.{Head}
 use Rattle.store.specs.Head.{zeros}
-use Rattle.node.specs.Node.{depthWord, levelWord, backWord, forwardWord, entryOf, sameEntry, sameRun, goodRuns, runTest, linkRule, pointerLow, pointerHigh, nodeRule, entryNumber}
+use Rattle.node.specs.Node.{depthWord, levelWord, backWord, forwardWord, entryOf, sameEntry, sameRun, goodRuns, runTest}
+use Rattle.node.specs.Node.{linkRule, pointerLow, pointerHigh, nodeRule, entryNumber}
 use Rattle.node.proofs.RunWalk.{Passed, passed-more, deep-fails, align-fails, low-fails, high-fails, run-fails}
 
 -- a run of equal entries, one more at a time
@@ -23,7 +24,8 @@ pub run-none : (e : ℕ → Entry ℕ) (i : ℕ) → sameRun e i 0 ≡ true
 unfolding sameRun
 run-none e i = every-none _
 
-pub run-more : (e : ℕ → Entry ℕ) (i j : ℕ) → sameRun e i j ≡ true → e (i + j) .0 ≡ e i .0 → e (i + j) .1 ≡ e i .1 → sameRun e i (j + 1) ≡ true
+pub run-more : (e : ℕ → Entry ℕ) (i j : ℕ) → sameRun e i j ≡ true → e (i + j) .0 ≡ e i .0 → e (i + j) .1 ≡ e i .1
+    → sameRun e i (j + 1) ≡ true
 unfolding sameRun
 run-more e i j s p q = every-more j (λ k. sameEntry (e (i + k)) (e i)) s (rw (eq-eqb _ _ p, eq-eqb _ _ q))
 
@@ -31,26 +33,45 @@ pub run-other-depth : (e : ℕ → Entry ℕ) (i j n : ℕ) → j < n → (e (i 
 unfolding sameRun
 run-other-depth e i j n h p = every-not n (λ k. sameEntry (e (i + k)) (e i)) j h (rw (ne-eqb _ _ p))
 
-pub run-other-pointer : (e : ℕ → Entry ℕ) (i j n : ℕ) → j < n → e (i + j) .0 ≡ e i .0 → (e (i + j) .1 ≡ e i .1 → ⊥) → sameRun e i n ≡ false
+pub run-other-pointer : (e : ℕ → Entry ℕ) (i j n : ℕ) → j < n → e (i + j) .0 ≡ e i .0 → (e (i + j) .1 ≡ e i .1 → ⊥)
+    → sameRun e i n ≡ false
 unfolding sameRun
 run-other-pointer e i j n h p q = every-not n (λ k. sameEntry (e (i + k)) (e i)) j h (rw (eq-eqb _ _ p, ne-eqb _ _ q))
 
-pub run-test-is : (H low high : ℕ) (e : ℕ → Entry ℕ) (i : ℕ) (a b c d g : Bool)
-    → a ≡ leb (e i .0) H → b ≡ eqb (i % 2 ^ (H - e i .0)) 0 → c ≡ leb low (e i .1) → d ≡ leb (e i .1) high → g ≡ sameRun e i (2 ^ (H - e i .0))
+pub run-test-is : (H low high : ℕ) (e : ℕ → Entry ℕ) (i : ℕ) (a b c d g : Bool) → a ≡ leb (e i .0) H → b ≡ eqb (i % 2 ^ (H - e i .0)) 0
+    → c ≡ leb low (e i .1) → d ≡ leb (e i .1) high → g ≡ sameRun e i (2 ^ (H - e i .0))
     → (a && b && c && d && g) ≡ runTest H low high e i
 unfolding runTest
 run-test-is H low high e i a b c d g p q r s t = rw (p, q, r, s, t)
 
+-- a run that passes, as facts
+pub record RunFacts (H low high : ℕ) (e : ℕ → Entry ℕ) (i : ℕ) : Type 0 where
+  pub depth : e i .0 ≤ H
+  pub aligned : i % 2 ^ (H - e i .0) ≡ 0
+  pub above : low ≤ e i .1
+  pub below : e i .1 ≤ high
+  pub same : sameRun e i (2 ^ (H - e i .0)) ≡ true
+
+pub run-facts : (H low high : ℕ) (e : ℕ → Entry ℕ) (i : ℕ) → runTest H low high e i ≡ true → RunFacts H low high e i
+unfolding runTest
+run-facts H low high e i t =
+    let a = and-true _ _ t in
+    let b = and-true _ _ (a .0) in
+    let c = and-true _ _ (b .0) in
+    let d = and-true _ _ (c .0) in
+    record {
+      depth = leb-true _ _ (d .0);
+      aligned = eqb-true _ _ (d .1);
+      above = leb-true _ _ (c .1);
+      below = leb-true _ _ (b .1);
+      same = a .1;
+    }
+
 module _ (H low high : ℕ) (e : ℕ → Entry ℕ) (i m : ℕ) (w : Passed H low high e i m) (h : i < 2 ^ H) where
   pub run-passes : runTest H low high e i ≡ true → (e i .0 ≤ H) × Passed H low high e (i + 2 ^ (H - e i .0)) (max m (e i .0))
-  unfolding runTest
   run-passes t =
-      let a = and-true _ _ t in
-      let b = and-true _ _ (a .0) in
-      let c = and-true _ _ (b .0) in
-      let d = and-true _ _ (c .0) in
-      let deep : e i .0 ≤ H = leb-true _ _ (d .0) in
-      (deep, passed-more H low high e i m w h deep (eqb-true _ _ (d .1)) (leb-true _ _ (c .1)) (leb-true _ _ (b .1)) (a .1))
+      let r = run-facts H low high e i t in
+      (r .depth, passed-more H low high e i m w h (r .depth) (r .aligned) (r .above) (r .below) (r .same))
 
   pub run-refused : runTest H low high e i ≡ false → goodRuns H low high e ≡ false
   unfolding runTest
@@ -73,11 +94,13 @@ module _ (H low high : ℕ) (e : ℕ → Entry ℕ) (i m : ℕ) (w : Passed H lo
       ]
 
 -- links and pointers by the level
-pub link-1 : (h : Head) (level back forward : ℕ) (a b : Bool) → level ≡ 1 → a ≡ leb back (h .nodesTaken) → b ≡ leb forward (h .nodesTaken) → (a && b) ≡ linkRule h level back forward
+pub link-1 : (h : Head) (level back forward : ℕ) (a b : Bool) → level ≡ 1 → a ≡ leb back (h .nodesTaken)
+    → b ≡ leb forward (h .nodesTaken) → (a && b) ≡ linkRule h level back forward
 unfolding linkRule
 link-1 h level back forward a b e p q = rw (p, q, eq-eqb level 1 e, linkRule)
 
-pub link-above : (h : Head) (level back forward : ℕ) (a b : Bool) → (level ≡ 1 → ⊥) → a ≡ eqb back 0 → b ≡ eqb forward 0 → (a && b) ≡ linkRule h level back forward
+pub link-above : (h : Head) (level back forward : ℕ) (a b : Bool) → (level ≡ 1 → ⊥) → a ≡ eqb back 0 → b ≡ eqb forward 0
+    → (a && b) ≡ linkRule h level back forward
 unfolding linkRule
 link-above h level back forward a b e p q = rw (p, q, ne-eqb level 1 e, linkRule)
 

@@ -1,5 +1,5 @@
--- A walk from run to run decides `goodRuns`. A run that begins aligned where the last one ended, and is constant, keeps the rule at each of its
--- entries; and where the rule holds no run begins unaligned, since the entry before it would be of the same run and that run has ended.
+-- A walk from run to run decides `goodRuns`. A run that begins aligned where the last one ended, and is constant, keeps the rule at each of
+-- its entries; and where the rule holds no run begins unaligned, since the entry before it would be of the same run and that run has ended.
 -- Arrays and tries: an array keeps the rule and has the largest depth H if and only if it is the array of a trie of height H.
 --   RunAt H e k       == the rule of runs at entry k
 --   Points low high x == the pointer of the entry x is from low to high
@@ -17,7 +17,8 @@ use lib.Seq.{ext-getD}
 use borrow.Author.Tests.{leb-true, le-leb, eqb-true, eq-eqb}
 use Rattle.lists.specs.Lists.{greatest, tab}
 use Rattle.lists.proofs.Powers.{run-lt, run-start, run-next, run-end}
-use Rattle.lists.proofs.Tests.{untrue, and-true, same-test, every-at, every-of, range-more, greatest-run, greatest-first, length-tab, getD-tab}
+use Rattle.lists.proofs.Tests.{untrue, and-true, same-test, every-at, every-of, range-more}
+use Rattle.lists.proofs.Tests.{greatest-run, greatest-first, length-tab, getD-tab}
 use Rattle.tree.specs.Trie.{Trie, height}
 use Rattle.tree.specs.Node.{Entry, flatten, largest, RunRule}
 use Rattle.tree.proofs.Flatten.{length-flatten}
@@ -157,7 +158,8 @@ module _ (H low high : ℕ) (e : ℕ → Entry ℕ) where
         within = run-end d i aligned H (sub-le H (e i .0)) h;
         rule = range-more (RunAt H e) i (2 ^ d) (p .rule) (λ j q. rw (run j q, run-start d i aligned j q) (deep, run));
         pointers = range-more (λ k. Points low high (e k)) i (2 ^ d) (p .pointers) (λ j q. rw (run j q) (above, below));
-        deepest = greatest-run i (2 ^ d) (λ k. e k .0) (pow-pos d) (λ j q. ap (λ x. x .0) (run j q)) ∙ ap (λ n. max n (e i .0)) (p .deepest);
+        deepest =
+            greatest-run i (2 ^ d) (λ k. e k .0) (pow-pos d) (λ j q. ap (λ x. x .0) (run j q)) ∙ ap (λ n. max n (e i .0)) (p .deepest);
         start = λ k q.
             let last : i + (2 ^ d - 1) ≡ k = omega (arith, pow-pos d) in
             rw (rw last at (run (2 ^ d - 1) (ones-lt d))) (run-next d i aligned);

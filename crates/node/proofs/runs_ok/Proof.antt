@@ -11,19 +11,23 @@ use Rattle.node.proofs.runs_ok.Statement.{statement}
 use Rattle.node.proofs.runs_ok.Tie as tie
 
 abbrev Inv-loop : tie.InvT-loop
-Inv-loop store at depth low high n deepest₀ i₀ deepest i = (n ≡ 2 ^ depth) × (n ≤ 64) × Passed depth low high (entryOf store at) i deepest
+Inv-loop store at depth low high n deepest₀ i₀ deepest i =
+    (n ≡ 2 ^ depth) × (n ≤ 64) × Passed depth low high (entryOf store at) i deepest
 
 abbrev μ-loop : tie.MeasureT-loop
 μ-loop store at depth low high n deepest₀ i₀ deepest i = n - i
 
+-- after a run that passes
 on : (c : tie.After-word Inv-loop μ-loop)
-    → let a = c .before .before .before .before .before .before .before .args in
-    let l = c .before .before .before .before .loop in
-    (c .word .result ≤ a .depth) × Passed (a .depth) (a .low) (a .high) (entryOf (a .store .now) (a .at)) (l .i + 2 ^ (a .depth - c .word .result)) (max (l .deepest) (c .word .result))
+    → let p = c .before .before .before .before in
+    let a = p .before .before .before .args in
+    (c .word .result ≤ a .depth)
+    × Passed (a .depth) (a .low) (a .high) (entryOf (a .store .now) (a .at)) (p .loop .i + 2 ^ (a .depth - c .word .result))
+    (max (p .loop .deepest) (c .word .result))
 on c =
-    let l = c .before .before .before .before .loop in
     rw (← (c .word .ensures)) at
-    (run-passes _ _ _ _ _ _ (l .inv .2) (omega (arith, l .inv .0)) (passed (c .before .before .run-ok .ensures) (c .before .if1 .left)))
+    (run-passes _ _ _ _ _ _ (c .before .before .before .before .loop .inv .2)
+    (omega (arith, c .before .before .before .before .loop .inv .0)) (passed (c .before .before .run-ok .ensures) (c .before .if1 .left)))
 
 pow2-requires : tie.Need-pow2-requires Inv-loop μ-loop
 pow2-requires c κs = search needs
@@ -35,7 +39,10 @@ run-ok-requires : tie.Need-run-ok-requires Inv-loop μ-loop
 run-ok-requires c κs = search needs
 
 returns : tie.Need-returns Inv-loop μ-loop
-returns c = sym (run-refused _ _ _ _ _ _ (c .before .before .before .loop .inv .2) (omega (arith, c .before .before .before .loop .inv .0)) (failed (c .before .run-ok .ensures) (c .if1 .taken)))
+returns c =
+    sym
+    (run-refused _ _ _ _ _ _ (c .before .before .before .loop .inv .2) (omega (arith, c .before .before .before .loop .inv .0))
+    (failed (c .before .run-ok .ensures) (c .if1 .taken)))
 
 add-word : tie.Need-add-word Inv-loop μ-loop
 add-word c = search needs
@@ -65,10 +72,15 @@ loop-less : tie.Need-loop-less Inv-loop μ-loop
 loop-less c = search needs
 
 loop-again : tie.Need-loop-again Inv-loop μ-loop
-loop-again c = (c .before .before .before .before .before .before .loop .inv .0, c .before .before .before .before .before .before .loop .inv .1, rw (c .before .larger .ensures, c .pow22 .ensures .0) (on (c .before .before) .1))
+loop-again c =
+    let l = c .before .before .before .before .before .before .loop in
+    (l .inv .0, l .inv .1, rw (c .before .larger .ensures, c .pow22 .ensures .0) (on (c .before .before) .1))
 
 returns-2 : tie.Need-returns-2 Inv-loop μ-loop
-returns-2 c = let e : c .before .loop .i ≡ 2 ^ c .before .before .before .before .args .depth = omega (arith, c .before .loop .inv .0, c .before .loop .inv .2 .within) in sym (passed-all _ _ _ _ (c .before .loop .deepest) (rw e at (c .before .loop .inv .2)))
+returns-2 c =
+    let l = c .before .loop in
+    let e : l .i ≡ 2 ^ c .before .before .before .before .args .depth = omega (arith, l .inv .0, l .inv .2 .within) in
+    sym (passed-all _ _ _ _ (l .deepest) (rw e at (l .inv .2)))
 
 pub runs-ok-spec : {M : Type 1} → statement M
 runs-ok-spec =
