@@ -35,7 +35,8 @@ module _ (f : Format) (s : List ℕ) (h : Head) (k level n used : ℕ) where
   unfolding stepOf
   step-damaged e = rw (e, stepOf)
 
-  step-entry : sound ≡ true → entryVisit s (nodeStart h n) (entryNumber (width f) k used (depthWord s (nodeStart h n))) ≡ stepOf f s h k level n used
+  step-entry : sound ≡ true
+      → entryVisit s (nodeStart h n) (entryNumber (width f) k used (depthWord s (nodeStart h n))) ≡ stepOf f s h k level n used
   unfolding stepOf
   step-entry e = rw (e, stepOf)
 
@@ -49,8 +50,8 @@ module _ (f : Format) (s : List ℕ) (h : Head) (k level n used : ℕ) where
       ]
 
   module _ (at : ℕ) (start : at ≡ nodeStart h n) where
-    pub visit-damaged : (a b : Bool) → a ≡ nodeRule h s at level → b ≡ leb (used + depthWord s at) (width f) → (a && b) ≡ false → used ≤ width f
-        → Visited (record { ok = false; entry = 0; depth = 0; pointer = 0 })
+    pub visit-damaged : (a b : Bool) → a ≡ nodeRule h s at level → b ≡ leb (used + depthWord s at) (width f) → (a && b) ≡ false
+        → used ≤ width f → Visited (record { ok = false; entry = 0; depth = 0; pointer = 0 })
     unfolding damagedNode
     visit-damaged a b p q e room = (step-damaged (rw (← start, ← p, ← q) e), omega arith)
 
@@ -59,7 +60,8 @@ module _ (f : Format) (s : List ℕ) (h : Head) (k level n used : ℕ) where
         → Visited (record { ok = true; entry = i; depth = deep; pointer = pointer })
     unfolding entryVisit
     visit-entry d i deep pointer rule e room ei below p q =
-        let within : entryDepth s at i ≤ depthWord s at = good-facts _ _ _ _ (node-facts h s at level rule .runs) .rule i (rw e at below) .0 in
+        let runs = good-facts _ _ _ _ (node-facts h s at level rule .runs) in
+        let within : entryDepth s at i ≤ depthWord s at = runs .rule i (rw e at below) .0 in
         let t : leb (used + depthWord s at) (width f) ≡ true = le-leb _ _ (rw e at room) in
         ((rw (← start, ← e, ← ei, p, q)) ∙ step-entry (rw (← start, rule, t)), omega arith)
 
@@ -70,7 +72,8 @@ module _ (f : Format) (s : List ℕ) (h : Head) (k : ℕ) where
     unfolding descend
     step-lost p = rw (rw e at p, descend)
 
-    step-on : v .ok ≡ true → descend f s h k l (v .pointer) (used + v .depth) (stepTaken steps l n used v) ≡ descend f s h k (suc l) n used steps
+    step-on : v .ok ≡ true
+        → descend f s h k l (v .pointer) (used + v .depth) (stepTaken steps l n used v) ≡ descend f s h k (suc l) n used steps
     unfolding descend stepTaken
     step-on p = rw (e, rw e at p, descend)
 
@@ -112,7 +115,8 @@ module _ (f : Format) (s : List ℕ) (h : Head) (k : ℕ) where
   ends (suc (suc l)) n used steps low room ok =
       let a = stepped (suc l) n used steps ok in
       let d = step-on (suc l) n used steps _ refl a in
-      rw (← d) (ends (suc l) _ _ (stepTaken steps (suc l) n used (stepOf f s h k (suc (suc l)) n used)) (omega arith) (rw length-set (omega arith)) (rw (← d) at ok))
+      let more = stepTaken steps (suc l) n used (stepOf f s h k (suc (suc l)) n used) in
+      rw (← d) (ends (suc l) _ _ more (omega arith) (rw length-set (omega arith)) (rw (← d) at ok))
 
   -- the node of step 0 is a sound one of level 1
   pub terminal-depth : 1 ≤ h .levels → h .levels ≤ 32 → Terminal (descent f s h k)

@@ -2,13 +2,15 @@
 use mathlib.Core.Path.{_≡_, ap, _∙_}
 use mathlib.Core.Bool.{Bool, true, false, _&&_}
 use mathlib.Core.List.{List}
-use Prim.Native.Nat.{ℕ}
+use Prim.Native.Nat.{ℕ, _≤_}
+use native.Mathlib.Omega.{arith}
 use lib.Dec.{ltb, eqb}
 use borrow.Author.Tests.{eq-eqb, ne-eqb}
 use Rattle.store.specs.declared.Format.{Format}
 use Rattle.store.specs.declared.Head.{Head}
 use Rattle.store.specs.declared.Item.{Item}
-use Rattle.store.specs.Head.{headRule, pageAt}
+use Rattle.store.specs.Head.{headOf, headRule, pageAt}
+use Rattle.store.proofs.HeadLaws.{head-facts, levels-within}
 use Rattle.page.specs.Page.{count, itemAt, pageRule, agrees, firstAbove}
 use Rattle.search.specs.declared.Descent.{Descent}
 use Rattle.search.specs.declared.Sought.{Sought}
@@ -32,31 +34,52 @@ in-page-is f pg k i it a b e p q r =
     let same : it ≡ itemAt f pg (firstAbove f pg false k) = rw e at p in
     ap (kept (a && b)) same ∙ rw (q, r, same, e)
 
+-- the way of a key led to a page, which the code has as pg
+pub record Led (f : Format) (s : List ℕ) (h : Head) (k : ℕ) (d : Descent) (pg : List ℕ) : Type 0 where
+  pub way : d ≡ descent f s h k
+  pub ok : d .ok ≡ true
+  pub some : d .page ≡ 0 → ⊥
+  pub page : pg ≡ pageAt f s h (d .page)
+
 -- the ways out of find
 module _ (f : Format) (s : List ℕ) (h : Head) (k : ℕ) (d : Descent) (e : d ≡ descent f s h k) where
   pub find-lost : d .ok ≡ false → Damaged ≡ findOf f s h k
   unfolding findOf
   find-lost p = rw (rw e at p, findOf)
 
-  module _ (ok : d .ok ≡ true) where
-    pub find-null : d .page ≡ 0 → Nothing ≡ findOf f s h k
-    unfolding findOf
-    find-null p = rw (rw e at ok, eq-eqb _ _ (rw e at p), findOf)
+  pub find-null : d .ok ≡ true → d .page ≡ 0 → Nothing ≡ findOf f s h k
+  unfolding findOf
+  find-null ok p = rw (rw e at ok, eq-eqb _ _ (rw e at p), findOf)
 
-    module _ (some : d .page ≡ 0 → ⊥) where
-      pub find-unsound : soundPage f h (pageAt f s h (d .page)) k (d .used) ≡ false → Damaged ≡ findOf f s h k
-      unfolding findOf
-      find-unsound p = rw (rw e at ok, ne-eqb _ _ (rw e at some), rw e at p, findOf)
+module _ {f : Format} {s : List ℕ} {h : Head} {k : ℕ} {d : Descent} {pg : List ℕ} (l : Led f s h k d pg) where
+  pub find-unsound : soundPage f h pg k (d .used) ≡ false → Damaged ≡ findOf f s h k
+  unfolding findOf
+  find-unsound p = rw (rw (l .way) at (l .ok), ne-eqb _ _ (rw (l .way) at (l .some)), rw (l .page, l .way) at p, findOf)
 
-      pub find-sound : soundPage f h (pageAt f s h (d .page)) k (d .used) ≡ true → inPage f (pageAt f s h (d .page)) k ≡ findOf f s h k
-      unfolding findOf
-      find-sound p = rw (e, rw e at ok, ne-eqb _ _ (rw e at some), rw e at p, findOf)
+  pub find-sound : {a : Sought} → soundPage f h pg k (d .used) ≡ true → a ≡ inPage f pg k → a ≡ findOf f s h k
+  unfolding findOf
+  find-sound p q =
+      rw (rw (l .way) at (l .ok), ne-eqb _ _ (rw (l .way) at (l .some)), rw (l .page, l .way) at p, findOf) (rw (l .page, l .way) at q)
 
 -- a reply by the head rule
-pub broken : (f : Format) (s : List ℕ) (a : Sought) → headRule f s ≡ false → _≡_ {A = Reply} (record { number = 3; item = noItem }) (checked f s a)
+pub broken : (f : Format) (s : List ℕ) (a : Sought) → headRule f s ≡ false
+    → _≡_ {A = Reply} (record { number = 3; item = noItem }) (checked f s a)
 unfolding checked
 broken f s a e = rw (e, checked)
 
 pub answered : (f : Format) (s : List ℕ) (a : Sought) → headRule f s ≡ true → soughtReply a ≡ checked f s a
 unfolding checked
 answered f s a e = rw (e, checked)
+
+-- what a head that keeps the rule has
+pub head-limits : (f : Format) (s : List ℕ) → headRule f s ≡ true
+    → let h = headOf s in (h .theta ≤ 6) × (h .capacity ≤ 64) × (h .nodesTaken ≤ 4096) × (1 ≤ h .levels) × (h .levels ≤ 32)
+head-limits f s e =
+    let t = head-facts f s e in
+    let l = levels-within f (headOf s .theta) (headOf s .capacity) (t .limits .theta-low) in (
+      t .limits .theta,
+      t .limits .capacity,
+      omega (arith, t .counts .taken, t .limits .nodes),
+      t .counts .levels-low,
+      omega (arith, t .counts .levels),
+    )

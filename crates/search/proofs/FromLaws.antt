@@ -7,7 +7,8 @@ use lib.ListN.{getD}
 use borrow.Author.Tests.{lt-ltb, le-ltb, eq-eqb, ne-eqb}
 use Rattle.store.specs.declared.Format.{Format}
 use Rattle.store.specs.declared.Head.{Head}
-use Rattle.store.specs.Head.{nodeStart, pageAt}
+use Rattle.store.specs.declared.Item.{Item}
+use Rattle.store.specs.Head.{nodeStart}
 use Rattle.node.specs.Node.{depthWord}
 use Rattle.node.proofs.NodeLaws.{node-facts}
 use Rattle.page.specs.Page.{count, itemAt, firstAbove}
@@ -17,6 +18,7 @@ use Rattle.search.specs.Descent.{noStep, descent}
 use Rattle.search.specs.Find.{soundPage}
 use Rattle.search.specs.Next.{afterOwn, fromDescent, nextOf}
 use Rattle.search.proofs.DescentLaws.{terminal-depth}
+use Rattle.search.proofs.FindLaws.{Led}
 
 module _ (f : Format) (s : List ℕ) (h : Head) (strict : Bool) (k : ℕ) (d : Descent) (is : d ≡ descent f s h k) where
   whole : fromDescent f s h strict k d ≡ nextOf f s h strict k
@@ -31,23 +33,29 @@ module _ (f : Format) (s : List ℕ) (h : Head) (strict : Bool) (k : ℕ) (d : D
   unfolding fromDescent
   from-null o z = sym (sym whole ∙ rw (o, eq-eqb (d .page) 0 z, fromDescent))
 
-  module _ (o : d .ok ≡ true) (z : d .page ≡ 0 → ⊥) where
-    pub from-unsound : soundPage f h (pageAt f s h (d .page)) k (d .used) ≡ false → Damaged ≡ nextOf f s h strict k
+-- where the way led to a page
+module _ {f : Format} {s : List ℕ} {h : Head} {k : ℕ} {d : Descent} {pg : List ℕ} (strict : Bool) (w : Led f s h k d pg) where
+  pub from-unsound : soundPage f h pg k (d .used) ≡ false → Damaged ≡ nextOf f s h strict k
+  unfolding fromDescent
+  from-unsound p =
+      sym (sym (whole f s h strict k d (w .way)) ∙ rw (w .ok, ne-eqb (d .page) 0 (w .some), rw (w .page) at p, fromDescent))
+
+  -- i is what the code has as the first record above, n as the count
+  module _ (p : soundPage f h pg k (d .used) ≡ true) {i n : ℕ} (ei : i ≡ firstAbove f pg strict k) (en : n ≡ count pg) where
+    pub from-found : {it : Item} → it ≡ itemAt f pg i → i < n → Record it ≡ nextOf f s h strict k
     unfolding fromDescent
-    from-unsound p = sym (sym whole ∙ rw (o, ne-eqb (d .page) 0 z, p, fromDescent))
+    from-found t l =
+        let b = lt-ltb _ _ (rw (ei, en, w .page) at l) in
+        ap Record (rw (ei, w .page) at t)
+        ∙ sym (sym (whole f s h strict k d (w .way)) ∙ rw (w .ok, ne-eqb (d .page) 0 (w .some), rw (w .page) at p, b, fromDescent))
 
-    module _ (p : soundPage f h (pageAt f s h (d .page)) k (d .used) ≡ true) where
-      pub from-found : firstAbove f (pageAt f s h (d .page)) strict k < count (pageAt f s h (d .page))
-          → Record (itemAt f (pageAt f s h (d .page)) (firstAbove f (pageAt f s h (d .page)) strict k)) ≡ nextOf f s h strict k
-      unfolding fromDescent
-      from-found l = sym (sym whole ∙ rw (o, ne-eqb (d .page) 0 z, p, lt-ltb _ _ l, fromDescent))
-
-      pub from-after : count (pageAt f s h (d .page)) ≤ firstAbove f (pageAt f s h (d .page)) strict k
-          → afterOwn f s h strict k (getD (d .steps) 0 noStep) ≡ nextOf f s h strict k
-      unfolding fromDescent
-      from-after l = sym (sym whole ∙ rw (o, ne-eqb (d .page) 0 z, p, le-ltb _ _ l, fromDescent))
+    pub from-after : n ≤ i → afterOwn f s h strict k (getD (d .steps) 0 noStep) ≡ nextOf f s h strict k
+    unfolding fromDescent
+    from-after l =
+        let b = le-ltb _ _ (rw (ei, en, w .page) at l) in
+        sym (sym (whole f s h strict k d (w .way)) ∙ rw (w .ok, ne-eqb (d .page) 0 (w .some), rw (w .page) at p, b, fromDescent))
 
 -- the terminal node is no deeper than θ
-pub terminal : (f : Format) (s : List ℕ) (h : Head) (k : ℕ) (d : Descent) → d ≡ descent f s h k → d .ok ≡ true → 1 ≤ h .levels → h .levels ≤ 32
-    → depthWord s (nodeStart h (getD (d .steps) 0 noStep .node)) ≤ h .theta
+pub terminal : (f : Format) (s : List ℕ) (h : Head) (k : ℕ) (d : Descent) → d ≡ descent f s h k → d .ok ≡ true
+    → 1 ≤ h .levels → h .levels ≤ 32 → depthWord s (nodeStart h (getD (d .steps) 0 noStep .node)) ≤ h .theta
 terminal f s h k d is o low high = rw is (node-facts h s _ 1 (terminal-depth f s h k low high (rw is at o)) .depth)

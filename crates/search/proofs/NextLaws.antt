@@ -48,7 +48,8 @@ module _ (s : List ℕ) (b H : ℕ) where
   unfolding firstPointer
   pointer-here n i h p = rw (lt-ltb i (2 ^ H) h, ne-eqb _ 0 p, firstPointer)
 
-  pointer-on : (n i : ℕ) → i < 2 ^ H → entryPointer s b i ≡ 0 → firstPointer s b H (suc n) i ≡ firstPointer s b H n (i + 2 ^ (H - entryDepth s b i))
+  pointer-on : (n i : ℕ) → i < 2 ^ H → entryPointer s b i ≡ 0
+      → firstPointer s b H (suc n) i ≡ firstPointer s b H n (i + 2 ^ (H - entryDepth s b i))
   unfolding firstPointer
   pointer-on n i h p = rw (lt-ltb i (2 ^ H) h, eq-eqb _ 0 p, firstPointer)
 
@@ -89,7 +90,8 @@ module _ (f : Format) (s : List ℕ) (h : Head) (strict : Bool) (k p : ℕ) {pg 
   visit-broken t = sym (rw (rw e at t, visitAfter))
 
   module _ (t : pageRule f (h .capacity) pg ≡ true) {it : Item} (ei : it ≡ itemAt f pg 0) where
-    same-key : {b : Bool} → above strict k (it .key) ≡ b → every (count (pageAt f s h p)) (λ i. above strict k (keyAt f (pageAt f s h p) i)) ≡ b
+    same-key : {b : Bool} → above strict k (it .key) ≡ b
+        → every (count (pageAt f s h p)) (λ i. above strict k (keyAt f (pageAt f s h p) i)) ≡ b
     same-key q =
         all-above f (h .capacity) (pageAt f s h p) strict k (rw e at t) ∙ sym (ap (λ (x : Item). above strict k (x .key)) (rw e at ei)) ∙ q
 
@@ -140,11 +142,13 @@ module _ (h : Head) (s : List ℕ) (n left : ℕ) {b m : ℕ} (eb : b ≡ nodeSt
       onward-goes t = sym (rw (more, ne-eqb left 0 l, rw there at t, onward) (ap On (sym there)))
 
 -- a node's depth as the code has it
-pub depth-small : (s : List ℕ) (h : Head) (n : ℕ) {b d : ℕ} → b ≡ nodeStart h n → d ≡ depthWord s b → depthWord s (nodeStart h n) ≤ h .theta → h .theta ≤ 6 → d ≤ 6
+pub depth-small : (s : List ℕ) (h : Head) (n : ℕ) {b d : ℕ} → b ≡ nodeStart h n → d ≡ depthWord s b
+    → depthWord s (nodeStart h n) ≤ h .theta → h .theta ≤ 6 → d ≤ 6
 depth-small s h n eb ed l m = omega (arith, ed ∙ ap (depthWord s) eb)
 
 -- a hop
-module _ (f : Format) (s : List ℕ) (h : Head) (strict : Bool) (k n i left : ℕ) {b d p : ℕ} (eb : b ≡ nodeStart h n) (ed : d ≡ depthWord s b) (ep : p ≡ firstPointer s b d 64 i) where
+module _ (f : Format) (s : List ℕ) (h : Head) (strict : Bool) (k n i left : ℕ) {b d p : ℕ} (eb : b ≡ nodeStart h n)
+    (ed : d ≡ depthWord s b) (ep : p ≡ firstPointer s b d 64 i) where
   abbrev first : ℕ
   first = firstPointer s (nodeStart h n) (depthWord s (nodeStart h n)) 64 i
 
@@ -213,7 +217,8 @@ module _ (f : Format) (s : List ℕ) (h : Head) (strict : Bool) (k : ℕ) where
   unfolding follow
   follow-ends left n i a e = rw (e, follow)
 
-  pub follow-on : (left n i m : ℕ) → hop f s h strict k n i left ≡ On m → follow f s h strict k (suc left) n i ≡ follow f s h strict k left m 0
+  pub follow-on : (left n i m : ℕ) → hop f s h strict k n i left ≡ On m
+      → follow f s h strict k (suc left) n i ≡ follow f s h strict k left m 0
   unfolding follow
   follow-on left n i m e = rw (e, follow)
 
@@ -264,7 +269,8 @@ module _ (f : Format) (s : List ℕ) (h : Head) (strict : Bool) (k : ℕ) where
   hop-above n i left =
       hop-rule HopAbove h s n left f strict k i visit-above (onward-rule HopAbove h s n left tt tt (λ t. tt))
 
-  follow-step : (left : ℕ) → ((m : ℕ) → Above (follow f s h strict k left m 0)) → (n i : ℕ) (x : Hop) → hop f s h strict k n i left ≡ x → HopAbove x → Above (follow f s h strict k (suc left) n i)
+  follow-step : (left : ℕ) → ((m : ℕ) → Above (follow f s h strict k left m 0)) → (n i : ℕ) (x : Hop)
+      → hop f s h strict k n i left ≡ x → HopAbove x → Above (follow f s h strict k (suc left) n i)
   follow-step left rest n i (Ends a) e q = subst Above (sym (follow-ends left n i a e)) q
   follow-step left rest n i (On m) e q = subst Above (sym (follow-on left n i m e)) (rest m)
 

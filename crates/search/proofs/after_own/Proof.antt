@@ -11,13 +11,18 @@ word-requires : tie.Need-word-requires
 word-requires c κs = search needs
 
 run-after-requires : tie.Need-run-after-requires
-run-after-requires c κs = depth-small (c .before .before .before .args .store .now) _ _ (c .before .node-start .ensures .0) (c .word .ensures) (c .before .before .before .pre .3) (c .before .before .before .pre .0)
+run-after-requires c κs =
+    let p = c .before .before .before in
+    depth-small (p .args .store .now) _ _ (c .before .node-start .ensures .0) (c .word .ensures) (p .pre .3) (p .pre .0)
 
 follow-from-requires : tie.Need-follow-from-requires
 follow-from-requires c κs = search needs
 
 returns : tie.Need-returns
-returns c = own-is _ (c .before .before .before .before .before .args .store .now) _ _ _ _ (c .before .before .before .node-start .ensures .0) (c .before .before .word .ensures) (c .before .run-after .ensures .0) (c .follow-from .ensures)
+returns c =
+    let p = c .before .before .before in
+    own-is _ (p .before .before .args .store .now) _ _ _ _ (p .node-start .ensures .0) (c .before .before .word .ensures)
+    (c .before .run-after .ensures .0) (c .follow-from .ensures)
 
 pub after-own-spec : {M : Type 1} → statement M
 after-own-spec =

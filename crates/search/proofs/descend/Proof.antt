@@ -37,8 +37,12 @@ lost-way-requires c κs = search needs
 returns : tie.Need-returns Inv-loop μ-loop
 unfolding lost
 returns c =
-    rw (c .lost-way .ensures)
-    (turn-lost _ _ _ _ _ _ _ _ _ (c .before .before .before .visit-node .ensures .0) (omega arith) _ (c .before .before .before .before .before .loop .inv .2) (not-true _ (c .before .if1 .taken)), omega arith)
+    let p = c .before .before .before in
+    rw (c .lost-way .ensures) (
+      turn-lost _ _ _ _ _ _ _ _ _ (p .visit-node .ensures .0) (omega arith) _ (p .before .before .loop .inv .2)
+          (not-true _ (c .before .if1 .taken)),
+      omega arith,
+    )
 
 sub-level : tie.Need-sub-level Inv-loop μ-loop
 sub-level c = search needs
@@ -51,15 +55,21 @@ array-set-from-steps c = search needs
 
 add-used : tie.Need-add-used Inv-loop μ-loop
 add-used c =
-    let a = c .before .before .before .before .before .before .before .before .args in
-    omega (arith, width-within (a .f), c .before .before .before .visit-node .ensures .1)
+    let p = c .before .before .before in
+    omega (arith, width-within (p .before .before .before .before .before .args .f), p .visit-node .ensures .1)
 
 loop-less : tie.Need-loop-less Inv-loop μ-loop
 loop-less c = search needs
 
 loop-again : tie.Need-loop-again Inv-loop μ-loop
 unfolding stepTaken
-loop-again c = (omega arith, omega arith, turn-on _ _ _ _ _ _ _ _ _ (c .before .before .before .visit-node .ensures .0) (omega arith) _ (c .before .before .before .before .before .loop .inv .2) (not-false _ (c .before .if1 .left)))
+loop-again c =
+    let p = c .before .before .before in (
+      omega arith,
+      omega arith,
+      turn-on _ _ _ _ _ _ _ _ _ (p .visit-node .ensures .0) (omega arith) _ (p .before .before .loop .inv .2)
+          (not-false _ (c .before .if1 .left)),
+    )
 
 returns-2 : tie.Need-returns-2 Inv-loop μ-loop
 returns-2 c = (turn-out _ _ _ _ _ _ _ _ (omega arith) _ (c .before .loop .inv .2), omega arith)

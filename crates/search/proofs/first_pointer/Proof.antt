@@ -32,7 +32,9 @@ word-requires : tie.Need-word-requires Inv-loop μ-loop
 word-requires c κs = search needs
 
 returns : tie.Need-returns Inv-loop μ-loop
-returns c = walked-here _ _ _ (c .before .before .before .loop .inv .2) (omega (arith, c .before .before .before .loop .inv .0)) (c .before .word .ensures) (c .if1 .taken)
+returns c =
+    let l = c .before .before .before .loop in
+    walked-here _ _ _ (l .inv .2) (omega (arith, l .inv .0)) (c .before .word .ensures) (c .if1 .taken)
 
 add-word-3 : tie.Need-add-word-3 Inv-loop μ-loop
 add-word-3 c = search needs
@@ -59,7 +61,14 @@ loop-less : tie.Need-loop-less Inv-loop μ-loop
 loop-less c = search needs
 
 loop-again : tie.Need-loop-again Inv-loop μ-loop
-loop-again c = (c .before .before .before .before .before .before .loop .inv .0, c .before .before .before .before .before .before .loop .inv .1, walked-on _ _ _ (c .before .before .before .before .before .before .loop .inv .2) (omega (arith, c .before .before .before .before .before .before .loop .inv .0)) (c .before .before .before .before .word .ensures) (c .before .before .before .if1 .left) (c .before .before .word2 .ensures) (c .before .less .ensures) (c .pow22 .ensures .0))
+loop-again c =
+    let p = c .before .before .before in
+    let l = p .before .before .before .loop in (
+      l .inv .0,
+      l .inv .1,
+      walked-on _ _ _ (l .inv .2) (omega (arith, l .inv .0)) (p .before .word .ensures) (p .if1 .left) (c .before .before .word2 .ensures)
+          (c .before .less .ensures) (c .pow22 .ensures .0),
+    )
 
 returns-2 : tie.Need-returns-2 Inv-loop μ-loop
 returns-2 c = walked-end _ _ _ (c .before .loop .inv .2) (omega (arith, c .before .loop .inv .0))

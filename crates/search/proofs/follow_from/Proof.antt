@@ -34,7 +34,10 @@ enum-known-hop : tie.Need-enum-known-hop Inv-loop μ-loop
 enum-known-hop c = search needs
 
 returns : tie.Need-returns Inv-loop μ-loop
-returns c = turn-ends _ _ _ _ _ _ _ _ (c .before .before .before .before .loop-test .taken) (c .before .before .before .hop-from .ensures) (c .before .hop .given .1) ∙ c .before .before .before .before .before .loop .inv .3
+returns c =
+    let p = c .before .before .before in
+    turn-ends _ _ _ _ _ _ _ _ (p .before .loop-test .taken) (p .hop-from .ensures) (c .before .hop .given .1)
+    ∙ p .before .before .loop .inv .3
 
 enum-known-hop-2 : tie.Need-enum-known-hop-2 Inv-loop μ-loop
 enum-known-hop-2 c = search needs
@@ -43,7 +46,14 @@ loop-less : tie.Need-loop-less Inv-loop μ-loop
 loop-less c = search needs
 
 loop-again : tie.Need-loop-again Inv-loop μ-loop
-loop-again c = (omega arith, omega arith, turn-deep _ _ _ _ _ _ _ _ (c .before .before .before .before .loop-test .taken) (c .before .before .before .hop-from .ensures) (c .before .hop2 .given .1), turn-on _ _ _ _ _ _ _ _ (c .before .before .before .before .loop-test .taken) (c .before .before .before .hop-from .ensures) (c .before .hop2 .given .1) ∙ c .before .before .before .before .before .loop .inv .3)
+loop-again c =
+    let p = c .before .before .before in (
+      omega arith,
+      omega arith,
+      turn-deep _ _ _ _ _ _ _ _ (p .before .loop-test .taken) (p .hop-from .ensures) (c .before .hop2 .given .1),
+      turn-on _ _ _ _ _ _ _ _ (p .before .loop-test .taken) (p .hop-from .ensures) (c .before .hop2 .given .1)
+          ∙ p .before .before .loop .inv .3,
+    )
 
 returns-2 : tie.Need-returns-2 Inv-loop μ-loop
 returns-2 c = let e : 0 ≡ c .before .loop .turns = omega arith in sym (follow-spent _ _ _ _ _ _ _) ∙ rw (sym e) at (c .before .loop .inv .3)

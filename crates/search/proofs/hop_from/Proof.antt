@@ -11,19 +11,30 @@ word-requires : tie.Need-word-requires
 word-requires c κs = search needs
 
 first-pointer-requires : tie.Need-first-pointer-requires
-first-pointer-requires c κs = (c .before .node-start .ensures .1, depth-small (c .before .before .before .args .store .now) _ _ (c .before .node-start .ensures .0) (c .word .ensures) (c .before .before .before .pre .3) (c .before .before .before .pre .0), c .before .before .before .pre .2)
+first-pointer-requires c κs =
+    let p = c .before .before .before in (
+      c .before .node-start .ensures .1,
+      depth-small (p .args .store .now) _ _ (c .before .node-start .ensures .0) (c .word .ensures) (p .pre .3) (p .pre .0),
+      p .pre .2,
+    )
 
 visit-after-requires : tie.Need-visit-after-requires
 visit-after-requires c κs = search needs
 
 returns : tie.Need-returns
-returns c = hop-ends _ _ _ _ _ _ _ _ (c .before .before .before .before .node-start .ensures .0) (c .before .before .before .word .ensures) (c .before .before .first-pointer .ensures) (c .before .if1 .taken) (c .visit-after .ensures)
+returns c =
+    let p = c .before .before in
+    hop-ends _ _ _ _ _ _ _ _ (p .before .before .node-start .ensures .0) (p .before .word .ensures) (p .first-pointer .ensures)
+    (c .before .if1 .taken) (c .visit-after .ensures)
 
 go-on-requires : tie.Need-go-on-requires
 go-on-requires c κs = search needs
 
 returns-2 : tie.Need-returns-2
-returns-2 c = hop-onward _ _ _ _ _ _ _ _ (c .before .before .before .before .node-start .ensures .0) (c .before .before .before .word .ensures) (c .before .before .first-pointer .ensures) (c .before .if1 .left) (c .go-on .ensures)
+returns-2 c =
+    let p = c .before .before in
+    hop-onward _ _ _ _ _ _ _ _ (p .before .before .node-start .ensures .0) (p .before .word .ensures) (p .first-pointer .ensures)
+    (c .before .if1 .left) (c .go-on .ensures)
 
 pub hop-from-spec : {M : Type 1} → statement M
 hop-from-spec =

@@ -15,7 +15,9 @@ node-ok-requires : tie.Need-node-ok-requires
 node-ok-requires c κs = search needs
 
 returns : tie.Need-returns
-returns c = linked-is _ _ _ _ _ false _ (c .before .before .node-start .ensures .0) (sym (failed (c .before .node-ok .ensures) (c .if1 .taken))) refl
+returns c =
+    linked-is _ _ _ _ _ false _ (c .before .before .node-start .ensures .0)
+    (sym (failed (c .before .node-ok .ensures) (c .if1 .taken))) refl
 
 add-word : tie.Need-add-word
 add-word c = search needs
@@ -24,7 +26,10 @@ word-requires : tie.Need-word-requires
 word-requires c κs = search needs
 
 returns-2 : tie.Need-returns-2
-returns-2 c = linked-is _ _ _ _ _ true _ (c .before .before .before .node-start .ensures .0) (sym (passed (c .before .before .node-ok .ensures) (c .before .if1 .left))) (ap (λ x. eqb x (c .before .before .before .before .before .args .n)) (c .word .ensures))
+returns-2 c =
+    let p = c .before .before in
+    linked-is _ _ _ _ _ true _ (p .before .node-start .ensures .0) (sym (passed (p .node-ok .ensures) (c .before .if1 .left)))
+    (ap (λ x. eqb x (p .before .before .before .args .n)) (c .word .ensures))
 
 pub is-linked-spec : {M : Type 1} → statement M
 is-linked-spec =

@@ -25,7 +25,9 @@ add-result : tie.Need-add-result
 add-result c = search needs
 
 returns : tie.Need-returns
-returns c = run-after-is _ _ _ _ _ _ (c .before .before .less .ensures) (c .before .pow2 .ensures .0) (c .to-index .ensures .0) (c .before .pow2 .ensures .2) (omega arith)
+returns c =
+    let p = c .before in
+    run-after-is _ _ _ _ _ _ (p .before .less .ensures) (p .pow2 .ensures .0) (c .to-index .ensures .0) (p .pow2 .ensures .2) (omega arith)
 
 pub run-after-spec : {M : Type 1} → statement M
 run-after-spec =

@@ -21,10 +21,16 @@ is-above-requires : tie.Need-is-above-requires
 is-above-requires c κs = search needs
 
 returns-2 : tie.Need-returns-2
-returns-2 c = visit-below _ _ _ _ _ _ (c .before .before .before .before .before .page-at .ensures) (passed (c .before .before .before .before .page-ok .ensures) (c .before .before .before .if1 .left)) (c .before .before .read-one .ensures) (failed (c .before .is-above .ensures) (c .if2 .taken))
+returns-2 c =
+    let p = c .before .before .before in
+    visit-below _ _ _ _ _ _ (p .before .before .page-at .ensures) (passed (p .before .page-ok .ensures) (p .if1 .left))
+    (c .before .before .read-one .ensures) (failed (c .before .is-above .ensures) (c .if2 .taken))
 
 returns-3 : tie.Need-returns-3
-returns-3 c = visit-gives _ _ _ _ _ _ (c .before .before .before .before .before .page-at .ensures) (passed (c .before .before .before .before .page-ok .ensures) (c .before .before .before .if1 .left)) (c .before .before .read-one .ensures) (passed (c .before .is-above .ensures) (c .if2 .left))
+returns-3 c =
+    let p = c .before .before .before in
+    visit-gives _ _ _ _ _ _ (p .before .before .page-at .ensures) (passed (p .before .page-ok .ensures) (p .if1 .left))
+    (c .before .before .read-one .ensures) (passed (c .before .is-above .ensures) (c .if2 .left))
 
 pub visit-after-spec : {M : Type 1} → statement M
 visit-after-spec =
