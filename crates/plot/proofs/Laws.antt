@@ -1,4 +1,5 @@
--- What the functions' proofs and the promises share: bounds on products and quotients, days left and balances, and the limits of labels and keys.
+-- What the functions' proofs and the promises share: bounds on products and quotients, days left and balances, and the limits of labels
+-- and keys.
 use mathlib.Core.Bool.{true, false, _&&_, and-false, and-eq-true-iff, not-eq-not}
 use mathlib.Core.Path.{_≡_, sym, subst⁻¹, _∙_}
 use Prim.Native.Nat.{ℕ, _+_, _*_, _/_, _^_, _≤_, _<_}
@@ -127,6 +128,7 @@ module _ {k : ℕ} where
   unfolding labelOfReply
   label-refused h = rw (not-eq-not {a = hasLabel k} {b = false} .0 (λ e. omega (arith, key-limits k e)), labelOfReply)
 
-  pub label-given : 2 ^ 24 ≤ k → k < 2 ^ 32 → record { number = 0; section = sectionOf k; row = rowOf k; place = placeOf k } ≡ labelOfReply k
+  pub label-given : 2 ^ 24 ≤ k → k < 2 ^ 32
+      → record { number = 0; section = sectionOf k; row = rowOf k; place = placeOf k } ≡ labelOfReply k
   unfolding labelOfReply
   label-given h l = rw (limits-key k h l, labelOfReply)

@@ -8,7 +8,8 @@ use borrow.Author.Tests.{ltb-true, eqb-false, not-true}
 use Rattle.plot.specs.Plot.{word, lawful, lawfulTerm}
 use Rattle.plot.specs.Label.{pack, sectionOf, rowOf, placeOf}
 use Rattle.plot.specs.Promises.{DaysWithinLease, NoneLeftAtTheEnd, BalanceWithinPrice, LabelKeyLabel, KeyLabelKey, LawfulRecord}
-use Rattle.plot.proofs.Laws.{days-within, days-ended, amount-quotient, amount-within, label-limits, limits-label, key-limits, limits-key}
+use Rattle.plot.proofs.Laws.{days-within, days-ended, amount-quotient, amount-within}
+use Rattle.plot.proofs.Laws.{label-limits, limits-label, key-limits, limits-key}
 
 pub days-within-lease : DaysWithinLease
 days-within-lease = days-within

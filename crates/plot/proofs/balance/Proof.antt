@@ -1,11 +1,23 @@
--- `plot::balance` meets its contract: a refusal stands where a limit is broken, and elsewhere the quotient is the definition's, at most the price.
+-- `plot::balance` meets its contract: a refusal stands where a limit is broken, and elsewhere the quotient is the definition's, at most the
+-- price.
 use borrow.Author.Needs.{needs}
-use mathlib.Core.Path.{sym}
+use mathlib.Core.Path.{_≡_, sym}
+use mathlib.Core.Bool.{true}
 use native.Mathlib.Nat.{lt-of-le-of-lt}
 use Rattle.lists.proofs.Tests.{passed, failed}
+use Rattle.plot.specs.Plot.{lawfulDay, lawfulTerm}
 use Rattle.plot.proofs.Laws.{share-le, days-within, amount-perpetual, amount-quotient, term-refused, today-refused, balance-given}
 use Rattle.plot.proofs.balance.Statement.{statement}
 use Rattle.plot.proofs.balance.Tie as tie
+
+-- the lease days, the last day and today are lawful
+lawful : (c : tie.Else2)
+    → let a = c .before .before .before .before .args in
+    (lawfulTerm (a .lease) (a .last) ≡ true) × (lawfulDay (a .today) ≡ true)
+lawful c = (
+  passed (c .before .before .before .lawful-term .ensures) (c .before .before .if1 .left),
+  passed (c .before .lawful-day .ensures) (c .if2 .left),
+)
 
 lawful-term-requires : tie.Need-lawful-term-requires
 lawful-term-requires c κs = search needs
@@ -21,10 +33,7 @@ returns-2 c = today-refused _ _ _ _ (failed (c .before .lawful-day .ensures) (c 
 
 returns-3 : tie.Need-returns-3
 returns-3 c =
-    balance-given _ _ _ _
-    (passed (c .before .before .before .before .lawful-term .ensures) (c .before .before .before .if1 .left))
-    (passed (c .before .before .lawful-day .ensures) (c .before .if2 .left))
-    (sym (amount-perpetual _ _ _ _ (c .if3 .taken)))
+    balance-given _ _ _ _ (lawful (c .before) .0) (lawful (c .before) .1) (sym (amount-perpetual _ _ _ _ (c .if3 .taken)))
 
 days-left-requires : tie.Need-days-left-requires
 days-left-requires c κs = search needs
@@ -37,9 +46,8 @@ div-t10 c = search needs
 
 returns-4 : tie.Need-returns-4
 returns-4 c =
-    balance-given _ _ _ _
-    (passed (c .before .before .before .before .before .before .lawful-term .ensures) (c .before .before .before .before .before .if1 .left))
-    (passed (c .before .before .before .before .lawful-day .ensures) (c .before .before .before .if2 .left))
+    let l = lawful (c .before .before .before) in
+    balance-given _ _ _ _ (l .0) (l .1)
     (simp (c .wide-product .ensures, c .before .days-left .ensures) (sym (amount-quotient _ _ _ _)))
 
 cast-t11 : tie.Need-cast-t11

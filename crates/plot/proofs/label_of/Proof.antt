@@ -1,4 +1,4 @@
--- `plot::label_of` meets its contract: its test is the definition's, since a key is a 32-bit number, and the parts of the label are the definition's.
+-- `plot::label_of` meets its contract: its test is the definition's, since a key is a 32-bit number, and so are the parts of the label.
 use native.Mathlib.Omega.{arith}
 use Rattle.plot.specs.Label.{sectionOf, rowOf, placeOf}
 use Rattle.plot.proofs.Laws.{label-refused, label-given}

@@ -1,4 +1,5 @@
--- `plot::lawful_record` meets its contract: key and price are 32-bit numbers by their type, and the other two parts of the definition are the function's tests.
+-- `plot::lawful_record` meets its contract: key and price are 32-bit numbers by their type, and the other two parts of the definition are
+-- the function's tests.
 use borrow.Author.Needs.{needs}
 use borrow.Author.Tests.{eq-eqb, ne-eqb, lt-ltb}
 use mathlib.Core.Bool.{and-false}
