@@ -8,5 +8,6 @@ use Rattle.lines.specs.Reply.{fourFields, summaryFields, replyLine}
 use Rattle.lines.specs.Checks.{bytes, same, sameRequest, holds, table}
 
 pub checks : all holds table ≡ true
-unfolding bytes same sameRequest holds table part tab digit skipped plain value numberOf isNumber byteAt column requestLine fieldOf unused requestOf wellFormed parsed fourFields summaryFields replyLine
+unfolding bytes same sameRequest holds table part tab digit skipped plain value numberOf isNumber byteAt column
+    requestLine fieldOf unused requestOf wellFormed parsed fourFields summaryFields replyLine
 checks = refl

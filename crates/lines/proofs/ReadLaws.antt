@@ -30,7 +30,8 @@ pub blank-passed : (bs : List ℕ) (i : ℕ) → i < length bs → getD bs i 0 �
     → skipped (drop (i + 1) bs) ≡ skipped bs
 blank-passed bs i h e s = sym (ap skipped (drop-at-byte bs i blank h e) ∙ skipped-blank (drop (i + 1) bs)) ∙ s
 
-pub blank-ends : (bs : List ℕ) (i : ℕ) → i < length bs → (getD bs i 0 ≡ blank → ⊥) → skipped (drop i bs) ≡ skipped bs → drop i bs ≡ skipped bs
+pub blank-ends : (bs : List ℕ) (i : ℕ) → i < length bs → (getD bs i 0 ≡ blank → ⊥) → skipped (drop i bs) ≡ skipped bs
+    → drop i bs ≡ skipped bs
 blank-ends bs i h e s =
     let q = drop-at-byte bs i (getD bs i 0) h refl in
     q ∙ sym (ap skipped q ∙ skipped-at (getD bs i 0) (drop (i + 1) bs) e) ∙ s
@@ -99,12 +100,14 @@ pub none-held : (bs : List ℕ) (i : ℕ) → drop i bs ≡ skipped bs → lengt
 unfolding numberIn taken isNumber plain
 none-held bs i s h = rw (sym s ∙ drop-all bs i h)
 
-pub zero-held : (bs : List ℕ) (i : ℕ) → drop i bs ≡ skipped bs → i < length bs → getD bs i 0 ≡ nought → length bs ≤ i + 1 → numberIn bs ≡ Is 0
+pub zero-held : (bs : List ℕ) (i : ℕ) → drop i bs ≡ skipped bs → i < length bs → getD bs i 0 ≡ nought → length bs ≤ i + 1
+    → numberIn bs ≡ Is 0
 unfolding numberIn taken isNumber plain numberOf value digit
 zero-held bs i s h e l =
     rw (sym s ∙ drop-at-byte bs i nought h e ∙ ap (λ l. nought ∷ l) (drop-all bs (i + 1) l))
 
-pub leading-zero : (bs : List ℕ) (i : ℕ) → drop i bs ≡ skipped bs → i < length bs → getD bs i 0 ≡ nought → i + 1 < length bs → numberIn bs ≡ Not
+pub leading-zero : (bs : List ℕ) (i : ℕ) → drop i bs ≡ skipped bs → i < length bs → getD bs i 0 ≡ nought → i + 1 < length bs
+    → numberIn bs ≡ Not
 unfolding numberIn taken isNumber
 leading-zero bs i s h e l =
     let q : skipped bs ≡ nought ∷ drop (i + 1) bs = sym s ∙ drop-at-byte bs i nought h e in
@@ -115,7 +118,8 @@ leading-zero bs i s h e l =
     let none = plain-facts nought (drop (i + 1) bs) (ap plain (sym q) ∙ p .0) .2 refl in
     omega (arith, length-drop (i + 1) bs, ap length none))))
 
-pub digits-held : (bs : List ℕ) (i : ℕ) → drop i bs ≡ skipped bs → i < length bs → (getD bs i 0 ≡ nought → ⊥) → numberIn bs ≡ spelledBy 0 (drop i bs)
+pub digits-held : (bs : List ℕ) (i : ℕ) → drop i bs ≡ skipped bs → i < length bs → (getD bs i 0 ≡ nought → ⊥)
+    → numberIn bs ≡ spelledBy 0 (drop i bs)
 unfolding numberIn spelledBy isNumber plain numberOf
 digits-held bs i s h e =
     let b : ℕ = getD bs i 0 in

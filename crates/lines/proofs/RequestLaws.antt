@@ -90,17 +90,19 @@ parsed-line k a b c d hk ha hb hc hd =
     let ns : List ℕ = a ∷ b ∷ c ∷ d ∷ [] in
     let line : List ℕ = column 2 k ++ columns ns in
     let l : length line ≡ 42 = length-append (column 2 k) (columns ns) ∙ omega (arith, length-column 2 k, length-columns ns) in
+    let front = part-front (column 2 k) (columns ns) 2 (length-column 2 k) in
     let field : (j n : ℕ) → j < 4 → getD ns j 0 ≡ n → n < 2 ^ 32 → Holds (fieldOf line j) n =
     λ j n h e m. holds-column 10 n (fieldOf line j) (field-at k ns j h ∙ ap (column 10) e) (omega arith) (omega arith) m
     in
     parsed-right line k a b c d l
-    (holds-column 2 k (part line 0 2) (part-front (column 2 k) (columns ns) 2 (length-column 2 k)) (omega arith) (omega arith) (omega arith))
+    (holds-column 2 k (part line 0 2) front (omega arith) (omega arith) (omega arith))
     (field 0 a (omega arith) refl ha)
     (field 1 b (omega arith) refl hb)
     (field 2 c (omega arith) refl hc)
     (field 3 d (omega arith) refl hd)
 
-number-columns : (bs : List ℕ) (a w : ℕ) → a + w ≤ length bs → isNumber (part bs a w) ≡ true → part bs a w ≡ column w (numberOf (part bs a w))
+number-columns : (bs : List ℕ) (a w : ℕ) → a + w ≤ length bs → isNumber (part bs a w) ≡ true
+    → part bs a w ≡ column w (numberOf (part bs a w))
 unfolding isNumber
 number-columns bs a w h e =
     let p = and-true (plain (skipped (part bs a w))) (ltb (numberOf (part bs a w)) (2 ^ 32)) e in
@@ -112,7 +114,8 @@ line-of : (bs : List ℕ) → Formed bs → bs ≡ column 2 (numberOf (part bs 0
 unfolding fieldOf
 line-of bs f =
     let l = f .whole in
-    let next : (a n m : ℕ) (ys : List ℕ) → a + n ≡ m → m ≤ 42 → isNumber (part bs a n) ≡ true → drop m bs ≡ ys → drop a bs ≡ column n (numberOf (part bs a n)) ++ ys =
+    let next : (a n m : ℕ) (ys : List ℕ) → a + n ≡ m → m ≤ 42 → isNumber (part bs a n) ≡ true → drop m bs ≡ ys
+    → drop a bs ≡ column n (numberOf (part bs a n)) ++ ys =
     λ a n m ys e h t r. part-next bs a n (omega arith) ∙ ap (λ k. part bs a n ++ drop k bs) e ∙ ap (λ l. part bs a n ++ l) r
     ∙ ap (λ l. l ++ ys) (number-columns bs a n (omega arith) t)
     in
@@ -177,7 +180,8 @@ line-kept bs h =
     let k : ℕ = numberOf (part bs 0 2) in
     let n : ℕ → ℕ = λ j. numberOf (fieldOf bs j) in
     let p : parsed bs ≡ requestOf k (n 0) (n 1) (n 2) (n 3) =
-    parsed-right bs k (n 0) (n 1) (n 2) (n 3) (f .whole) (f .kind, refl) (f .first, refl) (f .second, refl) (f .third, refl) (f .fourth, refl)
+    parsed-right bs k (n 0) (n 1) (n 2) (n 3) (f .whole) (f .kind, refl) (f .first, refl) (f .second, refl) (f .third, refl)
+    (f .fourth, refl)
     in
     let q = request-kept k (n 0) (n 1) (n 2) (n 3) (λ w. h (p ∙ w)) in
     ap requestLine p ∙ ap (λ m. column 2 m ++ columns (fieldsOf (requestOf k (n 0) (n 1) (n 2) (n 3)))) (q .0)

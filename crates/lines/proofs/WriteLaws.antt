@@ -44,7 +44,8 @@ record Filled (s₀ : List ℕ) (m : ℕ) (p s : List ℕ) : Type 0 where
 none-filled : (s₀ : List ℕ) → Filled s₀ 0 [] s₀
 none-filled s₀ = record { size = refl; same = refl }
 
-fill-next : (s₀ : List ℕ) (m w n e : ℕ) (p s t : List ℕ) → Filled s₀ m p s → m + w ≡ e → t ≡ replaced m w (column w n) s → Filled s₀ e (p ++ column w n) t
+fill-next : (s₀ : List ℕ) (m w n e : ℕ) (p s t : List ℕ) → Filled s₀ m p s → m + w ≡ e → t ≡ replaced m w (column w n) s
+    → Filled s₀ e (p ++ column w n) t
 fill-next s₀ m w n e p s t f q r =
     record {
       size = length-append p (column w n) ∙ omega (arith, length-column w n);

@@ -28,7 +28,8 @@ returns : tie.Need-returns
 returns c =
     let a = c .before .before .before .args in
     let e : a .at + a .w - a .at ≡ a .w = omega arith in
-    c .number-in .ensures ∙ ap numberIn (ap (λ k. take k (drop (a .at) (a .line .now))) e ∙ sym (part-in (a .line .now) (a .at) (a .w) (search needs)))
+    c .number-in .ensures
+    ∙ ap numberIn (ap (λ k. take k (drop (a .at) (a .line .now))) e ∙ sym (part-in (a .line .now) (a .at) (a .w) (search needs)))
 
 pub field-spec : {M : Type 1} → statement M
 field-spec =

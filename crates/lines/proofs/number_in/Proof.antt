@@ -9,7 +9,7 @@ blanks-requires : tie.Need-blanks-requires
 blanks-requires c κs = search needs
 
 returns : tie.Need-returns
-returns c = sym (none-held (c .before .before .before .args .cols .now) (c .before .blanks .result) (c .before .blanks .ensures .0) (search needs))
+returns c = sym (none-held _ (c .before .blanks .result) (c .before .blanks .ensures .0) (search needs))
 
 shared-slice-read-if2 : tie.Need-shared-slice-read-if2
 shared-slice-read-if2 c = search needs
@@ -18,16 +18,22 @@ add-if3 : tie.Need-add-if3
 add-if3 c = search needs
 
 returns-2 : tie.Need-returns-2
-returns-2 c = sym (leading-zero (c .before .before .before .before .before .before .args .cols .now) (c .before .before .before .before .blanks .result) (c .before .before .before .before .blanks .ensures .0) (search needs) (c .before .if2 .taken) (search needs))
+returns-2 c =
+    let b = c .before .before .before .before .blanks in
+    sym (leading-zero _ (b .result) (b .ensures .0) (search needs) (c .before .if2 .taken) (search needs))
 
 returns-3 : tie.Need-returns-3
-returns-3 c = sym (zero-held (c .before .before .before .before .before .before .args .cols .now) (c .before .before .before .before .blanks .result) (c .before .before .before .before .blanks .ensures .0) (search needs) (c .before .if2 .taken) (search needs))
+returns-3 c =
+    let b = c .before .before .before .before .blanks in
+    sym (zero-held _ (b .result) (b .ensures .0) (search needs) (c .before .if2 .taken) (search needs))
 
 spelled-requires : tie.Need-spelled-requires
 spelled-requires c κs = search needs
 
 returns-4 : tie.Need-returns-4
-returns-4 c = c .spelled .ensures ∙ sym (digits-held (c .before .before .before .before .before .before .args .cols .now) (c .before .before .before .before .blanks .result) (c .before .before .before .before .blanks .ensures .0) (search needs) (c .before .if2 .left))
+returns-4 c =
+    let b = c .before .before .before .before .blanks in
+    c .spelled .ensures ∙ sym (digits-held _ (b .result) (b .ensures .0) (search needs) (c .before .if2 .left))
 
 pub number-in-spec : {M : Type 1} → statement M
 number-in-spec =

@@ -22,7 +22,7 @@ enum-told c = search needs
 
 returns-2 : tie.Need-returns-2
 returns-2 c =
-    sym (parsed-wrong (c .before .before .before .before .before .args .line .now) (λ f. number-not _ (sym (c .before .before .field .ensures) ∙ c .enum-told .given .1) (f .kind)))
+    sym (parsed-wrong _ (λ f. number-not _ (sym (c .before .before .field .ensures) ∙ c .enum-told .given .1) (f .kind)))
 
 field-requires-2 : tie.Need-field-requires-2
 field-requires-2 c κs = search needs
@@ -36,7 +36,7 @@ enum-told-2 c = search needs
 returns-3 : tie.Need-returns-3
 unfolding fieldOf
 returns-3 c =
-    sym (parsed-wrong (c .before .before .before .before .before .before .before .before .before .args .line .now) (λ f. number-not _ (sym (c .before .before .field2 .ensures) ∙ c .enum-told2 .given .1) (f .first)))
+    sym (parsed-wrong _ (λ f. number-not _ (sym (c .before .before .field2 .ensures) ∙ c .enum-told2 .given .1) (f .first)))
 
 field-requires-3 : tie.Need-field-requires-3
 field-requires-3 c κs = search needs
@@ -50,7 +50,7 @@ enum-told-3 c = search needs
 returns-4 : tie.Need-returns-4
 unfolding fieldOf
 returns-4 c =
-    sym (parsed-wrong (c .before .before .before .before .before .before .before .before .before .before .before .before .before .args .line .now) (λ f. number-not _ (sym (c .before .before .field3 .ensures) ∙ c .enum-told3 .given .1) (f .second)))
+    sym (parsed-wrong _ (λ f. number-not _ (sym (c .before .before .field3 .ensures) ∙ c .enum-told3 .given .1) (f .second)))
 
 field-requires-4 : tie.Need-field-requires-4
 field-requires-4 c κs = search needs
@@ -64,7 +64,7 @@ enum-told-4 c = search needs
 returns-5 : tie.Need-returns-5
 unfolding fieldOf
 returns-5 c =
-    sym (parsed-wrong (c .before .before .before .before .before .before .before .before .before .before .before .before .before .before .before .before .before .args .line .now) (λ f. number-not _ (sym (c .before .before .field4 .ensures) ∙ c .enum-told4 .given .1) (f .third)))
+    sym (parsed-wrong _ (λ f. number-not _ (sym (c .before .before .field4 .ensures) ∙ c .enum-told4 .given .1) (f .third)))
 
 field-requires-5 : tie.Need-field-requires-5
 field-requires-5 c κs = search needs
@@ -78,7 +78,7 @@ enum-told-5 c = search needs
 returns-6 : tie.Need-returns-6
 unfolding fieldOf
 returns-6 c =
-    sym (parsed-wrong (c .before .before .before .before .before .before .before .before .before .before .before .before .before .before .before .before .before .before .before .before .before .args .line .now) (λ f. number-not _ (sym (c .before .before .field5 .ensures) ∙ c .enum-told5 .given .1) (f .fourth)))
+    sym (parsed-wrong _ (λ f. number-not _ (sym (c .before .before .field5 .ensures) ∙ c .enum-told5 .given .1) (f .fourth)))
 
 request-of-requires : tie.Need-request-of-requires
 request-of-requires c κs = search needs
@@ -87,12 +87,17 @@ returns-7 : tie.Need-returns-7
 unfolding fieldOf
 returns-7 c =
     c .request-of .ensures
-    ∙ sym (parsed-right (c .before .before .before .before .before .before .before .before .before .before .before .before .before .before .before .before .before .before .before .before .before .before .before .args .line .now) _ _ _ _ _ (search needs)
-    (number-is _ _ (sym (c .before .before .before .before .before .before .before .before .before .before .before .before .before .before .before .before .before .before .before .before .field .ensures) ∙ c .before .before .before .before .before .before .before .before .before .before .before .before .before .before .before .before .before .before .kind .given .1))
-    (number-is _ _ (sym (c .before .before .before .before .before .before .before .before .before .before .before .before .before .before .before .before .field2 .ensures) ∙ c .before .before .before .before .before .before .before .before .before .before .before .before .before .before .a .given .1))
-    (number-is _ _ (sym (c .before .before .before .before .before .before .before .before .before .before .before .before .field3 .ensures) ∙ c .before .before .before .before .before .before .before .before .before .before .b .given .1))
-    (number-is _ _ (sym (c .before .before .before .before .before .before .before .before .field4 .ensures) ∙ c .before .before .before .before .before .before .c .given .1))
-    (number-is _ _ (sym (c .before .before .before .before .field5 .ensures) ∙ c .before .before .d .given .1)))
+    ∙ (let d = c .before .before in
+    let e = d .before .before .before .before in
+    let b = e .before .before .before .before in
+    let a = b .before .before .before .before in
+    let k = a .before .before .before .before in
+    sym (parsed-right _ _ _ _ _ _ (search needs)
+    (number-is _ _ (sym (k .before .before .field .ensures) ∙ k .kind .given .1))
+    (number-is _ _ (sym (a .before .before .field2 .ensures) ∙ a .a .given .1))
+    (number-is _ _ (sym (b .before .before .field3 .ensures) ∙ b .b .given .1))
+    (number-is _ _ (sym (e .before .before .field4 .ensures) ∙ e .c .given .1))
+    (number-is _ _ (sym (d .before .before .field5 .ensures) ∙ d .d .given .1))))
 
 pub parse-spec : {M : Type 1} → statement M
 parse-spec =

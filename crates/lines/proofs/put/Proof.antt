@@ -17,6 +17,11 @@ Inv-loop out₀ at w number k₀ n₀ out k n =
 abbrev μ-loop : tie.MeasureT-loop
 μ-loop out₀ at w number k₀ n₀ out k n = k
 
+-- a store keeps the length
+kept : (c : tie.After-shown Inv-loop μ-loop)
+    → length (c .before .before .loop .out) ≡ length (c .before .before .before .before .args .out .now)
+kept c = c .before .before .loop .inv .1 ∙ simp length-set
+
 sub-k : tie.Need-sub-k Inv-loop μ-loop
 sub-k c = search needs
 
@@ -45,7 +50,7 @@ add-out-3 : tie.Need-add-out-3 Inv-loop μ-loop
 add-out-3 c = search needs
 
 slice-write-out-2 : tie.Need-slice-write-out-2 Inv-loop μ-loop
-slice-write-out-2 c = let l : length (c .before .before .loop .out) ≡ length (c .before .before .before .before .args .out .now) = c .before .before .loop .inv .1 ∙ simp length-set in search needs
+slice-write-out-2 c = let e = kept c in search needs
 
 loop-less : tie.Need-loop-less Inv-loop μ-loop
 loop-less c = search needs
@@ -54,7 +59,7 @@ loop-again : tie.Need-loop-again Inv-loop μ-loop
 loop-again c =
     let a = c .before .before .before .before .args in
     let l = c .before .before .loop in
-    let e : length (l .out) ≡ length (a .out .now) = l .inv .1 ∙ simp length-set in (
+    let e = kept c in (
       search needs,
       simp length-set e,
       put-more (a .at) (l .k) (l .n) (c .shown .result) (l .out) (search needs) (omega arith) (c .shown .ensures) ∙ l .inv .2,

@@ -23,11 +23,11 @@ same-length : tie.Need-same-length
 same-length c = simp length-set (omega arith)
 
 returns : tie.Need-returns
-returns c = (
-  refl,
-  fields-put (c .before .before .before .before .before .before .before .before .before .before .before .before .before .args .out .now) _ _ _ _ _ _ _ _ _ (search needs) (c .before .before .before .before .before .before .before .before .before .before .put-two .ensures) (c .before .before .before .before .before .before .put-two2 .ensures)
-      (c .before .before .put-two3 .ensures),
-)
+returns c =
+    let p = c .before .before in
+    let q = p .before .before .before .before in
+    let r = q .before .before .before .before in
+    (refl, fields-put _ _ _ _ _ _ _ _ _ _ (search needs) (r .put-two .ensures) (q .put-two2 .ensures) (p .put-two3 .ensures))
 
 pub put-fields-spec : {M : Type 1} → statement M
 put-fields-spec =

@@ -26,11 +26,14 @@ same-length : tie.Need-same-length
 same-length c = simp length-set (omega arith)
 
 returns : tie.Need-returns
-returns c = (
-  refl,
-  summary-put (c .before .before .before .before .before .before .before .before .before .before .before .before .before .before .before .before .before .args .out .now) _ _ _ _ _ _ _ (search needs) (c .before .before .before .before .before .before .before .before .before .before .before .before .before .before .put-two .ensures) (c .before .before .before .before .before .before .before .before .before .before .put .ensures) (c .before .before .before .before .before .before .put2 .ensures)
-      (c .before .before .put3 .ensures),
-)
+returns c =
+    let p = c .before .before in
+    let q = p .before .before .before .before in
+    let r = q .before .before .before .before in
+    let t = r .before .before .before .before in (
+      refl,
+      summary-put _ _ _ _ _ _ _ _ (search needs) (t .put-two .ensures) (r .put .ensures) (q .put2 .ensures) (p .put3 .ensures),
+    )
 
 pub put-summary-spec : {M : Type 1} → statement M
 put-summary-spec =

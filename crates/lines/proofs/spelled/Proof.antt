@@ -6,7 +6,8 @@ use native.Mathlib.Nat.{one-le-pow}
 use native.Mathlib.Omega.{arith}
 use lib.ListN.{length, drop}
 use Rattle.lines.specs.Steps.{taken, spelledBy}
-use Rattle.lines.proofs.ReadLaws.{digit-low, digit-high, digit-taken, digit-missed, digits-end, digits-below, ten-columns, taken-large, taken-word}
+use Rattle.lines.proofs.ReadLaws.{digit-low, digit-high, digit-taken, digit-missed, digits-end, digits-below}
+use Rattle.lines.proofs.ReadLaws.{ten-columns, taken-large, taken-word}
 use Rattle.lines.proofs.spelled.Statement.{statement}
 use Rattle.lines.proofs.spelled.Tie as tie
 
@@ -24,10 +25,14 @@ shared-slice-read-b : tie.Need-shared-slice-read-b Inv-loop μ-loop
 shared-slice-read-b c = search needs
 
 returns : tie.Need-returns Inv-loop μ-loop
-returns c = sym (digit-missed (c .before .before .before .before .args .cols .now) (c .before .before .before .loop .i) _ _ (search needs) refl (digit-low _ (c .if1 .taken))) ∙ c .before .before .before .loop .inv .2
+returns c =
+    let l = c .before .before .before .loop in
+    sym (digit-missed _ (l .i) _ _ (search needs) refl (digit-low _ (c .if1 .taken))) ∙ l .inv .2
 
 returns-2 : tie.Need-returns-2 Inv-loop μ-loop
-returns-2 c = sym (digit-missed (c .before .before .before .before .before .args .cols .now) (c .before .before .before .before .loop .i) _ _ (search needs) refl (digit-high _ (c .if2 .taken))) ∙ c .before .before .before .before .loop .inv .2
+returns-2 c =
+    let l = c .before .before .before .before .loop in
+    sym (digit-missed _ (l .i) _ _ (search needs) refl (digit-high _ (c .if2 .taken))) ∙ l .inv .2
 
 mul-n : tie.Need-mul-n Inv-loop μ-loop
 mul-n c = omega (arith, ten-columns _ _ (c .before .before .before .before .loop .inv .1) (search needs))
@@ -45,20 +50,25 @@ loop-less : tie.Need-loop-less Inv-loop μ-loop
 loop-less c = search needs
 
 loop-again : tie.Need-loop-again Inv-loop μ-loop
-loop-again c = (
-  search needs,
-  digits-below _ _ _ (c .before .before .before .before .loop .inv .1) (omega arith),
-  digit-taken (c .before .before .before .before .before .args .cols .now) (c .before .before .before .before .loop .i) _ _ (search needs) refl (c .before .if1 .left) (c .if2 .left) ∙ c .before .before .before .before .loop .inv .2,
-)
+loop-again c =
+    let l = c .before .before .before .before .loop in (
+      search needs,
+      digits-below _ _ _ (l .inv .1) (omega arith),
+      digit-taken _ (l .i) _ _ (search needs) refl (c .before .if1 .left) (c .if2 .left) ∙ l .inv .2,
+    )
 
 returns-3 : tie.Need-returns-3 Inv-loop μ-loop
-returns-3 c = sym (digits-end (c .before .before .before .args .cols .now) (c .before .before .loop .i) (c .before .before .loop .n) (search needs) ∙ taken-large (c .before .before .loop .n) (search needs)) ∙ c .before .before .loop .inv .2
+returns-3 c =
+    let l = c .before .before .loop in
+    sym (digits-end _ (l .i) (l .n) (search needs) ∙ taken-large (l .n) (search needs)) ∙ l .inv .2
 
 cast-t13 : tie.Need-cast-t13 Inv-loop μ-loop
 cast-t13 c = search needs
 
 returns-4 : tie.Need-returns-4 Inv-loop μ-loop
-returns-4 c = sym (digits-end (c .before .before .before .args .cols .now) (c .before .before .loop .i) (c .before .before .loop .n) (search needs) ∙ taken-word (c .before .before .loop .n) (search needs)) ∙ c .before .before .loop .inv .2
+returns-4 c =
+    let l = c .before .before .loop in
+    sym (digits-end _ (l .i) (l .n) (search needs) ∙ taken-word (l .n) (search needs)) ∙ l .inv .2
 
 pub spelled-spec : {M : Type 1} → statement M
 spelled-spec =
