@@ -15,7 +15,8 @@ use Rattle.lines.specs.declared.Request.{Request}
 use Rattle.lines.specs.declared.Request.the-variants.{SetUp, Enter, Find, Next, Range, Summary, Wrong}
 use Rattle.lines.specs.Columns.{numberOf, isNumber, column}
 
--- "The kind selects: 0 set-up (θ, C, N, P), 1 enter, 2 find, 3 next, 4 range (low, high), 5 summary (low, high, today), 6 to 99 a wrong line."
+-- "The kind selects: 0 set-up (θ, C, N, P), 1 enter, 2 find, 3 next, 4 range (low, high), 5 summary (low, high, today), 6 to 99 a wrong
+-- line."
 abbrev pub kindOf : Request → ℕ
 kindOf (SetUp a b c d) = 0
 kindOf (Enter a b c d) = 1
@@ -70,6 +71,7 @@ unfoldable pub parsed : List ℕ → Request
 parsed bs =
     elim (wellFormed bs) [
       | true ↦
-          requestOf (numberOf (part bs 0 2)) (numberOf (fieldOf bs 0)) (numberOf (fieldOf bs 1)) (numberOf (fieldOf bs 2)) (numberOf (fieldOf bs 3))
+          requestOf (numberOf (part bs 0 2)) (numberOf (fieldOf bs 0)) (numberOf (fieldOf bs 1)) (numberOf (fieldOf bs 2))
+          (numberOf (fieldOf bs 3))
       | false ↦ Wrong
     ]

@@ -330,7 +330,8 @@ fn follow_from(
     first: u32,
     start: usize,
 ) -> Sought
-    requires { ⌜ (head .theta ≤ 6) × (head .capacity ≤ 64) × (head .nodesTaken ≤ 4096) × (start < 2 ^ 40) × (depthWord (now store) (nodeStart head first) ≤ head .theta) ⌝ }
+    requires { ⌜ (head .theta ≤ 6) × (head .capacity ≤ 64) × (head .nodesTaken ≤ 4096) × (start < 2 ^ 40)
+        × (depthWord (now store) (nodeStart head first) ≤ head .theta) ⌝ }
     ensures { λ r. ⌜ r ≡ follow f (now (store .entry)) head strict key (head .nodesTaken + 1) first start ⌝ }
 {
     let mut n = first;
@@ -354,7 +355,8 @@ fn follow_from(
 
 // The answer after the sought key's own run in its terminal node.
 fn after_own(store: &[u32], f: Format, head: Head, strict: bool, key: u64, t: Step) -> Sought
-    requires { ⌜ (head .theta ≤ 6) × (head .capacity ≤ 64) × (head .nodesTaken ≤ 4096) × (depthWord (now store) (nodeStart head (t .node)) ≤ head .theta) ⌝ }
+    requires { ⌜ (head .theta ≤ 6) × (head .capacity ≤ 64) × (head .nodesTaken ≤ 4096)
+        × (depthWord (now store) (nodeStart head (t .node)) ≤ head .theta) ⌝ }
     ensures { λ r. ⌜ r ≡ afterOwn f (now (store .entry)) head strict key t ⌝ }
 {
     let at = store::node_start(head, t.node);

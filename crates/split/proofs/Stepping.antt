@@ -189,7 +189,8 @@ module _ (f : Format) where
 
     taken-kept : NodesKept f s (takeItems f C s p rs)
     taken-kept =
-        nodes-then s (putItems f C s p rs) (takeItems f C s p rs) items-kept (filled-kept (putItems f C s p rs) _ (items-kept .whole .sized))
+        nodes-then s (putItems f C s p rs) (takeItems f C s p rs) items-kept
+        (filled-kept (putItems f C s p rs) _ (items-kept .whole .sized))
 
 numbers-graft : (b0 : Trie Stretch) (k : Key) (c : Trie Stretch) → numbers (graft b0 k c) ≡ graft (numbers b0) k (numbers c)
 numbers-graft b0 k c = relabel-graft (λ x. x .0) b0 k c

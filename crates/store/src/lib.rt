@@ -6,7 +6,8 @@ ghost use lib.ListN.{length, getD, replicate};
 ghost use Rattle.lists.specs.Lists.{part};
 ghost use Rattle.tree.specs.Book.{log2, levelBound};
 ghost use Rattle.store.specs.Format.{width, words};
-ghost use Rattle.store.specs.Head.{zeros, headOf, nodeWords, pageWords, size, nodeStart, pageStart, pageAt, lawfulSizes, lawfulCounts, headRule};
+ghost use Rattle.store.specs.Head.{zeros, headOf, nodeWords, pageWords, size, nodeStart, pageStart, pageAt};
+ghost use Rattle.store.specs.Head.{lawfulSizes, lawfulCounts, headRule};
 ghost use Rattle.store.specs.SetUp.{marked, setUp, reply};
 
 pub enum Format {
@@ -334,7 +335,8 @@ pub fn set_up(
     nodes: u32,
     pages: u32,
 ) -> SetUpAnswer
-    ensures { λ r. ⌜ (reply r ≡ setUp f theta capacity nodes pages (now (store .entry)) .reply) × (now (store .exit) ≡ setUp f theta capacity nodes pages (now (store .entry)) .words) ⌝ }
+    ensures { λ r. ⌜ (reply r ≡ setUp f theta capacity nodes pages (now (store .entry)) .reply)
+        × (now (store .exit) ≡ setUp f theta capacity nodes pages (now (store .entry)) .words) ⌝ }
 {
     if !sizes_ok(theta, capacity, nodes, pages) {
         return SetUpAnswer::OutsideLimits;
