@@ -17,10 +17,11 @@ use Rattle.search.specs.Find.{soundPage}
 use Rattle.represent.specs.Image.{pageImage, nodeAt}
 use Rattle.represent.specs.Example.{stored}
 use Rattle.split.specs.Frame.{putNode, putPage, putHead, putPagesTaken}
-use Rattle.split.specs.Round.{turned, grown, climb, round}
+use Rattle.split.specs.Round.{grown, climb, round}
 use Rattle.split.specs.Block.{kept, block, overRun, halves, halveRun, double, grow}
 use Rattle.insert.specs.Enter.{itemsIn, ownItems, ownPasses, neighbourOk, pathIn, parted, roundOf, placed, roundsFor, planOf, done}
-use Rattle.insert.specs.Enter.{written, planned, wayOf, visited, enterOf}
+use Rattle.store.specs.Tests.{failing}
+use Rattle.insert.specs.Enter.{wayOf, undamaged, enteredWords, enterOf}
 use Rattle.insert.specs.Example.{NeighbourTested}
 
 pub neighbour-tested : NeighbourTested
@@ -29,7 +30,7 @@ unfolding stored lawful isWord lawfulTerm lawfulDay bit replaced part tab every 
     levelBound width words zeros headOf nodeWords pageWords size nodeStart pageStart pageAt lawfulSizes lawfulCounts headRule sameRun
     runRule
     goodRuns linkRule pointerLow pointerHigh nodeRule entryNumber itemAt lawfulItem ordered pageRule agrees noSteps damagedNode entryVisit
-    stepOf lost stepTaken descend descent soundPage itemWords flat pageImage nodeAt putNode putPage putHead putPagesTaken turned grown climb
+    stepOf lost stepTaken descend descent soundPage itemWords flat pageImage nodeAt putNode putPage putHead putPagesTaken grown climb
     round kept block overRun halves halveRun double grow unlawful itemsIn ownItems ownPasses neighbourOk pathIn parted roundOf placed
-    roundsFor planOf done written planned wayOf visited enterOf
+    roundsFor planOf done failing wayOf undamaged enteredWords enterOf
 neighbour-tested = (refl, refl)

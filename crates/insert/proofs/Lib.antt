@@ -1,3 +1,4 @@
+pub mod Turned
 pub mod PathLaws
 pub mod WayLaws
 pub mod CountLaws

@@ -20,7 +20,7 @@ use Rattle.tree.proofs.TrieLaws.{depth-le-height}
 use Rattle.tree.proofs.NodePromises.{at-key, obeys}
 use Rattle.store.specs.declared.Format.{Format}
 use Rattle.store.specs.Format.{width}
-use Rattle.store.specs.Head.{headOf, zeros, pageAt}
+use Rattle.store.specs.Head.{headOf, zeros, pageAt, InUse}
 use Rattle.node.specs.Node.{depthWord, levelWord, entryDepth, entryPointer, entryOf}
 use Rattle.page.specs.Page.{pageRule}
 use Rattle.search.specs.Descent.{noStep, descent}
@@ -28,7 +28,7 @@ use Rattle.represent.specs.Labelled.{Each, occ, occs, Over, under, before, afte
 use Rattle.represent.specs.Image.{nodeAt, NodeIs}
 use Rattle.represent.specs.Rep.{Stretch, numbers, Rep}
 use Rattle.represent.specs.Promises.{pathSteps}
-use Rattle.readings.specs.Clauses.{Taken, start, PointsDown, runOf, Entry, NotBefore, passed, terminal}
+use Rattle.readings.specs.Clauses.{start, PointsDown, runOf, Entry, NotBefore, passed, terminal}
 use Rattle.readings.specs.Clauses.{Balanced, Terminal, InKeyOrder, Clauses}
 use Rattle.represent.proofs.LabelLaws.{label-low, label-high, ind-other, occ-at, labels-at, over-at, leafAt-under, over-in, over-parts}
 use Rattle.represent.proofs.LabelLaws.{each-labels, each-of, each-label, each-relabel}
@@ -121,10 +121,10 @@ module _ (f : Format) (s : List ℕ) (b0 : Trie Stretch) (b : Trie ℕ) (bs : Li
   abbrev Shows : ℕ → ℕ → Trie ℕ → Type 0
   Shows l n v = NodeIs (headOf s .theta) (node n) (suc l) v
 
-  label : (n : ℕ) → Taken s n → 1 ≤ occs n (b ∷ bs)
+  label : (n : ℕ) → InUse (headOf s) n → 1 ≤ occs n (b ∷ bs)
   label n t = omega (arith, r .directory .oneForOne .once n (t .positive) (t .within))
 
-  taken : (n : ℕ) → 1 ≤ occs n (b ∷ bs) → Taken s n
+  taken : (n : ℕ) → 1 ≤ occs n (b ∷ bs) → InUse (headOf s) n
   taken n o =
       record {
         positive = label-low (b ∷ bs) n (r .directory .positive) o;
@@ -169,7 +169,7 @@ module _ (f : Format) (s : List ℕ) (b0 : Trie Stretch) (b : Trie ℕ) (bs : Li
     level-is n o = stands n o .1 .level-is
 
   -- the level of a node in use
-  module _ (n : ℕ) (t : Taken s n) where
+  module _ (n : ℕ) (t : InUse (headOf s) n) where
     own : (l : ℕ) × (l < length (b ∷ bs)) × (1 ≤ occ n (level (suc l)))
     own = level-in (numbers b0) (b ∷ bs) n (label n t)
 
@@ -189,7 +189,7 @@ module _ (f : Format) (s : List ℕ) (b0 : Trie Stretch) (b : Trie ℕ) (bs : Li
       let q′ : l < length (b ∷ bs) = omega arith in
       inr (taken m (node-label l q′ m o), ap suc (level-is l q′ m o) ∙ sym e)
 
-  module _ (n i : ℕ) (t : Taken s n) (l : i < 2 ^ depthWord s (start s n)) where
+  module _ (n i : ℕ) (t : InUse (headOf s) n) (l : i < 2 ^ depthWord s (start s n)) where
     small : i < 2 ^ height (at n t .0)
     small = subst (λ H. i < 2 ^ H) (at n t .1 .depth) l
 
@@ -275,7 +275,7 @@ module _ (f : Format) (s : List ℕ) (b0 : Trie Stretch) (b : Trie ℕ) (bs : Li
           nodes = λ l q.
               let q′ : l < length (b ∷ bs) = omega (arith, count) in
               let o = occ-at (level (suc l)) key in
-              subst (λ n. Taken s n × (levelWord s (start s n) ≡ suc l)) (sym (passes l q′))
+              subst (λ n. InUse (headOf s) n × (levelWord s (start s n) ≡ suc l)) (sym (passes l q′))
               (taken _ (node-label l q′ _ o), level-is l q′ _ o);
           down = λ l q.
               subst (λ n. Entry s n (passed f s k l)) (sym (passes (suc l) (omega (arith, count))))

@@ -31,7 +31,7 @@ use Rattle.store.specs.declared.Format.{Format}
 use Rattle.store.specs.declared.Head.{Head}
 use Rattle.store.specs.declared.Item.{Item}
 use Rattle.store.specs.Format.{width}
-use Rattle.store.specs.Head.{headOf, lawfulSizes, zeros, size, nodeWords, pageWords, pageAt}
+use Rattle.store.specs.Head.{headOf, lawfulSizes, spareOk, size, nodeWords, pageWords, pageAt}
 use Rattle.node.specs.Node.{backWord, forwardWord}
 use Rattle.page.specs.Page.{lawfulItem}
 use Rattle.page.specs.Schema.{keyOf}
@@ -111,7 +111,7 @@ sizeOf f s = size f (headOf s .theta) (headOf s .capacity) (headOf s .nodeBlocks
 -- "θ (1 to 6), page capacity C (1 to 64), node blocks N and page blocks P (1 to 4,096 each)", "eight zeros", "the slice has the size"
 pub record Sized (f : Format) (s : List ℕ) : Type 0 where
   pub sizes : lawfulSizes (headOf s .theta) (headOf s .capacity) (headOf s .nodeBlocks) (headOf s .pageBlocks) ≡ true
-  pub spare : zeros s 8 8 ≡ true
+  pub spare : spareOk s ≡ true
   pub long : sizeOf f s ≤ length s
 
 module _ (f : Format) (s : List ℕ) where

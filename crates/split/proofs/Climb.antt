@@ -11,24 +11,30 @@ use Rattle.tree.proofs.CarryLaws.{bump-slack, bump-full}
 use Rattle.represent.specs.Labelled.{occ, occs, under}
 use Rattle.represent.specs.Rep.{backOf, forwardOf, Unlinked}
 use Rattle.split.specs.Round.{NodeOps, NodeLaws, StoreOps, StoreLaws, Place, placeAt, pathOf, carried}
-use Rattle.split.specs.Round.{grown, relink, splitNode, newRoot, climb}
+use Rattle.split.specs.Round.{nextNode, takeNode, grown, relink, splitNode, newRoot, deeper, inHalf, climb}
 use Rattle.represent.proofs.LabelLaws.{ind-other}
 use Rattle.split.proofs.Grafts.{forked, occ-split}
 use Rattle.split.proofs.CarriedLaws.{carried-slack, carried-full}
 use Rattle.split.proofs.Blocks.{Written, top-written}
-use Rattle.split.proofs.Writes.{kept-refl, put-kept, advanced}
+use Rattle.split.proofs.Writes.{put-kept, taken-head, taken-kept}
 use Rattle.split.proofs.Level.{is-moved, unlinked-same, unlinked-moved, written-unlinked, Plain, plain-cons, Ready, ready-low}
 use Rattle.split.proofs.Level.{ready-high, here-in, key-low}
 use Rattle.split.proofs.Splits.{Split, parts, Parted, parted, parted-split}
 use Rattle.split.proofs.Rise.{ClimbKeeps, grown-climbed, grown-links, lower-here, upper-here, rise}
+use Rattle.tree.proofs.TrieLaws.{depth-split}
+use Rattle.split.proofs.Paths.{slack-path, full-path}
+use Rattle.split.proofs.Level.{ready-deep, ready-tall}
 
-module _ (I : NodeOps) (O : StoreOps) (θ : ℕ) (s : O .S) (p : Place) (a c : ℕ) where
-  climb-room : (path : List Place) → p .depth < θ → climb I O θ s (p ∷ path) a c ≡ grown I O s p a c
+module _ (I : NodeOps) (O : StoreOps) (θ : ℕ) (k : Key) (s : O .S) (p : Place) (a c : ℕ) where
+  pub climb-room : (path : List Place) → p .depth < θ
+      → climb I O θ k s (p ∷ path) a c ≡ record { store = grown I O s p a c; path = deeper p ∷ path }
   unfolding climb
   climb-room path h = rw (lt-ltb (p .depth) θ h, climb)
 
-  climb-full : (path : List Place) → θ ≤ p .depth
-      → climb I O θ s (p ∷ path) a c ≡ climb I O θ (splitNode I O s p a c) path (p .at) (suc (O .taken s))
+  pub climb-full : (path : List Place) → θ ≤ p .depth
+      → climb I O θ k s (p ∷ path) a c
+      ≡ (let r = climb I O θ k (splitNode I O s p a c) path (p .at) (nextNode O s) in
+      record { store = r .store; path = inHalf θ p (nextNode O s) ∷ r .path })
   unfolding climb
   climb-full path h = rw (le-ltb (p .depth) θ h, climb)
 
@@ -62,7 +68,7 @@ module _ {θ : ℕ} {I : NodeOps} {O : StoreOps} (A : NodeLaws θ I) (B : StoreL
 
       halve-parted : Parted I O s s₁ n (I .lower (node s n) (rest b key) a c) (I .upper (node s n) (rest b key) a c) 0
       halve-parted =
-          rw (halve-parts I O θ s (placeAt u b key) a c)
+          rw (halve-parts I O θ key s (placeAt u b key) a c)
           (parted A B y key (low .is) (high .is) 0 not-null (λ i. absurd (i refl)) more)
 
       halve-split : Split θ O s s₁ (suc k) b n l r
@@ -88,24 +94,38 @@ module _ {θ : ℕ} {I : NodeOps} {O : StoreOps} (A : NodeLaws θ I) (B : StoreL
   unfolding climb newRoot carried bumpCost
   root-climbed h s k u key a c y fits f =
       let w = top-written A (suc (levels s)) a c h in
-      let p = B .put-is s (suc (taken s)) _ (suc (levels s)) (pair a c) (y .ok) (omega arith) (omega arith) (w .is) in
-      let g =
-      advanced B s _ (suc (taken s)) (suc (levels s)) (omega arith)
-      (put-kept (omega arith) (kept-refl s (y .ok)) p) in
+      let t = taken-head B s (y .ok) (omega arith) in
+      let p =
+      B .put-is (takeNode O s) (suc (taken s)) _ (suc (levels s)) (pair a c) (t .ok) (omega arith) (omega (arith, t .cap-same))
+      (w .is) in
+      let s₁ : S = O .put (takeNode O s) (suc (taken s)) (I .top (suc (levels s)) a c) in
+      let e = put-kept (omega arith) (taken-kept B s (y .ok) (omega arith)) p in
+      let g = B .head-is s₁ (suc (taken s)) (suc (levels s₁)) (taken s₁) (p .ok) (omega (arith, e .now, e .cap-same)) in
       let at-m : node (newRoot I O s a c) (suc (taken s)) ≡ I .top (suc (levels s)) a c =
-      g .nodes-same (suc (taken s)) (omega arith) (omega arith) ∙ p .here in (
+      g .nodes-same (suc (taken s)) (omega arith) (omega (arith, e .cap-same)) ∙ p .here in (
         record {
           nodes = (
             is-moved at-m (rw (y .nodes .0, ← (y .nodes .1)) (w .is)),
-            (ap leaf (sym (g .root-is)), g .levels-is ∙ ap suc (y .nodes .1)),
+            (ap leaf (sym (g .root-is)), g .levels-is ∙ ap suc (e .levels-same ∙ y .nodes .1)),
           );
-          frame = λ x i t o. g .nodes-same x i (omega arith) ∙ p .elsewhere x i (omega arith) (λ j. omega arith);
-          changed = g .changed;
+          frame = λ x i l o.
+              g .nodes-same x i (omega (arith, e .cap-same)) ∙ p .elsewhere x i (omega (arith, t .cap-same)) (λ j. omega arith)
+              ∙ t .nodes-same x i (omega arith);
+          changed = record {
+            ok = g .ok;
+            now = omega (arith, g .taken-is, e .now);
+            cap-same = g .cap-same ∙ e .cap-same;
+            others-same = g .others-same ∙ e .others-same;
+            fresh = λ x l r.
+                g .nodes-same x (omega arith) (omega (arith, e .cap-same)) ∙ e .fresh x (omega (arith, g .taken-is, e .now)) r;
+          };
         },
         λ x o. elim (ℕ-discrete x (suc (taken s))) [
           | yes i ↦ subst (Unlinked (node (newRoot I O s a c))) (sym i) (written-unlinked θ _ _ at-m w refl refl)
           | no i ↦ absurd (omega (arith, ind-other x (suc (taken s)) i))
         ],
+        ap (λ d. record { at = suc (taken s); bits = key; depth = d } ∷ [])
+            (sym (omega (arith, depth-split u key a c, ap (λ t. depth t key) (y .nodes .0)))),
       )
 
   pub climb-keeps : 1 ≤ θ → (bs : List (Trie ℕ)) → ClimbKeeps A B bs
@@ -114,22 +134,25 @@ module _ {θ : ℕ} {I : NodeOps} {O : StoreOps} (A : NodeLaws θ I) (B : StoreL
       elim (decLt (depth u key - depth b key) θ) [
         | yes small ↦
             rw (
-              climb-room I O θ s (placeAt u b key) a c (pathOf b bs key) small,
+              climb-room I O θ key s (placeAt u b key) a c (pathOf b bs key) small,
               carried-slack θ (taken s) u b bs key small,
               bump-slack θ (depth u key - depth b key) (locals b bs key) small .1,
+            ) (
+              grown-climbed A B y key a c small,
+              λ x o. unlinked-same θ (node s) _ x (grown-links A B y key a c small x o) (f x o),
+              slack-path u b bs key a c (ready-deep y key),
             )
-            (grown-climbed A B y key a c small, λ x o. unlinked-same θ (node s) _ x (grown-links A B y key a c small x o) (f x o))
         | no large ↦
             let full : θ ≤ depth u key - depth b key = omega arith in
             let cost = bump-full θ (depth u key - depth b key) (locals b bs key) full .1 in
             let more : taken s < cap s = omega (arith, cost) in
             let t = forked (under b u key) (rest b key) a c in
             let s₁ : S = splitNode I O s (placeAt u b key) a c in
-            let s′ : S = climb I O θ s₁ (pathOf b bs key) (leafAt b key) (suc (taken s)) in
+            let s′ : S = climb I O θ key s₁ (pathOf b bs key) (leafAt b key) (suc (taken s)) .store in
             let w = halve-split y key a c (t .2) full more in
             let z = rise A B y key a c (t .2) w (climb-keeps h bs) (omega (arith, cost)) (λ x o. f x (omega arith)) in
             rw (
-              climb-full I O θ s (placeAt u b key) a c (pathOf b bs key) full,
+              climb-full I O θ key s (placeAt u b key) a c (pathOf b bs key) full,
               carried-full θ (taken s) u b bs key full,
               cost,
             ) (
@@ -137,5 +160,7 @@ module _ {θ : ℕ} {I : NodeOps} {O : StoreOps} (A : NodeLaws θ I) (B : StoreL
               plain-cons θ (node s′) (graft b key (pair (leafAt b key) (suc (taken s)))) (carried θ (suc (taken s)) b bs key)
                   (λ x o. unlinked-moved θ (node s₁) (node s′) x (z .kept x o) (halve-plain y key a c (t .2) full more f x o))
                   (z .plain),
+              full-path u b (carried θ (suc (taken s)) b bs key) key a c (ready-deep y key) θ (suc (taken s)) _ (ready-tall y key) full
+                  (z .way),
             )
       ]

@@ -11,7 +11,7 @@ use Prim.Native.Nat.{ℕ, suc, _-_, _≤_}
 use native.Mathlib.Omega.{arith}
 use native.Mathlib.Decide.{ℕ-discrete, decLe}
 use Rattle.tree.specs.Trie.{Trie, leaf, Key, labels, leafAt, depth, rest, graft}
-use Rattle.tree.proofs.TrieLaws.{graft-leafAt}
+use Rattle.tree.proofs.TrieLaws.{graft-leafAt, depth-le-height}
 use Rattle.node.specs.Node.{backWord, forwardWord}
 use Rattle.represent.specs.Labelled.{occ, occs, Over, under}
 use Rattle.represent.specs.Image.{NodeIs}
@@ -113,6 +113,12 @@ module _ {θ : ℕ} {O : StoreOps} {s : O .S} {k : ℕ} {u b : Trie ℕ} {bs : L
 
     pub local-depth : depth (under b u key) (rest b key) ≡ depth u key - depth b key
     local-depth = omega (arith, depth-under (At θ (node s) (suc k)) b u key (y .nodes .0))
+
+    pub ready-deep : depth b key ≤ depth u key
+    ready-deep = omega (arith, depth-under (At θ (node s) (suc k)) b u key (y .nodes .0))
+
+    pub ready-tall : depth u key - depth b key ≤ θ
+    ready-tall = omega (arith, local-depth, here .low, depth-le-height (under b u key) (rest b key))
 
     -- its block rewritten, with the same links
     module _ (B : StoreLaws θ O) (d : Trie ℕ) {ws : List ℕ}

@@ -5,6 +5,7 @@ pub mod Writes
 pub mod Level
 pub mod Splits
 pub mod Rise
+pub mod Paths
 pub mod Climb
 pub mod FirstSplit
 pub mod RoundLaws

@@ -30,11 +30,12 @@ use Rattle.page.specs.Schema.{keyOf}
 use Rattle.represent.specs.Rep.{Stretch, numbers, PageIs, Lawful, Keyed, Pages, Sized}
 use Rattle.represent.proofs.LabelLaws.{label-high, ind-eq, ind-other, occ-graft, occ-at, each-at, leafAt-relabel}
 use Rattle.represent.proofs.LabelLaws.{relabel-graft, each-map, each-graft}
-use Rattle.split.specs.Insertion.{stretchAt, leftAt, prefixAt, nextBit, halfAt, replacedAt, Fit, putItems, takeItems}
+use Rattle.split.specs.Insertion.{stretchAt, leftAt, prefixAt, nextBit, halfAt, replacedAt, Fit, putItems, nextPage, takePage}
+use Rattle.split.specs.Insertion.{SameSizes}
 use Rattle.split.specs.Frame.{pageOf}
 use Rattle.split.proofs.Lengths.{length-pageImage}
 use Rattle.split.proofs.Frame.{sized-long, putPage-head, putPage-sized, putPage-same, putPage-other}
-use Rattle.split.proofs.Frame.{putPagesTaken-sizes, putPagesTaken-is, putPagesTaken-pages}
+use Rattle.split.proofs.Frame.{putPagesTaken-sizes, putPagesTaken-is, putPagesTaken-sized, putPagesTaken-pages}
 use Rattle.represent.proofs.Keyed.{keyed-own}
 
 count-graft : (p : ℕ) (t : Trie Stretch) (k : Key) (c : Trie Stretch)
@@ -316,17 +317,50 @@ module _ (f : Format) (C : ℕ) (s : List ℕ) (p : ℕ) (rs : List Item) (ok : 
   pub put-other : (x : ℕ) → 1 ≤ x → (x ≡ p → ⊥) → pageOf f (putItems f C s p rs) x ≡ pageOf f s x
   put-other = putPage-other f s p (pageImage f C rs) ok low high put-length
 
-  take-capacity : headOf (takeItems f C s p rs) .capacity ≡ headOf s .capacity
-  take-capacity = putPagesTaken-sizes (putItems f C s p rs) _ .capacity ∙ ap (λ (h : Head). h .capacity) put-head
+-- a page written after one was taken
+module _ (f : Format) (C : ℕ) (s : List ℕ) (p : ℕ) (rs : List Item) (ok : Sized f s) (low : 1 ≤ p) (high : p ≤ headOf s .pageBlocks)
+    (full : headOf s .capacity ≡ C) (fits : length rs ≤ C) where
+  abbrev s₀ : List ℕ
+  s₀ = takePage s
 
-  pub take-pagesTaken : headOf (takeItems f C s p rs) .pagesTaken ≡ p
-  take-pagesTaken = putPagesTaken-is (putItems f C s p rs) p (omega (arith, sized-long f (putItems f C s p rs) put-sized))
+  sizes₀ : SameSizes (headOf s) (headOf s₀)
+  sizes₀ = putPagesTaken-sizes s _
 
-  pub take-same : pageOf f (takeItems f C s p rs) p ≡ pageImage f C rs
-  take-same = putPagesTaken-pages (putItems f C s p rs) _ f p ∙ put-same
+  ok₀ : Sized f s₀
+  ok₀ = putPagesTaken-sized s _ f ok
 
-  pub take-other : (x : ℕ) → 1 ≤ x → (x ≡ p → ⊥) → pageOf f (takeItems f C s p rs) x ≡ pageOf f s x
-  take-other x q ne = putPagesTaken-pages (putItems f C s p rs) _ f x ∙ put-other x q ne
+  high₀ : p ≤ headOf s₀ .pageBlocks
+  high₀ = omega (arith, sizes₀ .pages)
+
+  full₀ : headOf s₀ .capacity ≡ C
+  full₀ = sizes₀ .capacity ∙ full
+
+  abbrev t : List ℕ
+  t = putItems f C s₀ p rs
+
+  head₀ : headOf t ≡ headOf s₀
+  head₀ = put-head f C s₀ p rs ok₀ low high₀ full₀ fits
+
+  pub take-sized : Sized f t
+  take-sized = put-sized f C s₀ p rs ok₀ low high₀ full₀ fits
+
+  pub take-sizes : SameSizes (headOf s) (headOf t)
+  take-sizes =
+      record {
+        theta = ap (λ (h : Head). h .theta) head₀ ∙ sizes₀ .theta;
+        capacity = ap (λ (h : Head). h .capacity) head₀ ∙ sizes₀ .capacity;
+        nodes = ap (λ (h : Head). h .nodeBlocks) head₀ ∙ sizes₀ .nodes;
+        pages = ap (λ (h : Head). h .pageBlocks) head₀ ∙ sizes₀ .pages;
+      }
+
+  pub take-pagesTaken : headOf t .pagesTaken ≡ nextPage s
+  take-pagesTaken = ap (λ (h : Head). h .pagesTaken) head₀ ∙ putPagesTaken-is s (nextPage s) (omega (arith, sized-long f s ok))
+
+  pub take-same : pageOf f t p ≡ pageImage f C rs
+  take-same = put-same f C s₀ p rs ok₀ low high₀ full₀ fits
+
+  pub take-other : (x : ℕ) → 1 ≤ x → (x ≡ p → ⊥) → pageOf f t x ≡ pageOf f s x
+  take-other x q ne = put-other f C s₀ p rs ok₀ low high₀ full₀ fits x q ne ∙ putPagesTaken-pages s _ f x
 
 module _ (f : Format) (s : List ℕ) (b0 : Trie Stretch) (key : ℕ) (ok : Sized f s) (pg : PagesOf f s b0) (inside : key < 2 ^ width f) where
   pub pages-put : (rs : List Item) → headOf s .pagesTaken ≤ headOf s .pageBlocks → 1 ≤ stretchAt f b0 key .0
@@ -342,37 +376,37 @@ module _ (f : Format) (s : List ℕ) (b0 : Trie Stretch) (key : ℕ) (ok : Sized
       (λ p a b c. put-other f C s n rs ok low high refl (fit .fits) p a c) rs low fit (ap (λ (h : Head). h .pagesTaken) head)
       (put-same f C s n rs ok low high refl (fit .fits))
 
-  pub pages-take : (rs : List Item) → suc (headOf s .pagesTaken) ≤ headOf s .pageBlocks → stretchAt f b0 key .0 ≡ 0
+  pub pages-take : (rs : List Item) → nextPage s ≤ headOf s .pageBlocks → stretchAt f b0 key .0 ≡ 0
       → Fit f (headOf s .capacity) (leftAt f b0 key) (prefixAt f b0 key) rs
-      → PagesOf f (takeItems f (headOf s .capacity) s (suc (headOf s .pagesTaken)) rs)
-      (replacedAt f b0 key (leaf (suc (headOf s .pagesTaken), rs)))
+      → PagesOf f (putItems f (headOf s .capacity) (takePage s) (nextPage s) rs) (replacedAt f b0 key (leaf (nextPage s, rs)))
   pages-take rs room null fit =
-      let m : ℕ = suc (headOf s .pagesTaken) in
+      let m : ℕ = nextPage s in
       let C : ℕ = headOf s .capacity in
-      let s′ : List ℕ = takeItems f C s m rs in
+      let s′ : List ℕ = putItems f C (takePage s) m rs in
       let low : 1 ≤ m = omega arith in
-      take-any f s (headOf s) b0 key pg inside s′ (headOf s′) (take-capacity f C s m rs ok low room refl (fit .fits))
+      take-any f s (headOf s) b0 key pg inside s′ (headOf s′) (take-sizes f C s m rs ok low room refl (fit .fits) .capacity)
       (λ p a b c. take-other f C s m rs ok low room refl (fit .fits) p a (λ e. omega arith)) rs null fit
       (take-pagesTaken f C s m rs ok low room refl (fit .fits)) (take-same f C s m rs ok low room refl (fit .fits))
 
-  pub pages-both : depth b0 (bits (width f) key) < width f → suc (headOf s .pagesTaken) ≤ headOf s .pageBlocks
+  pub pages-both : depth b0 (bits (width f) key) < width f → nextPage s ≤ headOf s .pageBlocks
       → 1 ≤ length (halfAt false f b0 key) → 1 ≤ length (halfAt true f b0 key)
       → PagesOf f
-      (takeItems f (headOf s .capacity) (putItems f (headOf s .capacity) s (stretchAt f b0 key .0) (halfAt false f b0 key))
-      (suc (headOf s .pagesTaken)) (halfAt true f b0 key))
-      (replacedAt f b0 key (pair (stretchAt f b0 key .0, halfAt false f b0 key) (suc (headOf s .pagesTaken), halfAt true f b0 key)))
+      (putItems f (headOf s .capacity) (putItems f (headOf s .capacity) (takePage s) (stretchAt f b0 key .0) (halfAt false f b0 key))
+      (nextPage s) (halfAt true f b0 key))
+      (replacedAt f b0 key (pair (stretchAt f b0 key .0, halfAt false f b0 key) (nextPage s, halfAt true f b0 key)))
   pages-both deep room some₀ some₁ =
-      both-any f s (headOf s) b0 key pg inside s′ (headOf s′) (take-capacity f C s₁ m o ok₁ low₁ high₁ full fits₁ ∙ full)
-      (λ p a b c. take-other f C s₁ m o ok₁ low₁ high₁ full fits₁ p a (λ e. omega arith) ∙ put-other f C s n z ok low high refl fits p a c)
-      deep low some₀ some₁ (take-pagesTaken f C s₁ m o ok₁ low₁ high₁ full fits₁)
-      (take-other f C s₁ m o ok₁ low₁ high₁ full fits₁ n low (λ e. omega (arith, known)) ∙ put-same f C s n z ok low high refl fits)
-      (take-same f C s₁ m o ok₁ low₁ high₁ full fits₁)
+      both-any f s (headOf s) b0 key pg inside s′ (headOf s′) (ap (λ (h : Head). h .capacity) head ∙ full)
+      (λ p a b c.
+      put-other f C s₁ m o ok₁ low₁ high₁ full fits₁ p a (λ e. omega arith) ∙ take-other f C s n z ok low high refl fits p a c)
+      deep low some₀ some₁ (ap (λ (h : Head). h .pagesTaken) head ∙ take-pagesTaken f C s n z ok low high refl fits)
+      (put-other f C s₁ m o ok₁ low₁ high₁ full fits₁ n low (λ e. omega (arith, known)) ∙ take-same f C s n z ok low high refl fits)
+      (put-same f C s₁ m o ok₁ low₁ high₁ full fits₁)
     where
       n : ℕ
       n = stretchAt f b0 key .0
 
       m : ℕ
-      m = suc (headOf s .pagesTaken)
+      m = nextPage s
 
       C : ℕ
       C = headOf s .capacity
@@ -384,10 +418,10 @@ module _ (f : Format) (s : List ℕ) (b0 : Trie Stretch) (key : ℕ) (ok : Sized
       o = halfAt true f b0 key
 
       s₁ : List ℕ
-      s₁ = putItems f C s n z
+      s₁ = putItems f C (takePage s) n z
 
       s′ : List ℕ
-      s′ = takeItems f C s₁ m o
+      s′ = putItems f C s₁ m o
 
       low : 1 ≤ n
       low = own-low f s (headOf s) b0 key pg inside false some₀
@@ -401,20 +435,23 @@ module _ (f : Format) (s : List ℕ) (b0 : Trie Stretch) (key : ℕ) (ok : Sized
       fits : length z ≤ C
       fits = half-fits f s (headOf s) b0 key pg inside false
 
-      head : headOf s₁ ≡ headOf s
-      head = put-head f C s n z ok low high refl fits
+      sizes : SameSizes (headOf s) (headOf s₁)
+      sizes = take-sizes f C s n z ok low high refl fits
 
       ok₁ : Sized f s₁
-      ok₁ = put-sized f C s n z ok low high refl fits
+      ok₁ = take-sized f C s n z ok low high refl fits
 
       low₁ : 1 ≤ m
       low₁ = omega arith
 
       high₁ : m ≤ headOf s₁ .pageBlocks
-      high₁ = rw head room
+      high₁ = omega (arith, sizes .pages)
 
       full : headOf s₁ .capacity ≡ C
-      full = ap (λ (h : Head). h .capacity) head
+      full = sizes .capacity
 
       fits₁ : length o ≤ C
       fits₁ = half-fits f s (headOf s) b0 key pg inside true
+
+      head : headOf s′ ≡ headOf s₁
+      head = put-head f C s₁ m o ok₁ low₁ high₁ full fits₁

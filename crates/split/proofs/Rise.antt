@@ -11,7 +11,7 @@ use Rattle.tree.specs.Trie.{Trie, fork, Key, leafAt, depth, rest, graft, pair}
 use Rattle.tree.specs.Carry.{locals, bumpCost}
 use Rattle.represent.specs.Labelled.{occ, occs, Over, under}
 use Rattle.represent.specs.Rep.{backOf, forwardOf}
-use Rattle.split.specs.Round.{NodeOps, NodeLaws, StoreOps, StoreLaws, placeAt, pathOf, grown, climb, carried}
+use Rattle.split.specs.Round.{NodeOps, NodeLaws, StoreOps, StoreLaws, Place, placeAt, pathOf, grown, climb, carried}
 use Rattle.represent.proofs.LabelLaws.{Numbered, ind-other, over-map}
 use Rattle.split.proofs.Grafts.{occ-split, over-graft}
 use Rattle.split.proofs.CarriedLaws.{numbered-above}
@@ -28,9 +28,10 @@ module _ {θ : ℕ} {I : NodeOps} {O : StoreOps} (A : NodeLaws θ I) (B : StoreL
   ClimbKeeps bs =
       (s : S) (k : ℕ) (u : Trie ℕ) (key : Key) (a c : ℕ)
       → Ready θ O s k u bs → taken s + bumpCost θ (locals u bs key) ≤ cap s → Plain θ (node s) bs
-      → Climbed θ O s (climb I O θ s (pathOf u bs key) a c) k (graft u key (pair a c)) bs (carried θ (taken s) u bs key)
+      → Climbed θ O s (climb I O θ key s (pathOf u bs key) a c .store) k (graft u key (pair a c)) bs (carried θ (taken s) u bs key)
       (bumpCost θ (locals u bs key))
-      × Plain θ (node (climb I O θ s (pathOf u bs key) a c)) (carried θ (taken s) u bs key)
+      × Plain θ (node (climb I O θ key s (pathOf u bs key) a c .store)) (carried θ (taken s) u bs key)
+      × (climb I O θ key s (pathOf u bs key) a c .path ≡ pathOf (graft u key (pair a c)) (carried θ (taken s) u bs key) key)
 
   module _ {s : S} {k : ℕ} {u b : Trie ℕ} {bs : List (Trie ℕ)} (y : Ready θ O s k u (b ∷ bs)) (key : Key) where
     abbrev n : ℕ
@@ -82,11 +83,12 @@ module _ {θ : ℕ} {I : NodeOps} {O : StoreOps} (A : NodeLaws θ I) (B : StoreL
               numbered = subst (λ (t : ℕ). Numbered t bs) (omega (arith, w .changed .now)) (numbered-above (taken s) b bs (y .numbered));
             }
 
-        pub record Risen (s′ : S) : Type 0 where
+        pub record Risen (s′ : S) (path : List Place) : Type 0 where
           pub climbed : Climbed θ O s s′ k (graft u key (pair a c)) (b ∷ bs) (b′ ∷ carried θ m b bs key)
               (suc (bumpCost θ (locals b bs key)))
           pub kept : (x : ℕ) → 1 ≤ occ x b′ → node s′ x ≡ node s₁ x
           pub plain : Plain θ (node s′) (carried θ m b bs key)
+          pub way : path ≡ pathOf b′ (carried θ m b bs key) key
 
         -- the climb above leaves the level's nodes alone
         module _ {s′ : S} {bs′ : List (Trie ℕ)} {more : ℕ} (z : Climbed θ O s₁ s′ (suc k) b′ bs bs′ more) where
@@ -118,7 +120,7 @@ module _ {θ : ℕ} {I : NodeOps} {O : StoreOps} (A : NodeLaws θ I) (B : StoreL
               }
 
         pub rise : ClimbKeeps bs → taken s + suc (bumpCost θ (locals b bs key)) ≤ cap s → Plain θ (node s) bs
-            → Risen (climb I O θ s₁ (pathOf b bs key) n m)
+            → Risen (climb I O θ key s₁ (pathOf b bs key) n m .store) (climb I O θ key s₁ (pathOf b bs key) n m .path)
         rise up fits f =
             let t : taken s₁ ≡ m = omega (arith, w .changed .now) in
             let z =
@@ -129,4 +131,5 @@ module _ {θ : ℕ} {I : NodeOps} {O : StoreOps} (A : NodeLaws θ I) (B : StoreL
               climbed = split-climbed climbed;
               kept = left-alone climbed;
               plain = rw t at (z .1);
+              way = rw t at (z .2);
             }

@@ -14,7 +14,7 @@ use Rattle.tree.proofs.CarryLaws.{bump-slack, bump-full}
 use Rattle.represent.specs.Labelled.{occs, OneForOne, under}
 use Rattle.represent.specs.Rep.{backOf, forwardOf, Links, Directory}
 use Rattle.split.specs.Round.{NodeOps, NodeLaws, StoreOps, StoreLaws, Place, placeAt, pathOf, grown, splitFirst, climb, round, aimAt}
-use Rattle.split.specs.Round.{carried, RoundCarries, AimKeeps}
+use Rattle.split.specs.Round.{nextNode, deeper, inHalf, carried, RoundCarries, AimKeeps}
 use Rattle.split.proofs.Grafts.{forked}
 use Rattle.represent.proofs.Chain.{count-labels, linked-frame}
 use Rattle.split.proofs.CarriedLaws.{carried-slack, carried-full, carried-levels, carried-one, carried-old}
@@ -24,14 +24,18 @@ use Rattle.split.proofs.Level.{moved-links, links-frame, Ready, Climbed
 use Rattle.split.proofs.Rise.{grown-climbed, grown-links, rise}
 use Rattle.split.proofs.Climb.{climb-keeps}
 use Rattle.split.proofs.FirstSplit.{first-split, first-linked}
+use Rattle.split.proofs.Paths.{slack-path, full-path}
+use Rattle.split.proofs.Level.{ready-deep, ready-tall}
 
-module _ (I : NodeOps) (O : StoreOps) (θ : ℕ) (s : O .S) (p : Place) (path : List Place) (a c : ℕ) where
-  round-room : p .depth < θ → round I O θ s (p ∷ path) a c ≡ grown I O s p a c
+module _ (I : NodeOps) (O : StoreOps) (θ : ℕ) (k : Key) (s : O .S) (p : Place) (path : List Place) (a c : ℕ) where
+  pub round-room : p .depth < θ → round I O θ k s (p ∷ path) a c ≡ record { store = grown I O s p a c; path = deeper p ∷ path }
   unfolding round
   round-room h = rw (lt-ltb (p .depth) θ h, round)
 
-  round-full : θ ≤ p .depth
-      → round I O θ s (p ∷ path) a c ≡ climb I O θ (splitFirst I O s p a c) path (p .at) (suc (O .taken s))
+  pub round-full : θ ≤ p .depth
+      → round I O θ k s (p ∷ path) a c
+      ≡ (let r = climb I O θ k (splitFirst I O s p a c) path (p .at) (nextNode O s) in
+      record { store = r .store; path = inHalf θ p (nextNode O s) ∷ r .path })
   unfolding round
   round-full h = rw (le-ltb (p .depth) θ h, round)
 
@@ -46,30 +50,34 @@ module _ {θ : ℕ} {I : NodeOps} {O : StoreOps} (A : NodeLaws θ I) (B : StoreL
 
   round-climbed : (s : S) (u b : Trie ℕ) (bs : List (Trie ℕ)) (key : Key) (a c : ℕ)
       → Ready θ O s 0 u (b ∷ bs) → Links (node s) (b ∷ bs) → taken s + bumpCost θ (locals u (b ∷ bs) key) ≤ cap s
-      → Climbed θ O s (round I O θ s (pathOf u (b ∷ bs) key) a c) 0 (graft u key (pair a c))
+      → Climbed θ O s (round I O θ key s (pathOf u (b ∷ bs) key) a c .store) 0 (graft u key (pair a c))
       (b ∷ bs) (carried θ (taken s) u (b ∷ bs) key) (bumpCost θ (locals u (b ∷ bs) key))
-      × Links (node (round I O θ s (pathOf u (b ∷ bs) key) a c)) (carried θ (taken s) u (b ∷ bs) key)
+      × Links (node (round I O θ key s (pathOf u (b ∷ bs) key) a c .store)) (carried θ (taken s) u (b ∷ bs) key)
+      × (round I O θ key s (pathOf u (b ∷ bs) key) a c .path ≡ pathOf (graft u key (pair a c)) (carried θ (taken s) u (b ∷ bs) key) key)
   round-climbed s u b bs key a c y links fits =
       elim (decLt (depth u key - depth b key) θ) [
         | yes small ↦
             rw (
-              round-room I O θ s (placeAt u b key) (pathOf b bs key) a c small,
+              round-room I O θ key s (placeAt u b key) (pathOf b bs key) a c small,
               carried-slack θ (taken s) u b bs key small,
               bump-slack θ (depth u key - depth b key) (locals b bs key) small .1,
+            ) (
+              grown-climbed A B y key a c small,
+              links-frame θ (node s) _ b bs (grown-links A B y key a c small) links,
+              slack-path u b bs key a c (ready-deep y key),
             )
-            (grown-climbed A B y key a c small, links-frame θ (node s) _ b bs (grown-links A B y key a c small) links)
         | no large ↦
             let full : θ ≤ depth u key - depth b key = omega arith in
             let cost = bump-full θ (depth u key - depth b key) (locals b bs key) full .1 in
             let more : taken s < cap s = omega (arith, cost) in
             let t = forked (under b u key) (rest b key) a c in
             let s₁ : S = splitFirst I O s (placeAt u b key) a c in
-            let s′ : S = climb I O θ s₁ (pathOf b bs key) (leafAt b key) (suc (taken s)) in
+            let s′ : S = climb I O θ key s₁ (pathOf b bs key) (leafAt b key) (suc (taken s)) .store in
             let b′ : Trie ℕ = graft b key (pair (leafAt b key) (suc (taken s))) in
             let w = first-split A B y key a c (links .0) (t .2) full more in
             let z = rise A B y key a c (t .2) w (climb-keeps A B pos bs) (omega (arith, cost)) (links .1) in
             rw (
-              round-full I O θ s (placeAt u b key) (pathOf b bs key) a c full,
+              round-full I O θ key s (placeAt u b key) (pathOf b bs key) a c full,
               carried-full θ (taken s) u b bs key full,
               cost,
             ) (
@@ -80,23 +88,27 @@ module _ {θ : ℕ} {I : NodeOps} {O : StoreOps} (A : NodeLaws θ I) (B : StoreL
                     (first-linked A B y key a c (links .0) (t .2) full more),
                 z .plain,
               ),
+              full-path u b (carried θ (suc (taken s)) b bs key) key a c (ready-deep y key) θ (suc (taken s)) _ (ready-tall y key) full
+                  (z .way),
             )
       ]
 
 pub round-carries : (θ : ℕ) (I : NodeOps) (O : StoreOps) → RoundCarries θ I O
 round-carries θ I O A B pos s u [] key a c ok d fits = absurd (d .links)
 round-carries θ I O A B pos s u (b ∷ bs) key a c ok d fits =
-    let z = round-climbed A B pos s u b bs key a c (ready ok (omega arith) d) (d .links) fits in
-    record {
-      directory = record {
-        nodes = z .0 .nodes;
-        links = z .1;
-        oneForOne = carried-one θ (O .taken s) _ u (b ∷ bs) key (z .0 .changed .now) (d .oneForOne);
-        positive = carried-old θ (O .taken s) u (b ∷ bs) key 0 (omega arith) ∙ d .positive;
-        levels-are = carried-levels θ (O .taken s) u (b ∷ bs) key a c pos (d .levels-are);
-      };
-      changed = z .0 .changed;
-    }
+    let z = round-climbed A B pos s u b bs key a c (ready ok (omega arith) d) (d .links) fits in (
+      record {
+        directory = record {
+          nodes = z .0 .nodes;
+          links = z .1;
+          oneForOne = carried-one θ (O .taken s) _ u (b ∷ bs) key (z .0 .changed .now) (d .oneForOne);
+          positive = carried-old θ (O .taken s) u (b ∷ bs) key 0 (omega arith) ∙ d .positive;
+          levels-are = carried-levels θ (O .taken s) u (b ∷ bs) key a c pos (d .levels-are);
+        };
+        changed = z .0 .changed;
+      },
+      z .2,
+    )
 
 pub aim-keeps : (θ : ℕ) (I : NodeOps) (O : StoreOps) → AimKeeps θ I O
 unfolding aimAt

@@ -11,11 +11,11 @@ use Rattle.tree.specs.Trie.{Trie, Key, leafAt}
 use Rattle.node.specs.Node.{forwardWord}
 use Rattle.represent.specs.Labelled.{occ}
 use Rattle.represent.specs.Image.{NodeIs}
-use Rattle.split.specs.Round.{NodeOps, NodeLaws, StoreOps, StoreLaws, Changed, putBoth, oneMoreTaken, relink}
+use Rattle.split.specs.Round.{NodeOps, NodeLaws, StoreOps, StoreLaws, Changed, nextNode, takeNode, putBoth, relink}
 use Rattle.represent.proofs.LabelLaws.{over-in}
 use Rattle.split.proofs.Grafts.{off-key}
 use Rattle.split.proofs.Blocks.{linked-written}
-use Rattle.split.proofs.Writes.{two-nodes, advanced, relink-nodes}
+use Rattle.split.proofs.Writes.{two-nodes, relink-nodes, kept-changed}
 use Rattle.split.proofs.Level.{At, is-moved, Ready, ready-low, ready-high, key-low, key-high}
 
 module _ (θ : ℕ) (O : StoreOps) where
@@ -34,7 +34,7 @@ module _ (I : NodeOps) (O : StoreOps) where
   open StoreOps O using (S, node, root, levels, taken)
 
   abbrev pub parts : S → ℕ → List ℕ → List ℕ → ℕ → S
-  parts s n ws ws′ q = oneMoreTaken O s (relink I O (putBoth O s n ws ws′) q (suc (taken s)))
+  parts s n ws ws′ q = relink I O (putBoth O (takeNode O s) n ws (nextNode O s) ws′) q (nextNode O s)
 
   pub record Parted (s s₁ : S) (n : ℕ) (ws ws′ : List ℕ) (q : ℕ) : Type 0 where
     pub at-n : node s₁ n ≡ ws
@@ -69,21 +69,17 @@ module _ {θ : ℕ} {I : NodeOps} {O : StoreOps} (A : NodeLaws θ I) (B : StoreL
         (λ ne.
         let v = over-in (At θ (node s) (suc k)) b u q (known ne) (y .nodes .0) in
         (v .0, is-moved (t .off q (q-low ne) q-high (λ e. apart (sym e))) (v .1))) in
-        let g = advanced B s (relink I O (putBoth O s n ws ws′) q (suc (taken s))) (root s) (levels s) more (z .1) in
         let cap₂ = t .kept .cap-same in
         record {
-          at-n =
-              g .nodes-same n (key-low y key) (omega (arith, key-high y key))
-              ∙ z .0 .off n (key-low y key) (omega (arith, cap₂, key-high y key)) apart ∙ t .at-n;
-          at-m = g .nodes-same _ (omega arith) (omega arith) ∙ z .0 .off _ (omega arith) (omega (arith, cap₂)) (λ e. omega (arith, q-high))
-              ∙ t .at-m;
+          at-n = z .0 .off n (key-low y key) (omega (arith, cap₂, key-high y key)) apart ∙ t .at-n;
+          at-m = z .0 .off _ (omega arith) (omega (arith, cap₂)) (λ e. omega (arith, q-high)) ∙ t .at-m;
           at-q = λ ne.
-              g .nodes-same q (q-low ne) (omega (arith, q-high)) ∙ z .0 .at-q ne
+              z .0 .at-q ne
               ∙ ap (λ (w : List ℕ). I .linked w (suc (taken s)) (forwardWord w 0)) (t .off q (q-low ne) q-high (λ e. apart (sym e)));
-          off = λ x p h ne ne′. g .nodes-same x p (omega arith) ∙ z .0 .off x p (omega (arith, cap₂)) ne′ ∙ t .off x p h ne;
-          root-same = g .root-is;
-          levels-same = g .levels-is;
-          changed = g .changed;
+          off = λ x p h ne ne′. z .0 .off x p (omega (arith, cap₂)) ne′ ∙ t .off x p h ne;
+          root-same = z .1 .root-same;
+          levels-same = z .1 .levels-same;
+          changed = kept-changed (z .1);
         }
 
     pub parted-split : {s₁ : O .S} → Parted I O s s₁ n ws ws′ q → Split θ O s s₁ (suc k) b n l r

@@ -3,7 +3,7 @@
 -- after the round.
 --   NodesKept f s s′   == s′ is s with other pages, in which nothing of the nodes has changed
 --   PageStep f s s′ b0 == and its pages are those of b0
-use mathlib.Core.Path.{_≡_, refl, sym, ap, _∙_, subst}
+use mathlib.Core.Path.{_≡_, refl, sym, ap, ap₂, _∙_, subst}
 use mathlib.Core.Bool.{false, true}
 use mathlib.Core.List.{List, [], _∷_}
 use Prim.Native.Nat.{ℕ, suc, _+_, _^_, _≤_, _<_}
@@ -24,8 +24,9 @@ use Rattle.represent.specs.Image.{pageImage}
 use Rattle.represent.specs.Rep.{Stretch, numbers, Directory, Pages, Rep, Sized}
 use Rattle.split.specs.Round.{NodeOps, StoreOps, Rounded, pathOf, round, carried}
 use Rattle.split.specs.Frame.{nodeOf, pageOf, putPagesTaken}
-use Rattle.split.specs.Insertion.{SameSizes, Ok, wordStore, stretchAt, leftAt, prefixAt, halfAt, replacedAt, Fit, putItems, takeItems}
-use Rattle.split.specs.Insertion.{Stepped, Roomy, UpperKeeps, LowerKeeps, BothKeep, PutKeeps, TakeKeeps}
+use Rattle.split.specs.Insertion.{SameSizes, Ok, wordStore, stretchAt, leftAt, prefixAt, halfAt, replacedAt, Fit, putItems}
+use Rattle.split.specs.Insertion.{nextPage, takePage}
+use Rattle.split.specs.Insertion.{Stepped, Turned, Roomy, UpperKeeps, LowerKeeps, BothKeep, PutKeeps, TakeKeeps}
 use Rattle.represent.proofs.LabelLaws.{label-low, label-high, leafAt-relabel, relabel-graft}
 use Rattle.split.proofs.Level.{moved-links, nodes-frame, links-frame}
 use Rattle.split.proofs.Frame.{putPage-nodes, putPage-beyond}
@@ -187,10 +188,13 @@ module _ (f : Format) where
           nodes-same = putPage-nodes f s p (pageImage f C rs) ok low high l;
         }
 
-    taken-kept : NodesKept f s (takeItems f C s p rs)
-    taken-kept =
-        nodes-then s (putItems f C s p rs) (takeItems f C s p rs) items-kept
-        (filled-kept (putItems f C s p rs) _ (items-kept .whole .sized))
+  taken-kept : (C : ℕ) (s : List ℕ) (p : ℕ) (rs : List Item) → Sized f s → 1 ≤ p → p ≤ headOf s .pageBlocks
+      → headOf s .capacity ≡ C → length rs ≤ C → NodesKept f s (putItems f C (takePage s) p rs)
+  taken-kept C s p rs ok low high full fits =
+      let k : NodesKept f s (takePage s) = filled-kept s (nextPage s) ok in
+      let sizes = k .whole .sizes-same in
+      nodes-then s (takePage s) (putItems f C (takePage s) p rs) k
+      (items-kept C (takePage s) p rs (k .whole .sized) low (omega (arith, sizes .pages)) (sizes .capacity ∙ full) fits)
 
 numbers-graft : (b0 : Trie Stretch) (k : Key) (c : Trie Stretch) → numbers (graft b0 k c) ≡ graft (numbers b0) k (numbers c)
 numbers-graft b0 k c = relabel-graft (λ x. x .0) b0 k c
@@ -206,7 +210,7 @@ module _ (f : Format) (s : List ℕ) (b0 : Trie Stretch) (bs : List (Trie ℕ)) 
   n = stretchAt f b0 key .0
 
   abbrev m : ℕ
-  m = suc (headOf s .pagesTaken)
+  m = nextPage s
 
   abbrev sized : Sized f s
   sized = r .sized
@@ -234,10 +238,11 @@ module _ (f : Format) (s : List ℕ) (b0 : Trie Stretch) (bs : List (Trie ℕ)) 
       }
 
   take-step : (rs : List Item) → n ≡ 0 → m ≤ headOf s .pageBlocks → Fit f C (leftAt f b0 key) (prefixAt f b0 key) rs
-      → PageStep f s (takeItems f C s m rs) (replacedAt f b0 key (leaf (m, rs)))
+      → PageStep f s (putItems f C (takePage s) m rs) (replacedAt f b0 key (leaf (m, rs)))
   take-step rs null room fit =
-      let kept : NodesKept f s (takeItems f C s m rs) = taken-kept f C s m rs sized (omega arith) room refl (fit .fits) in
-      let filled : headOf (takeItems f C s m rs) .pagesTaken ≡ m = take-pagesTaken f C s m rs sized (omega arith) room refl (fit .fits) in
+      let kept : NodesKept f s (putItems f C (takePage s) m rs) = taken-kept f C s m rs sized (omega arith) room refl (fit .fits) in
+      let filled : headOf (putItems f C (takePage s) m rs) .pagesTaken ≡ m =
+      take-pagesTaken f C s m rs sized (omega arith) room refl (fit .fits) in
       record {
         kept = kept;
         pages = pages-take f s b0 key sized (r .pages) narrow rs room null fit;
@@ -249,7 +254,7 @@ module _ (f : Format) (s : List ℕ) (b0 : Trie Stretch) (bs : List (Trie ℕ)) 
       }
 
   both-step : depth b0 k < width f → m ≤ headOf s .pageBlocks → 1 ≤ length (halfAt false f b0 key) → 1 ≤ length (halfAt true f b0 key)
-      → PageStep f s (takeItems f C (putItems f C s n (halfAt false f b0 key)) m (halfAt true f b0 key))
+      → PageStep f s (putItems f C (putItems f C (takePage s) n (halfAt false f b0 key)) m (halfAt true f b0 key))
       (replacedAt f b0 key (pair (n, halfAt false f b0 key) (m, halfAt true f b0 key)))
   both-step deep room some₀ some₁ =
       record {
@@ -257,8 +262,8 @@ module _ (f : Format) (s : List ℕ) (b0 : Trie Stretch) (bs : List (Trie ℕ)) 
         pages = pages-both f s b0 key sized (r .pages) narrow deep room some₀ some₁;
         pages-fit = omega (arith, filled, kept .whole .sizes-same .pages);
         free-pages = λ p l h.
-            take-other f C s₁ m o ok₁ (omega arith) room₁ full fits₁ p (omega arith) (λ q. omega (arith, filled))
-            ∙ put-other f C s n z sized low n-high refl fits p (omega arith) (λ q. omega (arith, filled, n-used))
+            put-other f C s₁ m o ok₁ (omega arith) room₁ full fits₁ p (omega arith) (λ q. omega (arith, filled))
+            ∙ take-other f C s n z sized low n-high refl fits p (omega arith) (λ q. omega (arith, filled, n-used))
             ∙ r .free-pages p (omega (arith, filled)) (omega (arith, kept .whole .sizes-same .pages))
             ∙ ap (λ c. replicate (pageWords f c) 0) (sym (kept .whole .sizes-same .capacity));
       }
@@ -270,7 +275,7 @@ module _ (f : Format) (s : List ℕ) (b0 : Trie Stretch) (bs : List (Trie ℕ)) 
       o = halfAt true f b0 key
 
       s₁ : List ℕ
-      s₁ = putItems f C s n z
+      s₁ = putItems f C (takePage s) n z
 
       low : 1 ≤ n
       low = own-low f s (headOf s) b0 key (r .pages) narrow false some₀
@@ -285,7 +290,7 @@ module _ (f : Format) (s : List ℕ) (b0 : Trie Stretch) (bs : List (Trie ℕ)) 
       fits₁ = half-fits f s (headOf s) b0 key (r .pages) narrow true
 
       kept₁ : NodesKept f s s₁
-      kept₁ = items-kept f C s n z sized low n-high refl fits
+      kept₁ = taken-kept f C s n z sized low n-high refl fits
 
       ok₁ : Sized f s₁
       ok₁ = kept₁ .whole .sized
@@ -296,11 +301,13 @@ module _ (f : Format) (s : List ℕ) (b0 : Trie Stretch) (bs : List (Trie ℕ)) 
       full : headOf s₁ .capacity ≡ C
       full = kept₁ .whole .sizes-same .capacity
 
-      kept : NodesKept f s (takeItems f C s₁ m o)
-      kept = nodes-then f s s₁ (takeItems f C s₁ m o) kept₁ (taken-kept f C s₁ m o ok₁ (omega arith) room₁ full fits₁)
+      kept : NodesKept f s (putItems f C s₁ m o)
+      kept = nodes-then f s s₁ (putItems f C s₁ m o) kept₁ (items-kept f C s₁ m o ok₁ (omega arith) room₁ full fits₁)
 
-      filled : headOf (takeItems f C s₁ m o) .pagesTaken ≡ m
-      filled = take-pagesTaken f C s₁ m o ok₁ (omega arith) room₁ full fits₁
+      filled : headOf (putItems f C s₁ m o) .pagesTaken ≡ m
+      filled =
+          ap (λ h. h .pagesTaken) (put-head f C s₁ m o ok₁ (omega arith) room₁ full fits₁)
+          ∙ take-pagesTaken f C s n z sized low n-high refl fits
 
 rounded-same : (θ : ℕ) (O : StoreOps) {s s′ : O .S} {more : ℕ} {u u′ : Trie ℕ} {bs bs′ : List (Trie ℕ)} → u ≡ u′ → bs ≡ bs′
     → Rounded θ O s s′ more u bs → Rounded θ O s s′ more u′ bs′
@@ -313,18 +320,24 @@ module _ (f : Format) (I : NodeOps) (s : List ℕ) (b0 : Trie Stretch) (bs : Lis
   place = bits (width f) key
 
   halved : (x z : Stretch) (s₁ : List ℕ) → PageStep f s s₁ (replacedAt f b0 key (pair x z))
-      → Stepped f s (round I (wordStore f (headOf s .theta)) (headOf s .theta) s₁ (pathOf (numbers b0) bs place) (x .0) (z .0))
-      (replacedAt f b0 key (pair x z))
-      (carried (headOf s .theta) (headOf s .nodesTaken) (numbers b0) bs place)
+      → Turned f I s b0 bs key
+      (round I (wordStore f (headOf s .theta)) (headOf s .theta) place s₁ (pathOf (numbers b0) bs place) (x .0) (z .0))
+      (pair x z)
   halved x z s₁ p =
-      stepped f s b0 (replacedAt f b0 key (pair x z)) bs (y .rep) s₁ p _ (bumpCost (headOf s .theta) (locals (numbers b0) bs place)) _
-      (rounded-same (headOf s .theta) (wordStore f (headOf s .theta)) (sym (numbers-graft b0 place (pair x z)))
-      (ap (λ t. carried (headOf s .theta) t (numbers b0) bs place) (p .kept .taken-same))
-      (round-carries (headOf s .theta) I (wordStore f (headOf s .theta)) (y .laws) (store-laws f (headOf s .theta))
+      let e = ap (λ t. carried (headOf s .theta) t (numbers b0) bs place) (p .kept .taken-same) in
+      let w =
+      round-carries (headOf s .theta) I (wordStore f (headOf s .theta)) (y .laws) (store-laws f (headOf s .theta))
       (sizes-limits _ _ _ _ (y .rep .sized .sizes) .theta-low) s₁ (numbers b0) bs place (x .0) (z .0)
       (step-ok f s b0 _ bs (y .rep) s₁ p) (step-directory f s b0 _ bs (y .rep) s₁ p)
-      (omega (arith, y .room, p .kept .taken-same, p .kept .whole .sizes-same .nodes))))
-      (y .room)
+      (omega (arith, y .room, p .kept .taken-same, p .kept .whole .sizes-same .nodes)) in
+      let g = sym (numbers-graft b0 place (pair x z)) in
+      record {
+        stepped =
+            stepped f s b0 (replacedAt f b0 key (pair x z)) bs (y .rep) s₁ p _ (bumpCost (headOf s .theta) (locals (numbers b0) bs place)) _
+            (rounded-same (headOf s .theta) (wordStore f (headOf s .theta)) g e (w .0))
+            (y .room);
+        way = w .1 ∙ ap₂ (λ u cs. pathOf u cs place) g e;
+      }
 
 module _ (f : Format) (I : NodeOps) (s : List ℕ) (b0 : Trie Stretch) (bs : List (Trie ℕ)) (key : ℕ) where
   pub upper-keeps : UpperKeeps f I s b0 bs key

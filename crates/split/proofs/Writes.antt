@@ -1,7 +1,6 @@
 -- Blocks and the head written one after another: what each comes to, in the terms of the first store.
---   Kept s s′   == s′ is s with blocks written up to the next unused number, whatever its head says
+--   Kept s s′   == s′ is s with one node more taken, and blocks written up to that one
 --   Two s s′ n ws ws′ == the blocks ws at n and ws′ at the next number
---   Advanced s s′ r l == the head of s′ written: this root, these levels, and one node more taken than in s
 --   Relinked s s′ q m == the block q, if it is one, is linked back to m
 use mathlib.Core.Path.{_≡_, refl, _∙_}
 use mathlib.Core.List.{List}
@@ -12,7 +11,7 @@ use borrow.Author.Tests.{eq-eqb, ne-eqb}
 use Rattle.tree.specs.Trie.{Trie}
 use Rattle.node.specs.Node.{forwardWord}
 use Rattle.represent.specs.Image.{NodeIs}
-use Rattle.split.specs.Round.{NodeOps, NodeLaws, StoreOps, Put, StoreLaws, Changed, putBoth, relink}
+use Rattle.split.specs.Round.{NodeOps, NodeLaws, StoreOps, Put, Headed, StoreLaws, Changed, nextNode, takeNode, putBoth, relink}
 use Rattle.split.proofs.Blocks.{linked-written}
 
 module _ (O : StoreOps) where
@@ -20,6 +19,9 @@ module _ (O : StoreOps) where
 
   pub record Kept (s s′ : S) : Type 0 where
     pub ok : Ok s′
+    pub root-same : root s′ ≡ root s
+    pub levels-same : levels s′ ≡ levels s
+    pub now : taken s′ ≡ suc (taken s)
     pub cap-same : cap s′ ≡ cap s
     pub others-same : others s′ ≡ others s
     pub fresh : (x : ℕ) → suc (taken s) < x → x ≤ cap s → node s′ x ≡ node s x
@@ -29,12 +31,6 @@ module _ (O : StoreOps) where
     pub at-m : node s′ (suc (taken s)) ≡ ws′
     pub off : (x : ℕ) → 1 ≤ x → x ≤ taken s → (x ≡ n → ⊥) → node s′ x ≡ node s x
     pub kept : Kept s s′
-
-  pub record Advanced (s s′ : S) (r l : ℕ) : Type 0 where
-    pub root-is : root (head s′ r l (suc (taken s))) ≡ r
-    pub levels-is : levels (head s′ r l (suc (taken s))) ≡ l
-    pub nodes-same : (x : ℕ) → 1 ≤ x → x ≤ cap s → node (head s′ r l (suc (taken s))) x ≡ node s′ x
-    pub changed : Changed O s (head s′ r l (suc (taken s))) 1
 
 module _ (I : NodeOps) (O : StoreOps) where
   open StoreOps O using (S, node, cap)
@@ -66,48 +62,64 @@ module _ {O : StoreOps} where
         fresh = λ x f c. p .elsewhere x (omega arith) c (λ e. omega (arith, p .taken-same));
       }
 
-  pub kept-refl : (s : S) → O .Ok s → Kept O s s
-  kept-refl s ok = record { ok = ok; cap-same = refl; others-same = refl; fresh = λ x f c. refl }
+  pub kept-changed : {s s′ : S} → Kept O s s′ → Changed O s s′ 1
+  kept-changed k =
+      record {
+        ok = k .ok;
+        now = omega (arith, k .now);
+        cap-same = k .cap-same;
+        others-same = k .others-same;
+        fresh = λ x f c. k .fresh x (omega (arith, k .now)) c;
+      }
 
   pub put-kept : {s s₁ s₂ : S} {n : ℕ} {ws : List ℕ} → n ≤ suc (taken s) → Kept O s s₁ → Put O s₁ s₂ n ws → Kept O s s₂
   put-kept t k p =
       record {
         ok = p .ok;
+        root-same = p .root-same ∙ k .root-same;
+        levels-same = p .levels-same ∙ k .levels-same;
+        now = p .taken-same ∙ k .now;
         cap-same = p .cap-same ∙ k .cap-same;
         others-same = p .others-same ∙ k .others-same;
         fresh = λ x f c. p .elsewhere x (omega arith) (omega (arith, k .cap-same)) (λ e. omega arith) ∙ k .fresh x f c;
       }
 
 module _ {θ : ℕ} {O : StoreOps} (B : StoreLaws θ O) where
-  open StoreOps O using (S, Ok, taken, cap, put)
+  open StoreOps O using (S, Ok, root, levels, taken, cap, put)
 
-  pub two-nodes : (s : S) (n : ℕ) {ws ws′ : List ℕ} {k : ℕ} {v v′ : Trie ℕ}
-      → Ok s → 1 ≤ n → n ≤ taken s → taken s < cap s → NodeIs θ ws k v → NodeIs θ ws′ k v′ → Two O s (putBoth O s n ws ws′) n ws ws′
-  unfolding putBoth
-  two-nodes s n {ws} {ws′} {k} {v} {v′} ok low high more is is′ =
-      let p = B .put-is s n ws k v ok low (omega arith) is in
-      let q = B .put-is (put s n ws) (suc (taken s)) ws′ k v′ (p .ok) (omega arith) (omega (arith, p .cap-same)) is′ in
+  -- one node more taken, before anything is written
+  pub taken-head : (s : S) → Ok s → taken s < cap s → Headed O s (takeNode O s) (root s) (levels s) (suc (taken s))
+  taken-head s ok more = B .head-is s (root s) (levels s) (suc (taken s)) ok (omega arith)
+
+  pub taken-kept : (s : S) → Ok s → taken s < cap s → Kept O s (takeNode O s)
+  taken-kept s ok more =
+      let h = taken-head s ok more in
       record {
-        at-n = q .elsewhere n low (omega (arith, p .cap-same)) (λ e. omega arith) ∙ p .here;
-        at-m = q .here;
-        off = λ x a t ne. q .elsewhere x a (omega (arith, p .cap-same)) (λ e. omega arith) ∙ p .elsewhere x a (omega arith) ne;
-        kept = put-kept (omega arith) (put-kept (omega arith) (kept-refl s ok) p) q;
+        ok = h .ok;
+        root-same = h .root-is;
+        levels-same = h .levels-is;
+        now = h .taken-is;
+        cap-same = h .cap-same;
+        others-same = h .others-same;
+        fresh = λ x f c. h .nodes-same x (omega arith) c;
       }
 
-  pub advanced : (s s′ : S) (r l : ℕ) → taken s < cap s → Kept O s s′ → Advanced O s s′ r l
-  advanced s s′ r l more k =
-      let h = B .head-is s′ r l (suc (taken s)) (k .ok) (omega (arith, k .cap-same)) in
+  pub two-nodes : (s : S) (n : ℕ) {ws ws′ : List ℕ} {k : ℕ} {v v′ : Trie ℕ}
+      → Ok s → 1 ≤ n → n ≤ taken s → taken s < cap s → NodeIs θ ws k v → NodeIs θ ws′ k v′
+      → Two O s (putBoth O (takeNode O s) n ws (nextNode O s) ws′) n ws ws′
+  unfolding putBoth
+  two-nodes s n {ws} {ws′} {k} {v} {v′} ok low high more is is′ =
+      let h = taken-head s ok more in
+      let p = B .put-is (takeNode O s) n ws k v (h .ok) low (omega (arith, h .cap-same)) is in
+      let c : cap (put (takeNode O s) n ws) ≡ cap s = p .cap-same ∙ h .cap-same in
+      let q = B .put-is (put (takeNode O s) n ws) (suc (taken s)) ws′ k v′ (p .ok) (omega arith) (omega (arith, c)) is′ in
       record {
-        root-is = h .root-is;
-        levels-is = h .levels-is;
-        nodes-same = λ x a c. h .nodes-same x a (omega (arith, k .cap-same));
-        changed = record {
-          ok = h .ok;
-          now = omega (arith, h .taken-is);
-          cap-same = h .cap-same ∙ k .cap-same;
-          others-same = h .others-same ∙ k .others-same;
-          fresh = λ x f c. h .nodes-same x (omega arith) (omega (arith, k .cap-same)) ∙ k .fresh x (omega (arith, h .taken-is)) c;
-        };
+        at-n = q .elsewhere n low (omega (arith, c)) (λ e. omega arith) ∙ p .here;
+        at-m = q .here;
+        off = λ x a t ne.
+            q .elsewhere x a (omega (arith, c)) (λ e. omega arith) ∙ p .elsewhere x a (omega (arith, h .cap-same)) ne
+            ∙ h .nodes-same x a (omega arith);
+        kept = put-kept (omega arith) (put-kept (omega arith) (taken-kept s ok more) p) q;
       }
 
 module _ {θ : ℕ} {I : NodeOps} {O : StoreOps} (A : NodeLaws θ I) (B : StoreLaws θ O) where

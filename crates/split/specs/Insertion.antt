@@ -12,10 +12,11 @@
 --   replacedAt f b0 key c == b0 with the stretches c there
 --   Fit f C w q rs     == the records rs may be written into a page, at a place with w bits left and the prefix q
 --   putItems f C s p rs  == the words s with the records rs in page block p, where C is the capacity
---   takeItems f C s p rs == that, and p as the number of pages taken
+--   nextPage s, takePage s == the number of the page block that is taken next, and the store in which it is taken
 --   SameSizes h h′     == the two heads have the same sizes
 --   Stepped f s s′ b0 bs == s′ stands for b0 and bs, and has the sizes of s and its words beyond them
 --   Roomy f I s b0 bs key == s stands for b0 and bs, the key's place has a bit left, and there are node blocks for the climb
+--   Turned r c         == the round r makes the stretches c of the stretch at the key
 --   UpperKeeps, LowerKeeps, BothKeep == a full page halved: no record has the bit clear; none has it set; there are both
 --   PutKeeps, TakeKeeps == a page written anew; a page taken for a null entry
 use mathlib.Core.Path.{_≡_}
@@ -38,7 +39,7 @@ use Rattle.page.specs.Page.{lawfulItem}
 use Rattle.represent.specs.Image.{pageImage}
 use Rattle.page.specs.Schema.{keyOf}
 use Rattle.represent.specs.Rep.{Stretch, numbers, Rep, sizeOf, Sized}
-use Rattle.split.specs.Round.{NodeOps, NodeLaws, StoreOps, placeAt, pathOf, round, aimAt, carried}
+use Rattle.split.specs.Round.{NodeOps, NodeLaws, StoreOps, placeAt, pathOf, Climbed, round, aimAt, carried}
 use Rattle.split.specs.Frame.{nodeOf, putNode, putPage, putHead, putPagesTaken}
 
 -- all but the node blocks and the three words of the head
@@ -114,8 +115,12 @@ pub record Fit (f : Format) (C w q : ℕ) (rs : List Item) : Type 0 where
 abbrev pub putItems : Format → ℕ → List ℕ → ℕ → List Item → List ℕ
 putItems f C s p rs = putPage f s p (pageImage f C rs)
 
-abbrev pub takeItems : Format → ℕ → List ℕ → ℕ → List Item → List ℕ
-takeItems f C s p rs = putPagesTaken (putItems f C s p rs) p
+-- Taking a page block is one operation, done before the block is written, as taking a node block is.
+abbrev pub nextPage : List ℕ → ℕ
+nextPage s = suc (headOf s .pagesTaken)
+
+abbrev pub takePage : List ℕ → List ℕ
+takePage s = putPagesTaken s (nextPage s)
 
 pub record SameSizes (h h′ : Head) : Type 0 where
   pub theta : h′ .theta ≡ h .theta
@@ -136,8 +141,8 @@ module _ (f : Format) (I : NodeOps) (s : List ℕ) (b0 : Trie Stretch) (bs : Lis
   own = stretchAt f b0 key
 
   -- the round at the key, on the words t
-  abbrev rounded : List ℕ → ℕ → ℕ → List ℕ
-  rounded t a c = round I (wordStore f (headOf s .theta)) (headOf s .theta) t (pathOf (numbers b0) bs k) a c
+  abbrev rounded : List ℕ → ℕ → ℕ → Climbed (List ℕ)
+  rounded t a c = round I (wordStore f (headOf s .theta)) (headOf s .theta) k t (pathOf (numbers b0) bs k) a c
 
   abbrev levelsAfter : List (Trie ℕ)
   levelsAfter = carried (headOf s .theta) (headOf s .nodesTaken) (numbers b0) bs k
@@ -150,23 +155,27 @@ module _ (f : Format) (I : NodeOps) (s : List ℕ) (b0 : Trie Stretch) (bs : Lis
     pub deep : depth b0 k < width f
     pub room : headOf s .nodesTaken + bumpCost (headOf s .theta) (locals (numbers b0) bs k) ≤ headOf s .nodeBlocks
 
+  -- after the round r the stretch at the key is the stretches c, and the path handed back is the key's
+  pub record Turned (r : Climbed (List ℕ)) (c : Trie Stretch) : Type 0 where
+    pub stepped : Stepped f s (r .store) (replacedAt f b0 key c) levelsAfter
+    pub way : r .path ≡ pathOf (numbers (replacedAt f b0 key c)) levelsAfter k
+
   -- "At a full page: halve it on the next bit and try again. The zero half keeps the page, and the other takes a new one. An empty half
   -- becomes null, and the other half keeps the page."
   abbrev pub UpperKeeps : Type 0
-  UpperKeeps = Roomy → halfAt false f b0 key ≡ [] → Stepped f s (rounded s 0 (own .0)) (replacedAt f b0 key (pair (0, []) own)) levelsAfter
+  UpperKeeps = Roomy → halfAt false f b0 key ≡ [] → Turned (rounded s 0 (own .0)) (pair (0, []) own)
 
   abbrev pub LowerKeeps : Type 0
-  LowerKeeps = Roomy → halfAt true f b0 key ≡ [] → Stepped f s (rounded s (own .0) 0) (replacedAt f b0 key (pair own (0, []))) levelsAfter
+  LowerKeeps = Roomy → halfAt true f b0 key ≡ [] → Turned (rounded s (own .0) 0) (pair own (0, []))
 
   abbrev pub BothKeep : Type 0
   BothKeep =
       let C : ℕ = headOf s .capacity in
-      let m : ℕ = suc (headOf s .pagesTaken) in
+      let m : ℕ = nextPage s in
       let low : List Item = halfAt false f b0 key in
       let high : List Item = halfAt true f b0 key in
       Roomy → m ≤ headOf s .pageBlocks → 1 ≤ length low → 1 ≤ length high
-      → Stepped f s (rounded (takeItems f C (putItems f C s (own .0) low) m high) (own .0) m)
-      (replacedAt f b0 key (pair (own .0, low) (m, high))) levelsAfter
+      → Turned (rounded (putItems f C (putItems f C (takePage s) (own .0) low) m high) (own .0) m) (pair (own .0, low) (m, high))
 
 -- "At a page below C: put the record in order."
 module _ (f : Format) (s : List ℕ) (b0 : Trie Stretch) (bs : List (Trie ℕ)) (key : ℕ) where
@@ -180,10 +189,11 @@ module _ (f : Format) (s : List ℕ) (b0 : Trie Stretch) (bs : List (Trie ℕ)) 
 module _ (f : Format) (I : NodeOps) (s : List ℕ) (b0 : Trie Stretch) (b : Trie ℕ) (bs : List (Trie ℕ)) (key : ℕ) where
   abbrev pub TakeKeeps : Type 0
   TakeKeeps =
-      let m : ℕ = suc (headOf s .pagesTaken) in
+      let m : ℕ = nextPage s in
       (rs : List Item) → NodeLaws (headOf s .theta) I → Rep f s b0 (b ∷ bs) → key < 2 ^ width f → stretchAt f b0 key .0 ≡ 0
       → m ≤ headOf s .pageBlocks
       → Fit f (headOf s .capacity) (leftAt f b0 key) (prefixAt f b0 key) rs
       → Stepped f s
-      (aimAt I (wordStore f (headOf s .theta)) (takeItems f (headOf s .capacity) s m rs) (placeAt (numbers b0) b (bits (width f) key)) m)
+      (aimAt I (wordStore f (headOf s .theta)) (putItems f (headOf s .capacity) (takePage s) m rs)
+      (placeAt (numbers b0) b (bits (width f) key)) m)
       (replacedAt f b0 key (leaf (m, rs))) (b ∷ bs)

@@ -9,14 +9,18 @@
 --   Rounded            == the same, and s′ has a directory
 --   Place               == a node on the way of a key, the bits of the key that are left there, and the local depth of its run
 --   placeAt u b k       == the step of the key k at the level b over u; pathOf u bs k: at the levels bs over u, lowest first
---   putBoth, relink, oneMoreTaken == two blocks written, the second at the next unused number; a back link; the head with one node more
---     taken
+--   nextNode s, takeNode s == the number of the node block that is taken next, and the store in which it is taken
+--   raise s n          == another root, one level higher
+--   putBoth, relink    == two blocks written; a back link
 --   grown, splitNode, splitFirst, newRoot == one level of a climb: the node has room; it splits; it splits at level 1; a root is put above
---   climb θ s path a c == the runs of a path halved, a and c the pointers of the lowest two halves, as far up as nodes split
---   round θ s path a c == the same from level 1
 --   chosen k x y       == the one of x and y that the first bit of k chooses
---   turned θ k m path  == the path of the key k after that, where the numbers up to m are taken
---   aimAt s p q        == the run at the step p points to q
+--   Climbed            == a store, and the path of the key in it
+--   deeper, inHalf     == a place after a climb: its node had room; it split
+--   climb θ k s path a c == the runs of a path halved, a and c the pointers of the lowest two halves, as far up as nodes split, and the
+--     path
+--                         of the key k after that
+--   round θ k s path a c == the same from level 1
+--   aimAt s p q        == the run at the place p points to q
 --   carried θ m u bs k == the levels bs over u after u's stretch at the key is halved, where the numbers up to m are taken
 --   RoundCarries, AimKeeps == a round, and another pointer at the key, keep the directory
 use mathlib.Core.Path.{_≡_}
@@ -135,36 +139,50 @@ pathOf u (b ∷ bs) k = placeAt u b k ∷ pathOf b bs k
 abbrev pub chosen : Key → ℕ → ℕ → ℕ
 chosen k x y = leafAt (pair x y) k
 
--- A run with room is halved where it stands: one bit more. A run at θ stays at θ: its node is split, and the half that the key is in takes
--- up the node's first bit. Above a split root stands the new one.
-unfoldable pub turned : ℕ → Key → ℕ → List Place → List Place
-turned θ k m [] = record { at = suc m; bits = k; depth = 1 } ∷ []
-turned θ k m (p ∷ path) =
-    elim (ltb (p .depth) θ) [
-      | true ↦ record { at = p .at; bits = p .bits; depth = suc (p .depth) } ∷ path
-      | false ↦ record { at = chosen (p .bits) (p .at) (suc m); bits = drop 1 (p .bits); depth = θ } ∷ turned θ k (suc m) path
-    ]
+-- what a climb leaves of a place whose node had room: one bit more
+abbrev pub deeper : Place → Place
+deeper p = record { at = p .at; bits = p .bits; depth = suc (p .depth) }
+
+-- of one whose node split, in which the right half is m: the half that the key is in takes up the node's first bit, and the run is at θ
+-- again
+abbrev pub inHalf : ℕ → Place → ℕ → Place
+inHalf θ p m = record { at = chosen (p .bits) (p .at) m; bits = drop 1 (p .bits); depth = θ }
 
 module _ (O : StoreOps) where
   open StoreOps O using (S, root, levels, taken, put, head)
 
-  -- "the left half keeps its number, the right takes a new node", "New blocks get the next unused number and are written whole"
-  unfoldable pub putBoth : S → ℕ → List ℕ → List ℕ → S
-  putBoth s n ws ws′ = put (put s n ws) (suc (taken s)) ws′
+  -- Taking a node block is one operation, done before the block is written: its number, and the store in which it is taken. "New blocks
+  -- get the
+  -- next unused number".
+  abbrev pub nextNode : S → ℕ
+  nextNode s = suc (taken s)
 
-  -- the head of s with one node more taken, on the blocks of s′
-  abbrev pub oneMoreTaken : S → S → S
-  oneMoreTaken s s′ = head s′ (root s) (levels s) (suc (taken s))
+  abbrev pub takeNode : S → S
+  takeNode s = head s (root s) (levels s) (nextNode s)
+
+  -- a root at the number n, one level higher
+  abbrev pub raise : S → ℕ → S
+  raise s n = head s n (suc (levels s)) (taken s)
+
+  -- two blocks, "written whole"
+  unfoldable pub putBoth : S → ℕ → List ℕ → ℕ → List ℕ → S
+  putBoth s n ws m ws′ = put (put s n ws) m ws′
+
+pub record Climbed (S : Type 0) : Type 0 where
+  pub store : S
+  pub path : List Place
 
 module _ (I : NodeOps) (O : StoreOps) where
   open NodeOps I using (grow, lower, upper, aim, linked, top)
-  open StoreOps O using (S, node, levels, taken, put, head)
+  open StoreOps O using (S, node, levels, put)
 
   unfoldable pub grown : S → Place → ℕ → ℕ → S
   grown s p a c = put s (p .at) (grow (node s (p .at)) (p .bits) a c)
 
+  -- "the left half keeps its number, the right takes a new node"
   unfoldable pub splitNode : S → Place → ℕ → ℕ → S
-  splitNode s p a c = oneMoreTaken O s (putBoth O s (p .at) (lower (node s (p .at)) (p .bits) a c) (upper (node s (p .at)) (p .bits) a c))
+  splitNode s p a c =
+      putBoth O (takeNode O s) (p .at) (lower (node s (p .at)) (p .bits) a c) (nextNode O s) (upper (node s (p .at)) (p .bits) a c)
 
   -- the node q, if there is one, is linked back to m
   unfoldable pub relink : S → ℕ → ℕ → S
@@ -174,33 +192,36 @@ module _ (I : NodeOps) (O : StoreOps) where
   unfoldable pub splitFirst : S → Place → ℕ → ℕ → S
   splitFirst s p a c =
       let ws : List ℕ = node s (p .at) in
-      let m : ℕ = suc (taken s) in
-      oneMoreTaken O s
-      (relink
-      (putBoth O s (p .at) (linked (lower ws (p .bits) a c) (backWord ws 0) m) (linked (upper ws (p .bits) a c) (p .at) (forwardWord ws 0)))
+      relink
+      (putBoth O (takeNode O s) (p .at) (linked (lower ws (p .bits) a c) (backWord ws 0) (nextNode O s))
+      (nextNode O s) (linked (upper ws (p .bits) a c) (p .at) (forwardWord ws 0)))
       (forwardWord ws 0)
-      m)
+      (nextNode O s)
 
   -- "A split root gets a new root with two entries of h = 1."
   unfoldable pub newRoot : S → ℕ → ℕ → S
-  newRoot s a c = head (put s (suc (taken s)) (top (suc (levels s)) a c)) (suc (taken s)) (suc (levels s)) (suc (taken s))
+  newRoot s a c = raise O (put (takeNode O s) (nextNode O s) (top (suc (levels s)) a c)) (nextNode O s)
 
   -- "the parent's run is halved by the same rule", "in a climb, lower levels take first"
   -- (whether a run has room is said by the path: nothing is read again that the descent has read)
-  unfoldable pub climb : ℕ → S → List Place → ℕ → ℕ → S
-  climb θ s [] a c = newRoot s a c
-  climb θ s (p ∷ path) a c =
+  unfoldable pub climb : ℕ → Key → S → List Place → ℕ → ℕ → Climbed S
+  climb θ k s [] a c = record { store = newRoot s a c; path = record { at = nextNode O s; bits = k; depth = 1 } ∷ [] }
+  climb θ k s (p ∷ path) a c =
       elim (ltb (p .depth) θ) [
-        | true ↦ grown s p a c
-        | false ↦ climb θ (splitNode s p a c) path (p .at) (suc (taken s))
+        | true ↦ record { store = grown s p a c; path = deeper p ∷ path }
+        | false ↦
+            let r : Climbed S = climb θ k (splitNode s p a c) path (p .at) (nextNode O s) in
+            record { store = r .store; path = inHalf θ p (nextNode O s) ∷ r .path }
       ]
 
-  unfoldable pub round : ℕ → S → List Place → ℕ → ℕ → S
-  round θ s [] a c = s
-  round θ s (p ∷ path) a c =
+  unfoldable pub round : ℕ → Key → S → List Place → ℕ → ℕ → Climbed S
+  round θ k s [] a c = record { store = s; path = [] }
+  round θ k s (p ∷ path) a c =
       elim (ltb (p .depth) θ) [
-        | true ↦ grown s p a c
-        | false ↦ climb θ (splitFirst s p a c) path (p .at) (suc (taken s))
+        | true ↦ record { store = grown s p a c; path = deeper p ∷ path }
+        | false ↦
+            let r : Climbed S = climb θ k (splitFirst s p a c) path (p .at) (nextNode O s) in
+            record { store = r .store; path = inHalf θ p (nextNode O s) ∷ r .path }
       ]
 
   unfoldable pub aimAt : S → Place → ℕ → S
@@ -218,14 +239,17 @@ carried θ m u (b ∷ bs) k =
 module _ (θ : ℕ) (I : NodeOps) (O : StoreOps) where
   open StoreOps O using (S, Ok, node, root, levels, taken, cap)
 
-  -- "At a full page: halve it on the next bit": the stretch at the key becomes two, with the pointers a and c. Blocks not taken stay.
+  -- "At a full page: halve it on the next bit": the stretch at the key becomes two, with the pointers a and c. Blocks not taken stay. The
+  -- path
+  -- that is handed back is the key's in the new directory.
   abbrev pub RoundCarries : Type 0
   RoundCarries =
       NodeLaws θ I → StoreLaws θ O → 1 ≤ θ
       → (s : S) (u : Trie ℕ) (bs : List (Trie ℕ)) (key : Key) (a c : ℕ)
       → Ok s → Directory θ (node s) (root s) (levels s) (taken s) u bs → taken s + bumpCost θ (locals u bs key) ≤ cap s
-      → Rounded θ O s (round I O θ s (pathOf u bs key) a c) (bumpCost θ (locals u bs key)) (graft u key (pair a c))
+      → Rounded θ O s (round I O θ key s (pathOf u bs key) a c .store) (bumpCost θ (locals u bs key)) (graft u key (pair a c))
       (carried θ (taken s) u bs key)
+      × (round I O θ key s (pathOf u bs key) a c .path ≡ pathOf (graft u key (pair a c)) (carried θ (taken s) u bs key) key)
 
   -- "Enter, at a null entry: take a page for the whole run."
   abbrev pub AimKeeps : Type 0

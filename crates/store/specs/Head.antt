@@ -9,12 +9,15 @@
 --   pageStart f h p    == the first word of page block p
 --   pageAt f s h p     == the words of page block p
 --   lawfulSizes θ C N P == θ, C, N and P within their limits
+--   spareOk s          == the spare words of the head are zeros
+--   nodesInUse, pagesInUse, nodesLeft, pagesLeft h == node and page blocks in use, and those that remain
+--   InUse h n          == n is the number of a node in use
 --   headRule f s       == the head rule
 --   largestTheta, largestCapacity, largestBlocks == document 01's limits
 --   lawfulCounts f h   == the counts, the root and the levels of a head within their limits
 use mathlib.Core.Bool.{Bool, _&&_}
 use mathlib.Core.List.{List}
-use Prim.Native.Nat.{ℕ, _+_, _-_, _*_, _^_}
+use Prim.Native.Nat.{ℕ, _+_, _-_, _*_, _^_, _≤_}
 use lib.Dec.{leb, eqb}
 use lib.ListN.{length, getD}
 use Rattle.lists.specs.Lists.{every, part}
@@ -86,9 +89,31 @@ lawfulCounts f h =
     && leb (h .root) (h .nodesTaken)
     && leb 1 (h .levels) && leb (h .levels) (levelBound (width f) (h .theta) (h .capacity))
 
+-- "eight zeros": the spare words of the head
+abbrev pub spareOk : List ℕ → Bool
+spareOk s = zeros s 8 8
+
+-- Of N node blocks and P page blocks: those in use, which a reply counts, and those that remain.
+abbrev pub nodesInUse : Head → ℕ
+nodesInUse h = h .nodesTaken
+
+abbrev pub pagesInUse : Head → ℕ
+pagesInUse h = h .pagesTaken
+
+abbrev pub nodesLeft : Head → ℕ
+nodesLeft h = h .nodeBlocks - h .nodesTaken
+
+abbrev pub pagesLeft : Head → ℕ
+pagesLeft h = h .pageBlocks - h .pagesTaken
+
+-- n is the number of a node in use
+pub record InUse (h : Head) (n : ℕ) : Type 0 where
+  pub positive : 1 ≤ n
+  pub within : n ≤ h .nodesTaken
+
 -- "Head rule: the limits and the eight zeros above hold, the slice has the size, .."
 unfoldable pub headRule : Format → List ℕ → Bool
 headRule f s =
-    lawfulSizes (headOf s .theta) (headOf s .capacity) (headOf s .nodeBlocks) (headOf s .pageBlocks) && zeros s 8 8
+    lawfulSizes (headOf s .theta) (headOf s .capacity) (headOf s .nodeBlocks) (headOf s .pageBlocks) && spareOk s
     && leb (size f (headOf s .theta) (headOf s .capacity) (headOf s .nodeBlocks) (headOf s .pageBlocks)) (length s)
     && lawfulCounts f (headOf s)

@@ -1,4 +1,5 @@
 pub mod Format
 pub mod Head
+pub mod Tests
 pub mod SetUp
 pub mod Promises
