@@ -1,4 +1,5 @@
 pub mod FirstLaws
+pub mod EarliestLaws
 pub mod ListingLaws
 pub mod Records
 pub mod PageFirst

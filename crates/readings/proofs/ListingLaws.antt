@@ -18,7 +18,7 @@ use lib.ListN.{length, take, drop}
 use lib.Seq.{take-nil, drop-nil}
 use borrow.Author.Tests.{eqb-false, ltb-false, le-ltb, le-leb, lt-leb}
 use Rattle.lists.specs.Lists.{All, filter}
-use Rattle.lists.specs.Keyed.{Sorted, Bounded}
+use Rattle.lists.specs.Keyed.{Sorted, Lacks, Bounded}
 use Rattle.lists.proofs.Cases.{bool-cases}
 use Rattle.lists.proofs.ListLaws.{filter-true, filter-false, all-filter, all-map, pairwise-filter}
 use Rattle.plot.specs.Plot.{lawfulDay}
@@ -39,7 +39,16 @@ use Rattle.page.specs.Schema.{keyOf}
 use Rattle.readings.specs.Listing.{firstWhere, within, firstKey, findIn, nextIn, rangedIn, rangeIn, summaryIn}
 use Rattle.readings.specs.Promises.{Sound}
 use Rattle.lists.proofs.AppendLaws.{filter-none, filter-same, append-all, pairwise-right, pairwise-before}
+use Rattle.readings.proofs.EarliestLaws.{totals-read}
 use Rattle.readings.proofs.FirstLaws.{firstOf, first-true, first-false, first-all, skip-below, first-beyond}
+
+pub within-sorted : (low high : ℕ) (S : List Item) → Sorted keyOf S → Sorted keyOf (within low high S)
+unfolding within
+within-sorted low high S = pairwise-filter (λ x y. x .key < y .key) (λ it. leb low (it .key) && leb (it .key) high) S
+
+pub within-all : (P : Item → Type 0) (low high : ℕ) (S : List Item) → All P S → All P (within low high S)
+unfolding within
+within-all P low high S = all-filter (λ it. leb low (it .key) && leb (it .key) high) P S
 
 module _ (high : ℕ) where
   abbrev upTo : List Item → List Item
@@ -248,16 +257,18 @@ module _ (f : Format) (s : List ℕ) (S : List Item) where
               (ranged-is f s (headOf s) S next-is sorted bounded low high (length out / words f) (ltb-false high low e) q))
         ]
 
-    pub summary-is : headRule f s ≡ true → (low high today : ℕ) → high < 2 ^ width f
+    pub summary-is : headRule f s ≡ true → Lacks keyOf 0 S → (low high today : ℕ) → high < 2 ^ width f
         → summaryOf f s low high today ≡ summaryIn S low high today
     unfolding summaryOf summaryIn
-    summary-is rule low high today q =
+    summary-is rule nonzero low high today q =
         elim (bool-cases (ltb high low)) [
           | inl e ↦ rw (rule, e, summaryOf, summaryIn)
           | inr e ↦
               elim (bool-cases (lawfulDay today)) [
                 | inl d ↦ rw (rule, e, d, summaryOf, summaryIn)
-                    (ap summingReply (summed-is f s (headOf s) S next-is sorted bounded low high today (ltb-false high low e) q))
+                    (ap summingReply (summed-is f s (headOf s) S next-is sorted bounded low high today (ltb-false high low e) q)
+                    ∙ totals-read (within low high S) today (within-sorted low high S sorted)
+                    (within-all (λ it. it .key ≡ 0 → ⊥) low high S nonzero))
                 | inr d ↦ rw (rule, e, d, summaryOf, summaryIn)
               ]
         ]
@@ -302,17 +313,3 @@ summary-sound S low high today =
             | inr d ↦ rw (e, d, summaryIn) (sound-at 6 refl refl)
           ]
     ]
-
--- what a summary that is not refused adds up
-pub summary-in : (S : List Item) (low high today : ℕ) → low ≤ high → lawfulDay today ≡ true
-    → summaryIn S low high today ≡ summingReply (done (totalsOf noTotals (within low high S) today))
-unfolding summaryIn
-summary-in S low high today l d = rw (le-ltb high low l, d, summaryIn)
-
-pub within-sorted : (low high : ℕ) (S : List Item) → Sorted keyOf S → Sorted keyOf (within low high S)
-unfolding within
-within-sorted low high S = pairwise-filter (λ x y. x .key < y .key) (λ it. leb low (it .key) && leb (it .key) high) S
-
-pub within-all : (P : Item → Type 0) (low high : ℕ) (S : List Item) → All P S → All P (within low high S)
-unfolding within
-within-all P low high S = all-filter (λ it. leb low (it .key) && leb (it .key) high) P S

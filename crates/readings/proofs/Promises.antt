@@ -1,12 +1,12 @@
 -- The promises about a store that holds a set, from the laws of represented stores.
-use mathlib.Core.Path.{_≡_, sym, ap, _∙_, subst}
+use mathlib.Core.Path.{_≡_, refl, sym, ap, _∙_, subst}
 use mathlib.Core.Bool.{true, false}
 use mathlib.Core.List.{List, [], _∷_}
 use Prim.Native.Nat.{ℕ, _^_, _<_}
 use native.Mathlib.Omega.{arith}
 use lib.Dec.{eqb}
 use lib.Pow.{pow-pos}
-use borrow.Author.Tests.{ne-eqb}
+use borrow.Author.Tests.{ne-eqb, le-ltb}
 use Rattle.lists.specs.Lists.{All}
 use Rattle.lists.specs.Keyed.{Bounded}
 use Rattle.lists.proofs.ListLaws.{all-map}
@@ -17,22 +17,21 @@ use Rattle.store.specs.Format.{width}
 use Rattle.store.specs.Head.{headOf}
 use Rattle.page.specs.Page.{above, lawfulItem}
 use Rattle.page.proofs.Laws.{lawful-key}
-use Rattle.totals.specs.Totals.{noTotals, totalsOf}
 use Rattle.totals.specs.Promises.{EarliestOf}
-use Rattle.totals.proofs.Promises.{count-and-total, earliest-key}
+use Rattle.totals.proofs.Promises.{earliest-key}
 use Rattle.search.specs.declared.Sought.{Sought}
 use Rattle.search.specs.Find.{soughtReply, checked, findOf, findReply}
 use Rattle.search.specs.Next.{nextOf, nextReply}
-use Rattle.scan.specs.Summary.{done, summingReply, summaryOf}
 use Rattle.page.specs.Schema.{keyOf}
 use Rattle.represent.specs.Rep.{Rep, Holds}
-use Rattle.readings.specs.Listing.{firstWhere, findIn, nextIn, within}
+use Rattle.readings.specs.Listing.{firstWhere, findIn, nextIn, within, summaryIn}
 use Rattle.readings.specs.Clauses.{Clauses}
 use Rattle.readings.specs.Promises.{Sound, FindReads, NextReads, RangeReads, SummaryReads, FindZero, OwnBitsLead}
-use Rattle.readings.specs.Promises.{SummaryOutright, NoDamage, ClausesHold}
+use Rattle.readings.specs.Promises.{Summarised, SummaryOutright, NoDamage, ClausesHold}
 use Rattle.readings.proofs.FirstLaws.{first-none, all-mem, found-own}
 use Rattle.readings.proofs.Records.{records, records-are}
-use Rattle.readings.proofs.ListingLaws.{NextIs, range-is, summary-is, summary-in, within-sorted, within-all}
+use Rattle.readings.proofs.ListingLaws.{NextIs, range-is, summary-is, within-sorted, within-all}
+use Rattle.readings.proofs.EarliestLaws.{earliest-read}
 use Rattle.readings.proofs.ListingLaws.{find-sound, next-sound, range-sound, summary-sound}
 use Rattle.represent.proofs.Passes.{pages-pass}
 use Rattle.represent.proofs.HeadPasses.{head-passes}
@@ -78,27 +77,23 @@ module _ (f : Format) (s : List ℕ) (S : List Item) where
   pub range-reads : RangeReads f s S
   range-reads h low high out q = range-is f s S (next-holds h) (h .sorted) (bounded h) (head-passes f s S h) low high out q
 
+  no-zero : Holds f s S → All (λ it. it .key ≡ 0 → ⊥) S
+  no-zero h =
+      all-map (λ it. lawfulItem f it ≡ true) (λ it. it .key ≡ 0 → ⊥) S (λ it l e. omega (arith, lawful-key f it l .0)) (h .lawful)
+
   pub summary-reads : SummaryReads f s S
-  summary-reads h low high today q = summary-is f s S (next-holds h) (h .sorted) (bounded h) (head-passes f s S h) low high today q
+  summary-reads h low high today q =
+      summary-is f s S (next-holds h) (h .sorted) (bounded h) (head-passes f s S h) (no-zero h) low high today q
 
   pub summary-outright : SummaryOutright f s S
+  unfolding summaryIn
   summary-outright h low high today l q d =
       let its : List Item = within low high S in
-      let e : summaryOf f s low high today ≡ summingReply (done (totalsOf noTotals its today)) =
-      summary-reads h low high today q ∙ summary-in S low high today l d in
-      let c = count-and-total its today in
-      record {
-        number = ap (λ a. a .number) e;
-        count = ap (λ a. a .count) e ∙ c .0;
-        total = ap (λ a. a .total) e ∙ c .1;
-        key =
-            subst (EarliestOf its) (sym (ap (λ a. a .key) e))
-            (earliest-key its today (within-sorted low high S (h .sorted)) (within-all (λ it. it .key ≡ 0 → ⊥) low high S no-zero));
-      }
-    where
-      no-zero : All (λ it. it .key ≡ 0 → ⊥) S
-      no-zero =
-          all-map (λ it. lawfulItem f it ≡ true) (λ it. it .key ≡ 0 → ⊥) S (λ it l e. omega (arith, lawful-key f it l .0)) (h .lawful)
+      let sorted = within-sorted low high S (h .sorted) in
+      let e = earliest-key its today sorted (within-all (λ it. it .key ≡ 0 → ⊥) low high S (no-zero h)) in
+      subst (Summarised its today) (sym (summary-reads h low high today q))
+      (rw (le-ltb high low l, d, summaryIn)
+      (record { number = refl; count = refl; total = refl; key = subst (EarliestOf its) (earliest-read its _ sorted e) e }))
 
   pub find-zero : FindZero f s S
   unfolding findIn

@@ -3,10 +3,13 @@
 --   firstKey S            == the key of the first record, 0 if there is none
 --   within low high S     == the records with keys from low to high
 --   rangedIn S low high n == a range with room for n records
+--   leased its            == the leased ones of the records its
+--   earliestDay its       == the earliest last day of records, 0 for none
+--   earliestKey its       == the key of the earliest last day among the leased ones, 0 if none is
 --   findIn, nextIn, rangeIn, summaryIn == the replies
-use mathlib.Core.Bool.{Bool, true, false, _&&_}
+use mathlib.Core.Bool.{Bool, true, false, not, _&&_}
 use mathlib.Core.List.{List, [], _∷_}
-use Prim.Native.Nat.{ℕ, _/_}
+use Prim.Native.Nat.{ℕ, _/_, min}
 use lib.Dec.{leb, ltb, eqb}
 use lib.ListN.{length, take, drop}
 use Rattle.lists.specs.Lists.{filter}
@@ -15,12 +18,12 @@ use Rattle.store.specs.declared.Format.{Format}
 use Rattle.store.specs.declared.Item.{Item}
 use Rattle.store.specs.Format.{words}
 use Rattle.page.specs.Page.{above}
-use Rattle.totals.specs.Totals.{noTotals, totalsOf}
+use Rattle.totals.specs.Promises.{worths}
 use Rattle.search.specs.declared.Sought.{Sought}
 use Rattle.search.specs.declared.Sought.the-variants.{Record, Nothing}
 use Rattle.search.specs.Find.{Reply, soughtReply}
 use Rattle.scan.specs.Range.{Ranged, After, rangeRefused, listed}
-use Rattle.scan.specs.Summary.{SummaryReply, done, summingReply, summaryRefused}
+use Rattle.scan.specs.Summary.{SummaryReply, summaryRefused}
 
 unfoldable pub firstWhere : (Item → Bool) → List Item → Sought
 firstWhere test [] = Nothing
@@ -53,7 +56,21 @@ rangeIn f S low high out =
       | false ↦ listed f out (rangedIn S low high (length out / words f))
     ]
 
--- "count, total balance (64 bits), and the key of the earliest last day among leased records"
+-- "leased records (lease days above 0, ended ones too)"
+unfoldable pub leased : List Item → List Item
+leased = filter (λ it. not (eqb (it .lease) 0))
+
+unfoldable pub earliestDay : List Item → ℕ
+earliestDay [] = 0
+earliestDay (it ∷ []) = it .last
+earliestDay (it ∷ x ∷ its) = min (it .last) (earliestDay (x ∷ its))
+
+-- "the key of the earliest last day among leased records .., 0 if none. Equal last days: the lowest key." (The list ascends: the first of
+-- them.)
+unfoldable pub earliestKey : List Item → ℕ
+earliestKey its = firstKey (filter (λ it. eqb (it .last) (earliestDay (leased its))) (leased its))
+
+-- "count, total balance (64 bits), and the key of the earliest last day"
 unfoldable pub summaryIn : List Item → ℕ → ℕ → ℕ → SummaryReply
 summaryIn S low high today =
     elim (ltb high low) [
@@ -61,6 +78,12 @@ summaryIn S low high today =
       | false ↦
           elim (lawfulDay today) [
             | false ↦ summaryRefused 6
-            | true ↦ summingReply (done (totalsOf noTotals (within low high S) today))
+            | true ↦
+                record {
+                  number = 0;
+                  count = length (within low high S);
+                  total = worths (within low high S) today;
+                  key = earliestKey (within low high S);
+                }
           ]
     ]
