@@ -1,0 +1,48 @@
+-- The tests of each call, in document 01's order. "Set-up tests 4, 5; the others 3, 7, 6, then 9, 8, 10."
+--   sound a      == what was sought met no damage
+--   checks f c s == the tests of the call c on the words s, each with the number that refuses it
+--   Done c n     == the number of an answer where no test fails: 0; of find and next also 1, "none"
+use mathlib.Core.Path.{_≡_}
+use mathlib.Core.Bool.{Bool, true, false}
+use mathlib.Core.List.{List, [], _∷_}
+use mathlib.Core.Logic.{_⊎_}
+use Prim.Native.Nat.{ℕ, _/_}
+use lib.Dec.{leb}
+use lib.ListN.{length}
+use Rattle.plot.specs.Plot.{lawfulDay}
+use Rattle.store.specs.declared.Format.{Format}
+use Rattle.store.specs.Head.{headOf, headRule, lawfulSizes, size}
+use Rattle.store.specs.Tests.{Test}
+use Rattle.store.specs.Format.{words}
+use Rattle.search.specs.declared.Sought.{Sought}
+use Rattle.search.specs.declared.Sought.the-variants.{Record, Nothing, Damaged}
+use Rattle.search.specs.Find.{findOf}
+use Rattle.search.specs.Next.{nextOf}
+use Rattle.scan.specs.Range.{ranged}
+use Rattle.scan.specs.Summary.{summed}
+use Rattle.insert.specs.Enter.{enterTests}
+use Rattle.index.specs.Calls.{Call, setUp, enter, find, next, range, summary}
+
+abbrev pub sound : Sought → Bool
+sound (Record it) = true
+sound Nothing = true
+sound Damaged = false
+
+-- Enter's tests stand beside its definition: 3, 6, 9, 8, 10.
+abbrev pub checks : Format → Call → List ℕ → List Test
+checks f (setUp θ C N P) s = (4, lawfulSizes θ C N P) ∷ (5, leb (size f θ C N P) (length s)) ∷ []
+checks f (enter it) s = enterTests f s it
+checks f (find k) s = (3, headRule f s) ∷ (9, sound (findOf f s (headOf s) k)) ∷ []
+checks f (next k) s = (3, headRule f s) ∷ (9, sound (nextOf f s (headOf s) true k)) ∷ []
+checks f (range low high out) s =
+    (3, headRule f s) ∷ (7, leb low high) ∷ (9, ranged f s (headOf s) low high (length out / words f) .ok) ∷ []
+checks f (summary low high today) s =
+    (3, headRule f s) ∷ (7, leb low high) ∷ (6, lawfulDay today) ∷ (9, summed f s (headOf s) low high today .ok) ∷ []
+
+abbrev pub Done : Call → ℕ → Type 0
+Done (setUp θ C N P) n = n ≡ 0
+Done (enter it) n = n ≡ 0
+Done (find k) n = (n ≡ 0) ⊎ (n ≡ 1)
+Done (next k) n = (n ≡ 0) ⊎ (n ≡ 1)
+Done (range low high out) n = n ≡ 0
+Done (summary low high today) n = n ≡ 0
