@@ -1,6 +1,5 @@
--- The path that a climb hands back, by the numbers alone: a run with room is one bit deeper; a run at θ stays at θ, its node is split,
--- and the half that
--- the key is in takes up the node's first bit; above a split root stands the new one.
+-- The path that a climb hands back, by the numbers alone: a run with room is one bit deeper; a run at θ stays at θ, its node is split, and
+-- the half that the key is in takes up the node's first bit; above a split root stands the new one.
 --   turned θ k m path == the path of the key k after a climb, where the numbers up to m are taken
 use mathlib.Core.Path.{_≡_}
 use mathlib.Core.Bool.{true, false}

@@ -26,8 +26,7 @@ unfoldable pub summaryFields : ℕ → ℕ → ℕ → List ℕ
 summaryFields count total key = column 2 5 ++ column 2 0 ++ column 10 count ++ column 20 total ++ column 10 key ++ lineFeed ∷ []
 
 -- "Set-up gives the size. Enter gives key, levels, nodes taken, pages taken. Find and next give the record. Range gives a line a record,
--- then
--- answer 1 with the count. .. A wrong line replies kind 99, answer 2. Other fields are 0."
+-- then answer 1 with the count. .. A wrong line replies kind 99, answer 2. Other fields are 0."
 unfoldable pub replyLine : Reply → List ℕ
 replyLine (SetUpDone size) = fourFields 0 0 size 0 0 0
 replyLine (Entered key levels nodes pages) = fourFields 1 0 key levels nodes pages

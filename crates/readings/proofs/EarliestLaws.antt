@@ -1,6 +1,5 @@
--- The key that the totals of ascending records have is that of the earliest last day, read off the list: the leased record that ends
--- first is among those
--- that end on the earliest day, and of these the first has the lowest key.
+-- The key that the totals of ascending records have is that of the earliest last day, read off the list: the leased record that ends first
+-- is among those that end on the earliest day, and of these the first has the lowest key.
 use mathlib.Core.Path.{_≡_, refl, sym, ap, _∙_, subst}
 use mathlib.Core.Bool.{Bool, true, false, not}
 use mathlib.Core.List.{List, [], _∷_, List·Memᴰ, List·Memᴰ·head, List·Memᴰ·tail}

@@ -27,8 +27,7 @@ use Rattle.readings.specs.Listing.{findIn, nextIn, within, rangeIn, summ
 use Rattle.readings.specs.Clauses.{Clauses}
 
 -- "count, total balance (64 bits), and the key of the earliest last day among leased records (lease days above 0, ended ones too), 0 if
--- none.
--- Equal last days: the lowest key."
+-- none. Equal last days: the lowest key."
 pub record Summarised (its : List Item) (today : ℕ) (a : SummaryReply) : Type 0 where
   pub number : a .number ≡ 0
   pub count : a .count ≡ length its

@@ -7,8 +7,7 @@
 --   damagedNode, entryVisit s b i == what a visit gives: damage, or entry i of the node block at b
 --   stepTaken steps l n used v   == the path with the step of level l + 1
 -- A step is the node, the key's entry number in it, that entry's local depth, and the bits used before the node; the step of level l
--- stands at
--- l − 1 of the 32 steps.
+-- stands at l − 1 of the 32 steps.
 use mathlib.Core.Bool.{true, false, _&&_}
 use mathlib.Core.List.{List}
 use Prim.Native.Nat.{ℕ, zero, suc, _+_}

@@ -1,6 +1,5 @@
 -- The path of a key after one level of a climb is its path in the new tries. At a node that has room the run is one bit deeper; at a node
--- that splits the
--- key's next bit chooses the half.
+-- that splits the key's next bit chooses the half.
 use mathlib.Core.Path.{_≡_, refl, sym, ap, ap₂}
 use mathlib.Core.List.{List, _∷_}
 use Prim.Native.Nat.{ℕ, _-_, _≤_}

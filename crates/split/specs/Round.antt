@@ -152,8 +152,7 @@ module _ (O : StoreOps) where
   open StoreOps O using (S, root, levels, taken, put, head)
 
   -- Taking a node block is one operation, done before the block is written: its number, and the store in which it is taken. "New blocks
-  -- get the
-  -- next unused number".
+  -- get the next unused number".
   abbrev pub nextNode : S → ℕ
   nextNode s = suc (taken s)
 
@@ -240,8 +239,7 @@ module _ (θ : ℕ) (I : NodeOps) (O : StoreOps) where
   open StoreOps O using (S, Ok, node, root, levels, taken, cap)
 
   -- "At a full page: halve it on the next bit": the stretch at the key becomes two, with the pointers a and c. Blocks not taken stay. The
-  -- path
-  -- that is handed back is the key's in the new directory.
+  -- path that is handed back is the key's in the new directory.
   abbrev pub RoundCarries : Type 0
   RoundCarries =
       NodeLaws θ I → StoreLaws θ O → 1 ≤ θ

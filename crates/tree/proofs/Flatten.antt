@@ -1,6 +1,5 @@
--- The array of a fork is the arrays of its two tries, one after the other, and the key's bit chooses the half. So the leaf at a key
--- stands in one
--- aligned run, and a trie grafted there changes that run alone.
+-- The array of a fork is the arrays of its two tries, one after the other, and the key's bit chooses the half. So the leaf at a key stands
+-- in one aligned run, and a trie grafted there changes that run alone.
 --   start H t k == where the run at the key starts
 --   size H t k  == how many entries it has
 use mathlib.Core.Path.{_≡_, sym, ap, _∙_}

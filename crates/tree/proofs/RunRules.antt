@@ -1,6 +1,6 @@
--- The run rule and tries. In a trie's array the run around an index is the run of the index's own bits, as a key. Conversely an array
--- that keeps the
--- rule is constant where its first depth is that of the root, and is otherwise two halves that keep the rule one bit further down.
+-- The run rule and tries. In a trie's array the run around an index is the run of the index's own bits, as a key. Conversely an array that
+-- keeps the rule is constant where its first depth is that of the root, and is otherwise two halves that keep the rule one bit further
+-- down.
 use mathlib.Core.Path.{_≡_, sym, ap, ap₂, _∙_}
 use mathlib.Core.List.{List, _++_}
 use Prim.Native.Nat.{ℕ, zero, suc, _+_, _-_, _*_, _/_, _%_, _^_, _≤_, _<_}

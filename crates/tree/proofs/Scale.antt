@@ -1,6 +1,5 @@
 -- Every index is the index of a key, and the entry at a key does not depend on the array's bits; so arrays of one trie are copies of each
--- other,
--- stretched or thinned. Depths, lowered or compared, go through the array entry by entry.
+-- other, stretched or thinned. Depths, lowered or compared, go through the array entry by entry.
 use mathlib.Core.Path.{_≡_, sym, ap, ap₂, _∙_}
 use mathlib.Core.List.{List, [], _∷_, _++_, map, map-append}
 use Prim.Native.Nat.{ℕ, zero, suc, _-_, _/_, _^_, _≤_, _<_, max}

@@ -1,6 +1,5 @@
 -- An array is its runs one after the other, and each starts at a multiple of its length; so the start and the end of the run around an
--- index follow
--- from the index and the depth that stands there.
+-- index follow from the index and the depth that stands there.
 --   spread H es == the runs es written out, each 2^(H−h) times
 use mathlib.Core.Path.{_≡_, refl, sym, ap, ap₂, _∙_}
 use mathlib.Core.List.{List, [], _∷_, _++_, append-assoc, append-nil}

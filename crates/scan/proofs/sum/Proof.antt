@@ -1,6 +1,6 @@
 -- `scan::sum` meets its contract: a walk of its MIR, by hand, with a loop over two locals: the cursor, which moves on, and the totals,
--- which are lent by `&mut` in each turn for a lifetime that is made for the call.
--- All that the proof knows of its callees is that each meets its contract.
+-- which are lent by `&mut` in each turn for a lifetime that is made for the call. All that the proof knows of its callees is that each
+-- meets its contract.
 use mathlib.Core.Path.{_≡_, refl, sym, ap, subst, _∙_}
 use mathlib.Core.Bool.{Bool, true, false, not}
 use mathlib.Core.WellFounded.{WellFounded, InvImage·wf}

@@ -1,6 +1,6 @@
 -- `totals::add` meets its contract: a walk of its MIR, by hand. The borrow is opened, the struct is read whole, `updated` is called on it
--- by value, the result is stored whole, and the borrow is closed at it.
--- All that the proof knows of `updated` is that it meets its contract.
+-- by value, the result is stored whole, and the borrow is closed at it. All that the proof knows of `updated` is that it meets its
+-- contract.
 use mathlib.Core.Path.{_≡_, refl}
 use Prim.Native.Nat.{ℕ, _<_, _^_}
 use mathlib.Core.List.{[], _∷_, List}
