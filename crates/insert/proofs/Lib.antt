@@ -1,4 +1,5 @@
 pub mod Turned
+pub mod PlanLaws
 pub mod PathLaws
 pub mod WayLaws
 pub mod CountLaws

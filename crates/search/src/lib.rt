@@ -112,7 +112,7 @@ fn lost_way() -> Descent
 }
 
 // The way of a key from the root down to its page.
-fn descend(store: &[u32], f: Format, head: Head, key: u64) -> Descent
+pub fn descend(store: &[u32], f: Format, head: Head, key: u64) -> Descent
     requires { ⌜ (head .theta ≤ 6) × (head .levels ≤ 32) ⌝ }
     ensures { λ r. ⌜ (r ≡ descent f (now (store .entry)) head key) × (r .used ≤ width f) ⌝ }
 {
@@ -150,7 +150,7 @@ fn descend(store: &[u32], f: Format, head: Head, key: u64) -> Descent
 }
 
 // Whether the sought key's own page is sound.
-fn page_sound(page: &[u32], f: Format, head: Head, key: u64, used: u32) -> bool
+pub fn page_sound(page: &[u32], f: Format, head: Head, key: u64, used: u32) -> bool
     requires { ⌜ (head .capacity ≤ 64) × (used ≤ width f) ⌝ }
     ensures { λ r. ⌜ r ≡ soundPage f head (now (page .entry)) key used ⌝ }
 {
@@ -161,7 +161,7 @@ fn page_sound(page: &[u32], f: Format, head: Head, key: u64, used: u32) -> bool
 }
 
 // The record with the key in a page, or none.
-fn find_in(page: &[u32], f: Format, key: u64) -> Sought
+pub fn find_in(page: &[u32], f: Format, key: u64) -> Sought
     ensures { λ r. ⌜ r ≡ inPage f (now (page .entry)) key ⌝ }
 {
     let i = page::first_above(page, f, false, key);
@@ -216,7 +216,7 @@ pub fn find(store: &[u32], f: Format, key: u64) -> FindAnswer
 }
 
 // x - y, and 0 where that is below 0.
-fn less(x: u32, y: u32) -> u32
+pub fn less(x: u32, y: u32) -> u32
     ensures { λ r. ⌜ r ≡ x - y ⌝ }
 {
     if x < y {
