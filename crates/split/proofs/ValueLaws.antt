@@ -1,0 +1,99 @@
+-- A node block by value: arrays filled from the front, entries written two words at a time, and the block that these make.
+--   Front xs n f == the first n elements of xs are f 0, f 1, ..
+use mathlib.Core.Path.{_≡_, refl, sym, ap, _∙_}
+use mathlib.Core.List.{List, [], _∷_, _++_, append-assoc}
+use Prim.Native.Nat.{ℕ, suc, _+_, _-_, _*_, _^_, _≤_, _<_}
+use native.Mathlib.Nat.{mul-le-mul-left, mul-le-mul-right}
+use native.Mathlib.Decide.{decLt}
+use native.Mathlib.Numerals.{add-one}
+use native.Mathlib.Omega.{arith}
+use borrow.Author.Count.{below-more}
+use lib.ListN.{length, getD, take, drop, set, replicate, length-append, length-replicate, replicate-append-replicate}
+use lib.Seq.{length-take-le, drop-cons, set-at, getD-set-same, getD-set-other, append-snoc}
+use Rattle.lists.specs.Lists.{tab, replaced}
+use Rattle.lists.proofs.Tests.{length-tab, tab-ext, tab-last}
+use Rattle.tree.specs.Node.{Entry}
+use Rattle.node.specs.Node.{entryOf}
+use Rattle.represent.specs.Image.{entryWords}
+use Rattle.represent.proofs.ImageLaws.{length-entryWords}
+use Rattle.split.specs.declared.Node.{Node}
+use Rattle.split.specs.Block.{kept, block}
+use Rattle.split.specs.Value.{entryIn, blockOf}
+use Rattle.split.proofs.EntryLaws.{kept-in, kept-out, block-entry, entryWords-append}
+
+pub record Front (xs : List ℕ) (n : ℕ) (f : ℕ → ℕ) : Type 0 where
+  pub at : (i : ℕ) → i < n → getD xs i 0 ≡ f i
+
+pub front-none : {xs : List ℕ} {f : ℕ → ℕ} → Front xs 0 f
+front-none = record { at = λ i h. absurd (omega arith) }
+
+pub front-more : {xs : List ℕ} {n : ℕ} {f : ℕ → ℕ} {x : ℕ} → Front xs n f → n < length xs → x ≡ f n → Front (set xs n x) (n + 1) f
+front-more {xs} {n} {f} {x} old h e =
+    record {
+      at = below-more (λ i. getD (set xs n x) i 0 ≡ f i) n
+          (λ i l. getD-set-other xs n i x 0 (λ q. omega arith) ∙ old .at i l)
+          (getD-set-same xs n x 0 h ∙ e);
+    }
+
+-- n steps of k from 0 on
+pub stride : (i n k : ℕ) → i < n → 1 ≤ k → (i * k < n * k) × (i ≤ i * k)
+stride i n k h p = (omega (arith, mul-le-mul-right k h), omega (arith, mul-le-mul-left i p))
+
+-- the element after a new front is stored
+set-next : (p xs : List ℕ) (n x : ℕ) → length p ≡ n → n < length xs → set (p ++ drop n xs) n x ≡ (p ++ x ∷ []) ++ drop (n + 1) xs
+set-next p xs n x e h =
+    ap (λ l. set (p ++ l) n x) (drop-cons xs n 0 h) ∙ set-at p (getD xs n 0) (drop (suc n) xs) x n e
+    ∙ ap (λ k. p ++ x ∷ drop k xs) (sym (add-one n)) ∙ sym (append-assoc p (x ∷ []) (drop (n + 1) xs))
+
+-- one more of n elements that are all x
+pub fill-next : (a n x : ℕ) (xs : List ℕ) → a + n < length xs
+    → set (replaced a n (replicate n x) xs) (a + n) x ≡ replaced a (n + 1) (replicate (n + 1) x) xs
+unfolding replaced
+fill-next a n x xs h =
+    let p : List ℕ = take a xs ++ replicate n x in
+    let long : length p ≡ a + n =
+    length-append (take a xs) (replicate n x) ∙ omega (arith, length-take-le a xs (omega arith), length-replicate n x) in
+    let more : a + n + 1 ≡ a + (n + 1) = omega arith in
+    ap (λ l. set l (a + n) x) (sym (append-assoc (take a xs) (replicate n x) (drop (a + n) xs)))
+    ∙ set-next p xs (a + n) x long h
+    ∙ ap (λ l. l ++ drop (a + n + 1) xs) (append-assoc (take a xs) (replicate n x) (x ∷ []))
+    ∙ append-assoc (take a xs) (replicate n x ++ x ∷ []) (drop (a + n + 1) xs)
+    ∙ ap (λ l. take a xs ++ (l ++ drop (a + n + 1) xs)) (replicate-append-replicate n 1 x)
+    ∙ ap (λ k. take a xs ++ (replicate (n + 1) x ++ drop k xs)) more
+
+-- the two words of one more entry
+pub entry-next : (e : ℕ → Entry ℕ) (n : ℕ) (ws : List ℕ) → 2 * n + 1 < length ws
+    → set (set (entryWords (tab n e) ++ drop (2 * n) ws) (2 * n) (e n .0)) (2 * n + 1) (e n .1)
+    ≡ entryWords (tab (n + 1) e) ++ drop (2 * (n + 1)) ws
+entry-next e n ws h =
+    let p : List ℕ = entryWords (tab n e) in
+    let x : ℕ = e n .0 in
+    let y : ℕ = e n .1 in
+    let long : length p ≡ 2 * n = omega (arith, length-entryWords (tab n e), length-tab n e) in
+    let longer : length (p ++ x ∷ []) ≡ 2 * n + 1 = length-append p (x ∷ []) ∙ omega arith in
+    let two : 2 * n + 1 + 1 ≡ 2 * (n + 1) = omega arith in
+    ap (λ l. set l (2 * n + 1) y) (set-next p ws (2 * n) x long (omega arith))
+    ∙ set-next (p ++ x ∷ []) ws (2 * n + 1) y longer h
+    ∙ ap (λ l. l ++ drop (2 * n + 1 + 1) ws) (append-assoc p (x ∷ []) (y ∷ []) ∙ sym (entryWords-append (tab n e) (e n ∷ [])))
+    ∙ ap (λ l. entryWords l ++ drop (2 * n + 1 + 1) ws) (sym (tab-last n e))
+    ∙ ap (λ k. entryWords (tab k e) ++ drop (2 * n + 1 + 1) ws) (sym (add-one n))
+    ∙ ap (λ k. entryWords (tab (n + 1) e) ++ drop k ws) two
+
+-- a block asks its entries only below 2^H, and below 2^θ
+pub block-ext : (θ H level back forward : ℕ) (e e′ : ℕ → Entry ℕ) → ((j : ℕ) → j < 2 ^ H → j < 2 ^ θ → e j ≡ e′ j)
+    → block θ H level back forward e ≡ block θ H level back forward e′
+unfolding block
+block-ext θ H level back forward e e′ same =
+    ap (λ es. H ∷ level ∷ back ∷ forward ∷ entryWords es) (tab-ext (2 ^ θ) (kept H e) (kept H e′) at)
+  where
+    at : (j : ℕ) → j < 2 ^ θ → kept H e j ≡ kept H e′ j
+    at j l =
+        elim (decLt j (2 ^ H)) [
+          | yes q ↦ kept-in H e j q ∙ same j q l ∙ sym (kept-in H e′ j q)
+          | no q ↦ kept-out H e j (omega arith) ∙ sym (kept-out H e′ j (omega arith))
+        ]
+
+-- an entry of a block, as it is read
+pub value-entry : (θ : ℕ) (n : Node) (j : ℕ) → n .depth ≤ θ → j < 2 ^ n .depth → entryOf (blockOf θ n) 0 j ≡ entryIn n j
+unfolding blockOf
+value-entry θ n j h l = block-entry θ (n .depth) (n .level) (n .back) (n .forward) (entryIn n) j h l
