@@ -1,24 +1,25 @@
 -- A node block by value: arrays filled from the front, entries written two words at a time, and the block that these make.
 --   Front xs n f == the first n elements of xs are f 0, f 1, ..
-use mathlib.Core.Path.{_≡_, refl, sym, ap, _∙_}
+use mathlib.Core.Path.{_≡_, refl, sym, ap, ap₂, _∙_}
 use mathlib.Core.List.{List, [], _∷_, _++_, append-assoc}
-use Prim.Native.Nat.{ℕ, suc, _+_, _-_, _*_, _^_, _≤_, _<_}
+use Prim.Native.Nat.{ℕ, zero, suc, _+_, _*_, _^_, _≤_, _<_, max}
 use native.Mathlib.Nat.{mul-le-mul-left, mul-le-mul-right}
 use native.Mathlib.Decide.{decLt}
 use native.Mathlib.Numerals.{add-one}
 use native.Mathlib.Omega.{arith}
 use borrow.Author.Count.{below-more}
 use lib.ListN.{length, getD, take, drop, set, replicate, length-append, length-replicate, replicate-append-replicate}
-use lib.Seq.{length-take-le, drop-cons, set-at, getD-set-same, getD-set-other, append-snoc}
-use Rattle.lists.specs.Lists.{tab, replaced}
+use lib.Seq.{length-take-le, drop-cons, set-at, getD-set-same, getD-set-other}
+use Rattle.lists.specs.Lists.{tab, greatest, replaced}
 use Rattle.lists.proofs.Tests.{length-tab, tab-ext, tab-last}
 use Rattle.tree.specs.Node.{Entry}
+use Rattle.store.specs.Head.{word}
 use Rattle.node.specs.Node.{entryOf}
 use Rattle.represent.specs.Image.{entryWords}
 use Rattle.represent.proofs.ImageLaws.{length-entryWords}
 use Rattle.split.specs.declared.Node.{Node}
-use Rattle.split.specs.Block.{kept, block}
-use Rattle.split.specs.Value.{entryIn, blockOf}
+use Rattle.split.specs.Block.{kept, block, halves, top}
+use Rattle.split.specs.Value.{entryIn, blockOf, own}
 use Rattle.split.proofs.EntryLaws.{kept-in, kept-out, block-entry, entryWords-append}
 
 pub record Front (xs : List ℕ) (n : ℕ) (f : ℕ → ℕ) : Type 0 where
@@ -38,6 +39,11 @@ front-more {xs} {n} {f} {x} old h e =
 -- n steps of k from 0 on
 pub stride : (i n k : ℕ) → i < n → 1 ≤ k → (i * k < n * k) × (i ≤ i * k)
 stride i n k h p = (omega (arith, mul-le-mul-right k h), omega (arith, mul-le-mul-left i p))
+
+-- the largest of one number more
+pub greatest-more : (n : ℕ) (f : ℕ → ℕ) {m x : ℕ} → m ≡ greatest n f → x ≡ f n → max m x ≡ greatest (n + 1) f
+unfolding greatest
+greatest-more n f e l = ap₂ max e l ∙ ap (λ k. greatest k f) (sym (add-one n))
 
 -- the element after a new front is stored
 set-next : (p xs : List ℕ) (n x : ℕ) → length p ≡ n → n < length xs → set (p ++ drop n xs) n x ≡ (p ++ x ∷ []) ++ drop (n + 1) xs
@@ -92,6 +98,27 @@ block-ext θ H level back forward e e′ same =
           | yes q ↦ kept-in H e j q ∙ same j q l ∙ sym (kept-in H e′ j q)
           | no q ↦ kept-out H e j (omega arith) ∙ sym (kept-out H e′ j (omega arith))
         ]
+
+-- the arrays that the entries of a block are read into
+pub loaded : (θ : ℕ) (ws : List ℕ) {h p : List ℕ} → Front h (2 ^ θ) (λ j. word ws (4 + 2 * j)) → Front p (2 ^ θ) (λ j. word ws (5 + 2 * j))
+    → blockOf θ (record { depth = word ws 0; level = word ws 1; back = word ws 2; forward = word ws 3; h = h; p = p }) ≡ own θ ws
+unfolding blockOf own
+loaded θ ws {h} {p} depths pointers =
+    block-ext θ (word ws 0) (word ws 1) (word ws 2) (word ws 3) (λ j. (getD h j 0, getD p j 0)) (entryOf ws 0)
+    (λ j _ l. ap₂ (λ a b. (a, b)) (depths .at j l) (pointers .at j l))
+
+-- a root's two entries
+pub two-entries : (θ level a c : ℕ) (xs : List ℕ) → 2 ≤ length xs
+    → blockOf θ (record { depth = 1; level = level; back = 0; forward = 0; h = set (set xs 0 1) 1 1; p = set (set xs 0 a) 1 c }) ≡ top θ level a c
+unfolding blockOf top halves
+two-entries θ level a c xs long = block-ext θ 1 level 0 0 _ (halves 2 0 a c) (λ j h _. at xs j long h)
+  where
+    at : (xs : List ℕ) (j : ℕ) → 2 ≤ length xs → j < 2 → (getD (set (set xs 0 1) 1 1) j 0, getD (set (set xs 0 a) 1 c) j 0) ≡ halves 2 0 a c j
+    at [] j l h = absurd (omega arith)
+    at (x ∷ []) j l h = absurd (omega arith)
+    at (x ∷ y ∷ xs) zero l h = refl
+    at (x ∷ y ∷ xs) (suc zero) l h = refl
+    at (x ∷ y ∷ xs) (suc (suc j)) l h = absurd (omega arith)
 
 -- an entry of a block, as it is read
 pub value-entry : (θ : ℕ) (n : Node) (j : ℕ) → n .depth ≤ θ → j < 2 ^ n .depth → entryOf (blockOf θ n) 0 j ≡ entryIn n j
