@@ -73,7 +73,7 @@ loop-again c =
       search needs,
       simp length-set (l .inv .3),
       ap (λ s. set (set s (2 * l .j) (getD (a .t2 .h) (l .j) 0)) (2 * l .j + 1) (getD (a .t2 .p) (l .j) 0)) (l .inv .4)
-      ∙ entry-next (entryIn (a .t2)) (l .j) (a .part .now) (omega arith),
+          ∙ entry-next (entryIn (a .t2)) (l .j) (a .part .now) (omega arith),
     )
 
 same-length : tie.Need-same-length Inv-loop μ-loop
