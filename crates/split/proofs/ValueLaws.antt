@@ -1,26 +1,30 @@
 -- A node block by value: arrays filled from the front, entries written two words at a time, and the block that these make.
 --   Front xs n f == the first n elements of xs are f 0, f 1, ..
+--   headed n ws  == the words ws with the first four of the node n
+--   inUse n      == the words of the node n as far as its entries in use
 use mathlib.Core.Path.{_≡_, refl, sym, ap, ap₂, _∙_}
-use mathlib.Core.List.{List, [], _∷_, _++_, append-assoc}
-use Prim.Native.Nat.{ℕ, zero, suc, _+_, _*_, _^_, _≤_, _<_, max}
+use mathlib.Core.List.{List, [], _∷_, _++_, append-assoc, append-nil}
+use Prim.Native.Nat.{ℕ, zero, suc, _+_, _-_, _*_, _^_, _≤_, _<_, max}
 use native.Mathlib.Nat.{mul-le-mul-left, mul-le-mul-right}
 use native.Mathlib.Decide.{decLt}
 use native.Mathlib.Numerals.{add-one}
 use native.Mathlib.Omega.{arith}
 use borrow.Author.Count.{below-more}
-use lib.ListN.{length, getD, take, drop, set, replicate, length-append, length-replicate, replicate-append-replicate}
-use lib.Seq.{length-take-le, drop-cons, set-at, getD-set-same, getD-set-other}
+use lib.ListN.{length, getD, take, drop, set, replicate, length-append, length-replicate, length-drop, length-set}
+use lib.ListN.{replicate-append-replicate, drop-of-length-le}
+use lib.Seq.{length-take-le, take-all, take-at, drop-at, drop-cons, set-at, getD-set-same, getD-set-other}
 use Rattle.lists.specs.Lists.{tab, greatest, replaced}
 use Rattle.lists.proofs.Tests.{length-tab, tab-ext, tab-last}
 use Rattle.tree.specs.Node.{Entry}
 use Rattle.store.specs.Head.{word}
+use Rattle.page.proofs.Flat.{set-four}
 use Rattle.node.specs.Node.{entryOf}
 use Rattle.represent.specs.Image.{entryWords}
 use Rattle.represent.proofs.ImageLaws.{length-entryWords}
 use Rattle.split.specs.declared.Node.{Node}
 use Rattle.split.specs.Block.{kept, block, halves, top}
 use Rattle.split.specs.Value.{entryIn, blockOf, own}
-use Rattle.split.proofs.EntryLaws.{kept-in, kept-out, block-entry, entryWords-append}
+use Rattle.split.proofs.EntryLaws.{kept-in, kept-out, block-entries, block-entry, entryWords-append}
 
 pub record Front (xs : List ℕ) (n : ℕ) (f : ℕ → ℕ) : Type 0 where
   pub at : (i : ℕ) → i < n → getD xs i 0 ≡ f i
@@ -99,6 +103,57 @@ block-ext θ H level back forward e e′ same =
           | no q ↦ kept-out H e j (omega arith) ∙ sym (kept-out H e′ j (omega arith))
         ]
 
+-- the rest of a list, from index a on, lent and given back
+rest-all : (a : ℕ) (xs : List ℕ) → take (length xs - a) (drop a xs) ≡ drop a xs
+rest-all a xs = take-all (length xs - a) (drop a xs) (omega (arith, length-drop a xs))
+
+pub length-rest : (a : ℕ) (xs : List ℕ) → length (take (length xs - a) (drop a xs)) ≡ length xs - a
+length-rest a xs = ap length (rest-all a xs) ∙ length-drop a xs
+
+rest-back : (a : ℕ) (xs ys : List ℕ) → take a xs ++ (ys ++ drop (length xs - a) (drop a xs)) ≡ take a xs ++ ys
+rest-back a xs ys =
+    ap (λ l. take a xs ++ (ys ++ l)) (drop-of-length-le (drop a xs) {i = length xs - a} (omega (arith, length-drop a xs)))
+    ∙ ap (λ l. take a xs ++ l) (append-nil ys)
+
+-- the rest of a list, after a front p, cleared
+pub rest-cleared : (a : ℕ) (p q xs ys : List ℕ) → xs ≡ p ++ q → length p ≡ a
+    → ys ≡ replicate (length (take (length xs - a) (drop a xs))) 0
+    → take a xs ++ (ys ++ drop (length xs - a) (drop a xs)) ≡ p ++ replicate (length q) 0
+rest-cleared a p q xs ys e long zeros =
+    rest-back a xs ys
+    ∙ ap₂ (λ l m. l ++ m) (ap (take a) e ∙ take-at p q a long)
+    (zeros ∙ ap (λ l. replicate (length l) 0) (rest-all a xs ∙ ap (drop a) e ∙ drop-at p q a long))
+
+abbrev pub headed : Node → List ℕ → List ℕ
+headed n ws = set (set (set (set ws 0 (n .depth)) 1 (n .level)) 2 (n .back)) 3 (n .forward)
+
+pub length-headed : (n : Node) (ws : List ℕ) → length (headed n ws) ≡ length ws
+length-headed n ws = simp length-set
+
+abbrev pub inUse : Node → List ℕ
+inUse n = n .depth ∷ n .level ∷ n .back ∷ n .forward ∷ entryWords (tab (2 ^ n .depth) (entryIn n))
+
+pub length-inUse : (n : Node) → length (inUse n) ≡ 4 + 2 * 2 ^ n .depth
+length-inUse n = let es = tab (2 ^ n .depth) (entryIn n) in omega (arith, length-entryWords es, length-tab (2 ^ n .depth) (entryIn n))
+
+-- the four words, and the entries after them
+pub entries-put : (n : Node) (k : ℕ) (ws ys : List ℕ) → 4 ≤ length ws → k ≡ 2 ^ n .depth
+    → ys ≡ entryWords (tab k (entryIn n)) ++ drop (2 * k) (take (length (headed n ws) - 4) (drop 4 (headed n ws)))
+    → take 4 (headed n ws) ++ (ys ++ drop (length (headed n ws) - 4) (drop 4 (headed n ws))) ≡ inUse n ++ drop (2 * k) (drop 4 ws)
+entries-put n k ws ys long e new =
+    rest-back 4 (headed n ws) ys
+    ∙ ap (λ l. take 4 (headed n ws) ++ l) (new ∙ ap (λ l. entryWords (tab k (entryIn n)) ++ drop (2 * k) l) (rest-all 4 (headed n ws)))
+    ∙ ap (λ l. take 4 l ++ (entryWords (tab k (entryIn n)) ++ drop (2 * k) (drop 4 l)))
+    (set-four ws (n .depth) (n .level) (n .back) (n .forward) long)
+    ∙ ap (λ m. n .depth ∷ n .level ∷ n .back ∷ n .forward ∷ (entryWords (tab m (entryIn n)) ++ drop (2 * k) (drop 4 ws))) e
+
+-- with zeros after them these are the node's block
+pub block-is : (θ : ℕ) (n : Node) (m : ℕ) → n .depth ≤ θ → m ≡ 2 * (2 ^ θ - 2 ^ n .depth) → inUse n ++ replicate m 0 ≡ blockOf θ n
+unfolding blockOf block
+block-is θ n m low e =
+    ap (λ l. n .depth ∷ n .level ∷ n .back ∷ n .forward ∷ l)
+    (ap (λ m. entryWords (tab (2 ^ n .depth) (entryIn n)) ++ replicate m 0) e ∙ sym (block-entries θ (n .depth) (entryIn n) low))
+
 -- the arrays that the entries of a block are read into
 pub loaded : (θ : ℕ) (ws : List ℕ) {h p : List ℕ} → Front h (2 ^ θ) (λ j. word ws (4 + 2 * j)) → Front p (2 ^ θ) (λ j. word ws (5 + 2 * j))
     → blockOf θ (record { depth = word ws 0; level = word ws 1; back = word ws 2; forward = word ws 3; h = h; p = p }) ≡ own θ ws
@@ -109,18 +164,20 @@ loaded θ ws {h} {p} depths pointers =
 
 -- a root's two entries
 pub two-entries : (θ level a c : ℕ) (xs : List ℕ) → 2 ≤ length xs
-    → blockOf θ (record { depth = 1; level = level; back = 0; forward = 0; h = set (set xs 0 1) 1 1; p = set (set xs 0 a) 1 c }) ≡ top θ level a c
+    → blockOf θ (record { depth = 1; level = level; back = 0; forward = 0; h = set (set xs 0 1) 1 1; p = set (set xs 0 a) 1 c })
+    ≡ top θ level a c
 unfolding blockOf top halves
 two-entries θ level a c xs long = block-ext θ 1 level 0 0 _ (halves 2 0 a c) (λ j h _. at xs j long h)
   where
-    at : (xs : List ℕ) (j : ℕ) → 2 ≤ length xs → j < 2 → (getD (set (set xs 0 1) 1 1) j 0, getD (set (set xs 0 a) 1 c) j 0) ≡ halves 2 0 a c j
+    at : (xs : List ℕ) (j : ℕ) → 2 ≤ length xs → j < 2
+        → (getD (set (set xs 0 1) 1 1) j 0, getD (set (set xs 0 a) 1 c) j 0) ≡ halves 2 0 a c j
     at [] j l h = absurd (omega arith)
     at (x ∷ []) j l h = absurd (omega arith)
     at (x ∷ y ∷ xs) zero l h = refl
     at (x ∷ y ∷ xs) (suc zero) l h = refl
     at (x ∷ y ∷ xs) (suc (suc j)) l h = absurd (omega arith)
 
--- an entry of a block, as it is read
+-- an entry of a node's block, as it is read
 pub value-entry : (θ : ℕ) (n : Node) (j : ℕ) → n .depth ≤ θ → j < 2 ^ n .depth → entryOf (blockOf θ n) 0 j ≡ entryIn n j
 unfolding blockOf
 value-entry θ n j h l = block-entry θ (n .depth) (n .level) (n .back) (n .forward) (entryIn n) j h l
