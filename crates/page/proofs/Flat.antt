@@ -14,7 +14,7 @@ pub plot-words : (f : Format) → words f ≡ 4
 unfolding words
 plot-words Plots = refl
 
-set-four : (p : List ℕ) (a b c d : ℕ) → 4 ≤ length p → set (set (set (set p 0 a) 1 b) 2 c) 3 d ≡ a ∷ b ∷ c ∷ d ∷ drop 4 p
+pub set-four : (p : List ℕ) (a b c d : ℕ) → 4 ≤ length p → set (set (set (set p 0 a) 1 b) 2 c) 3 d ≡ a ∷ b ∷ c ∷ d ∷ drop 4 p
 set-four [] a b c d h = absurd (omega arith)
 set-four (w ∷ []) a b c d h = absurd (omega arith)
 set-four (w ∷ x ∷ []) a b c d h = absurd (omega arith)

@@ -16,5 +16,6 @@ pub mod PageLaws
 pub mod Kept
 pub mod Stepping
 pub mod EntryLaws
+pub mod ValueLaws
 pub mod BlockLaws
 pub mod Promises
