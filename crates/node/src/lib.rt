@@ -49,7 +49,8 @@ fn run_ok(store: &[u32], at: usize, depth: u32, low: u32, high: u32, i: usize) -
     same_run(store, at, i, n)
 }
 
-fn larger(a: u32, b: u32) -> u32
+// The larger of two numbers.
+pub fn larger(a: u32, b: u32) -> u32
     ensures { λ r. ⌜ r ≡ max a b ⌝ }
 {
     if a < b {

@@ -1,1 +1,281 @@
-// The steps of an insertion on a store's words: theory so far, no functions.
+// The steps of an insertion: a node block by value, its run halved, the node doubled or split.
+ghost use mathlib.Core.Path.{_≡_};
+ghost use mathlib.Core.Bool.{Bool, true, false};
+ghost use mathlib.Core.List.{List, _++_};
+ghost use Prim.Native.Nat.{ℕ, pred, _+_, _-_, _*_, _/_, _^_, _≤_, _<_};
+ghost use lib.ListN.{length, drop, getD, replicate};
+ghost use Rattle.lists.specs.Bits.{index};
+ghost use Rattle.lists.specs.Lists.{tab, greatest, replaced};
+ghost use Rattle.tree.specs.Trie.{Key};
+ghost use Rattle.store.specs.Head.{nodeWords};
+ghost use Rattle.represent.specs.Image.{entryWords};
+ghost use Rattle.split.specs.Block.{halveRun, double, grow, half, aim, top};
+ghost use Rattle.split.specs.Value.{entryIn, blockOf, own};
+
+// A node block by value: its depth, level and links, and of each entry the local depth and the pointer.
+pub struct Node {
+    pub depth: u32,
+    pub level: u32,
+    pub back: u32,
+    pub forward: u32,
+    pub h: [u32; 64],
+    pub p: [u32; 64],
+}
+
+// A node block as a value.
+pub fn load_node(part: &[u32], theta: u32) -> Node
+    requires { ⌜ (theta ≤ 6) × (length (now part) ≡ nodeWords theta) ⌝ }
+    ensures { λ r. ⌜ blockOf theta r ≡ own theta (now (part .entry)) ⌝ }
+{
+    let n = store::pow2(theta);
+    let mut h = [0u32; 64];
+    let mut p = [0u32; 64];
+    let mut j: usize = 0;
+    while j < n {
+        h[j] = part[4 + 2 * j];
+        p[j] = part[5 + 2 * j];
+        j += 1;
+    }
+    Node {
+        depth: part[0],
+        level: part[1],
+        back: part[2],
+        forward: part[3],
+        h,
+        p,
+    }
+}
+
+// Writes the first n entries of a node at the front of a part.
+fn write_entries(part: &mut [u32], node: Node, n: usize)
+    requires { ⌜ (n ≤ 64) × (2 * n ≤ length (now part)) ⌝ }
+    ensures { λ _. ⌜ now (part .exit) ≡ entryWords (tab n (entryIn node)) ++ drop (2 * n) (now (part .entry)) ⌝ }
+{
+    let mut j: usize = 0;
+    while j < n {
+        part[2 * j] = node.h[j];
+        part[2 * j + 1] = node.p[j];
+        j += 1;
+    }
+}
+
+// Writes a node block whole.
+pub fn write_node(part: &mut [u32], theta: u32, node: Node)
+    requires { ⌜ (theta ≤ 6) × (node .depth ≤ theta) × (length (now part) ≡ nodeWords theta) ⌝ }
+    ensures { λ _. ⌜ now (part .exit) ≡ blockOf theta node ⌝ }
+{
+    part[0] = node.depth;
+    part[1] = node.level;
+    part[2] = node.back;
+    part[3] = node.forward;
+    let n = store::pow2(node.depth);
+    write_entries(&mut part[4..], node, n);
+    let end = 4 + 2 * n;
+    store::clear(&mut part[end..]);
+}
+
+// An array with n elements from `from` on set to x.
+fn fill(a: [u32; 64], from: usize, n: usize, x: u32) -> [u32; 64]
+    requires { ⌜ from + n ≤ 64 ⌝ }
+    ensures { λ r. ⌜ r ≡ replaced from n (replicate n x) a ⌝ }
+{
+    let mut b = a;
+    let mut j: usize = 0;
+    while j < n {
+        b[from + j] = x;
+        j += 1;
+    }
+    b
+}
+
+// How many entries the run of an entry has, by the node's depth and the entry's local depth.
+fn run_length(depth: u32, local: u32) -> usize
+    requires { ⌜ depth ≤ 6 ⌝ }
+    ensures { λ r. ⌜ (r ≡ 2 ^ (depth - local)) × (1 ≤ r) × (r ≤ 64) ⌝ }
+{
+    if depth < local {
+        return 1;
+    }
+    store::pow2(depth - local)
+}
+
+// The run of entry i halved, with the pointers a and c.
+fn halved(theta: u32, node: Node, i: usize, a: u32, c: u32) -> Node
+    requires { ⌜ (theta ≤ 6) × (node .depth ≤ theta) × (i < 2 ^ node .depth) × (getD (node .h) i 0 < 2 ^ 31) ⌝ }
+    ensures { λ r. ⌜ ((k : Key) → index (node .depth) k ≡ i → blockOf theta r ≡ halveRun theta (blockOf theta node) k a c) ⌝ }
+{
+    let local = node.h[i];
+    let n = run_length(node.depth, local);
+    let start = i - i % n;
+    let m = n / 2;
+    let h = node.h;
+    let p = node.p;
+    Node {
+        depth: node.depth,
+        level: node.level,
+        back: node.back,
+        forward: node.forward,
+        h: fill(h, start, n, local + 1),
+        p: fill(fill(p, start, m, a), start + m, n - m, c),
+    }
+}
+
+// Each element twice: of the first n, 2n.
+fn spread(a: [u32; 64], n: usize) -> [u32; 64]
+    requires { ⌜ n ≤ 32 ⌝ }
+    ensures { λ r. ⌜ ((j : ℕ) → j < 2 * n → getD r j 0 ≡ getD a (j / 2) 0) ⌝ }
+{
+    let mut b = [0u32; 64];
+    let mut j: usize = 0;
+    while j < 2 * n {
+        b[j] = a[j / 2];
+        j += 1;
+    }
+    b
+}
+
+// Each entry twice.
+fn doubled(theta: u32, node: Node) -> Node
+    requires { ⌜ (theta ≤ 6) × (node .depth < theta) ⌝ }
+    ensures { λ r. ⌜ (blockOf theta r ≡ double theta (blockOf theta node)) × (r .depth ≡ node .depth + 1) ⌝ }
+{
+    let n = store::pow2(node.depth);
+    let h = node.h;
+    let p = node.p;
+    Node {
+        depth: node.depth + 1,
+        level: node.level,
+        back: node.back,
+        forward: node.forward,
+        h: spread(h, n),
+        p: spread(p, n),
+    }
+}
+
+// The run of entry i halved; after a doubling if its local depth is the node's depth.
+pub fn grown(theta: u32, node: Node, i: usize, a: u32, c: u32) -> Node
+    requires { ⌜ (theta ≤ 6) × (node .depth ≤ theta) × (i < 2 ^ node .depth) × (getD (node .h) i 0 < theta) ⌝ }
+    ensures { λ r. ⌜ ((k : Key) → index (node .depth) k ≡ i → blockOf theta r ≡ grow theta (blockOf theta node) k a c) × (r .depth ≤ theta) ⌝ }
+{
+    if node.h[i] < node.depth {
+        return halved(theta, node, i, a, c);
+    }
+    halved(theta, doubled(theta, node), 2 * i, a, c)
+}
+
+// A half of a node on its way: the entries copied, every local depth less by one, and the largest of these depths.
+struct Lowered {
+    h: [u32; 64],
+    p: [u32; 64],
+    largest: u32,
+}
+
+// x - 1, and 0 for 0.
+fn one_less(x: u32) -> u32
+    ensures { λ r. ⌜ r ≡ pred x ⌝ }
+{
+    if x == 0 {
+        return 0;
+    }
+    x - 1
+}
+
+// n entries of a node from `start` on, lowered. The largest new depth is kept while they are copied.
+fn lower_entries(node: Node, start: usize, n: usize) -> Lowered
+    requires { ⌜ start + n ≤ 64 ⌝ }
+    ensures { λ r. ⌜ ((j : ℕ) → j < n → (getD (r .h) j 0 ≡ pred (getD (node .h) (start + j) 0)) × (getD (r .p) j 0 ≡ getD (node .p) (start + j) 0))
+        × (r .largest ≡ greatest n (λ j. pred (getD (node .h) (start + j) 0))) ⌝ }
+{
+    let mut h = [0u32; 64];
+    let mut p = [0u32; 64];
+    let mut largest: u32 = 0;
+    let mut j: usize = 0;
+    while j < n {
+        let x = one_less(node.h[start + j]);
+        h[j] = x;
+        p[j] = node.p[start + j];
+        largest = node::larger(largest, x);
+        j += 1;
+    }
+    Lowered { h, p, largest }
+}
+
+// Every step-th element: n of them.
+fn thinned(a: [u32; 64], step: usize, n: usize) -> [u32; 64]
+    requires { ⌜ (1 ≤ step) × (n * step ≤ 64) ⌝ }
+    ensures { λ r. ⌜ ((j : ℕ) → j < n → getD r j 0 ≡ getD a (j * step) 0) ⌝ }
+{
+    let mut b = [0u32; 64];
+    let mut j: usize = 0;
+    while j < n {
+        b[j] = a[j * step];
+        j += 1;
+    }
+    b
+}
+
+// The half of a node whose first bit is clear, or set: every local depth less by one, shrunk to the largest of them.
+pub fn half_node(theta: u32, node: Node, upper: bool) -> Node
+    requires { ⌜ (theta ≤ 6) × (node .depth ≤ theta) × (1 ≤ node .depth) × ((j : ℕ) → j < 2 ^ node .depth → getD (node .h) j 0 ≤ node .depth) ⌝ }
+    ensures { λ r. ⌜ (blockOf theta r ≡ half theta (blockOf theta node) upper) × (r .depth < theta) ⌝ }
+{
+    let n = store::pow2(node.depth - 1);
+    let mut start: usize = 0;
+    if upper {
+        start = n;
+    }
+    let l = lower_entries(node, start, n);
+    let m = store::pow2(l.largest);
+    let step = n / m;
+    let h = l.h;
+    let p = l.p;
+    Node {
+        depth: l.largest,
+        level: node.level,
+        back: node.back,
+        forward: node.forward,
+        h: thinned(h, step, m),
+        p: thinned(p, step, m),
+    }
+}
+
+// The run of entry i pointing to q.
+pub fn aimed(theta: u32, node: Node, i: usize, q: u32) -> Node
+    requires { ⌜ (theta ≤ 6) × (node .depth ≤ theta) × (i < 2 ^ node .depth) ⌝ }
+    ensures { λ r. ⌜ ((k : Key) → index (node .depth) k ≡ i → blockOf theta r ≡ aim theta (blockOf theta node) k q) × (r .depth ≡ node .depth) ⌝ }
+{
+    let n = run_length(node.depth, node.h[i]);
+    let start = i - i % n;
+    let h = node.h;
+    let p = node.p;
+    let local = node.h[i];
+    Node {
+        depth: node.depth,
+        level: node.level,
+        back: node.back,
+        forward: node.forward,
+        h: fill(h, start, n, local),
+        p: fill(p, start, n, q),
+    }
+}
+
+// A root at a level, with two entries.
+pub fn root_node(theta: u32, level: u32, a: u32, c: u32) -> Node
+    requires { ⌜ (1 ≤ theta) × (theta ≤ 6) ⌝ }
+    ensures { λ r. ⌜ (blockOf theta r ≡ top theta level a c) × (r .depth ≡ 1) ⌝ }
+{
+    let mut h = [0u32; 64];
+    let mut p = [0u32; 64];
+    h[0] = 1;
+    h[1] = 1;
+    p[0] = a;
+    p[1] = c;
+    Node {
+        depth: 1,
+        level,
+        back: 0,
+        forward: 0,
+        h,
+        p,
+    }
+}

@@ -158,7 +158,7 @@ fn node_words(theta: u32) -> usize
 }
 
 // The words of a page block.
-fn page_words(f: Format, capacity: u32) -> usize
+pub fn page_words(f: Format, capacity: u32) -> usize
     requires { ⌜ capacity ≤ 64 ⌝ }
     ensures { λ r. ⌜ (r ≡ pageWords f capacity) × (r ≤ 257) ⌝ }
 {
@@ -300,7 +300,7 @@ pub fn page_at(store: &[u32], f: Format, head: Head, p: u32) -> &[u32]
 }
 
 // Sets every word of a part to 0.
-fn clear(part: &mut [u32])
+pub fn clear(part: &mut [u32])
     ensures { λ _. ⌜ now (part .exit) ≡ replicate (length (now (part .entry))) 0 ⌝ }
 {
     let n = part.len();

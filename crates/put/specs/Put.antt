@@ -1,0 +1,17 @@
+-- What halving a page asks of the words.
+--   Halvable f s C from to i == two page blocks of capacity C that do not overlap, at from and at to; the one at from has at most C records, and i is no
+--     more than their number
+use mathlib.Core.Logic.{_⊎_}
+use mathlib.Core.List.{List}
+use Prim.Native.Nat.{ℕ, _+_, _≤_}
+use lib.ListN.{length}
+use Rattle.store.specs.declared.Format.{Format}
+use Rattle.store.specs.Head.{word, pageWords}
+
+pub record Halvable (f : Format) (s : List ℕ) (C from to i : ℕ) : Type 0 where
+  pub small : C ≤ 64
+  pub from-in : from + pageWords f C ≤ length s
+  pub to-in : to + pageWords f C ≤ length s
+  pub apart : (from + pageWords f C ≤ to) ⊎ (to + pageWords f C ≤ from)
+  pub fits : word s from ≤ C
+  pub within : i ≤ word s from
