@@ -18,3 +18,4 @@ pub mod Stepping
 pub mod EntryLaws
 pub mod BlockLaws
 pub mod Promises
+pub mod GrowLaws
