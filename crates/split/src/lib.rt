@@ -242,7 +242,8 @@ pub fn half_node(theta: u32, node: Node, upper: bool) -> Node
 // The run of entry i pointing to q.
 pub fn aimed(theta: u32, node: Node, i: usize, q: u32) -> Node
     requires { ⌜ (theta ≤ 6) × (node .depth ≤ theta) × (i < 2 ^ node .depth) ⌝ }
-    ensures { λ r. ⌜ ((k : Key) → index (node .depth) k ≡ i → blockOf theta r ≡ aim theta (blockOf theta node) k q) × (r .depth ≡ node .depth) ⌝ }
+    ensures { λ r. ⌜ ((k : Key) → index (node .depth) k ≡ i → blockOf theta r ≡ aim theta (blockOf theta node) k q)
+        × (r .depth ≡ node .depth) ⌝ }
 {
     let n = run_length(node.depth, node.h[i]);
     let start = i - i % n;
