@@ -102,7 +102,8 @@ fn run_length(depth: u32, local: u32) -> usize
 // The run of entry i halved, with the pointers a and c.
 fn halved(theta: u32, node: Node, i: usize, a: u32, c: u32) -> Node
     requires { ⌜ (theta ≤ 6) × (node .depth ≤ theta) × (i < 2 ^ node .depth) × (getD (node .h) i 0 < 2 ^ 31) ⌝ }
-    ensures { λ r. ⌜ ((k : Key) → index (node .depth) k ≡ i → blockOf theta r ≡ halveRun theta (blockOf theta node) k a c) ⌝ }
+    ensures { λ r. ⌜ ((k : Key) → index (node .depth) k ≡ i → blockOf theta r ≡ halveRun theta (blockOf theta node) k a c)
+        × (r .depth ≡ node .depth) ⌝ }
 {
     let local = node.h[i];
     let n = run_length(node.depth, local);
