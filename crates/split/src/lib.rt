@@ -138,7 +138,8 @@ fn spread(a: [u32; 64], n: usize) -> [u32; 64]
 // Each entry twice.
 fn doubled(theta: u32, node: Node) -> Node
     requires { ⌜ (theta ≤ 6) × (node .depth < theta) ⌝ }
-    ensures { λ r. ⌜ (blockOf theta r ≡ double theta (blockOf theta node)) × (r .depth ≡ node .depth + 1) ⌝ }
+    ensures { λ r. ⌜ (blockOf theta r ≡ double theta (blockOf theta node)) × (r .depth ≡ node .depth + 1)
+        × ((j : ℕ) → j < 2 * 2 ^ node .depth → getD (r .h) j 0 ≡ getD (node .h) (j / 2) 0) ⌝ }
 {
     let n = store::pow2(node.depth);
     let h = node.h;
