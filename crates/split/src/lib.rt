@@ -156,8 +156,10 @@ fn doubled(theta: u32, node: Node) -> Node
 
 // The run of entry i halved; after a doubling if its local depth is the node's depth.
 pub fn grown(theta: u32, node: Node, i: usize, a: u32, c: u32) -> Node
-    requires { ⌜ (theta ≤ 6) × (node .depth ≤ theta) × (i < 2 ^ node .depth) × (getD (node .h) i 0 < theta) ⌝ }
-    ensures { λ r. ⌜ ((k : Key) → index (node .depth) k ≡ i → blockOf theta r ≡ grow theta (blockOf theta node) k a c) × (r .depth ≤ theta) ⌝ }
+    requires { ⌜ (theta ≤ 6) × (node .depth ≤ theta) × (i < 2 ^ node .depth)
+        × (getD (node .h) i 0 < theta) × (getD (node .h) i 0 ≤ node .depth) ⌝ }
+    ensures { λ r. ⌜ ((k : Key) → index (node .depth) k ≡ i → blockOf theta r ≡ grow theta (blockOf theta node) k a c)
+        × (r .depth ≤ theta) ⌝ }
 {
     if node.h[i] < node.depth {
         return halved(theta, node, i, a, c);
