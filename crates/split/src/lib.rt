@@ -220,7 +220,8 @@ fn thinned(a: [u32; 64], step: usize, n: usize) -> [u32; 64]
 
 // The half of a node whose first bit is clear, or set: every local depth less by one, shrunk to the largest of them.
 pub fn half_node(theta: u32, node: Node, upper: bool) -> Node
-    requires { ⌜ (theta ≤ 6) × (node .depth ≤ theta) × (1 ≤ node .depth) × ((j : ℕ) → j < 2 ^ node .depth → getD (node .h) j 0 ≤ node .depth) ⌝ }
+    requires { ⌜ (theta ≤ 6) × (node .depth ≤ theta) × (1 ≤ node .depth)
+        × ((j : ℕ) → j < 2 ^ node .depth → getD (node .h) j 0 ≤ node .depth) ⌝ }
     ensures { λ r. ⌜ (blockOf theta r ≡ half theta (blockOf theta node) upper) × (r .depth < theta) ⌝ }
 {
     let n = store::pow2(node.depth - 1);
