@@ -19,3 +19,4 @@ pub mod EntryLaws
 pub mod ValueLaws
 pub mod BlockLaws
 pub mod Promises
+pub mod GrowLaws

@@ -102,7 +102,8 @@ fn run_length(depth: u32, local: u32) -> usize
 // The run of entry i halved, with the pointers a and c.
 fn halved(theta: u32, node: Node, i: usize, a: u32, c: u32) -> Node
     requires { ⌜ (theta ≤ 6) × (node .depth ≤ theta) × (i < 2 ^ node .depth) × (getD (node .h) i 0 < 2 ^ 31) ⌝ }
-    ensures { λ r. ⌜ ((k : Key) → index (node .depth) k ≡ i → blockOf theta r ≡ halveRun theta (blockOf theta node) k a c) ⌝ }
+    ensures { λ r. ⌜ ((k : Key) → index (node .depth) k ≡ i → blockOf theta r ≡ halveRun theta (blockOf theta node) k a c)
+        × (r .depth ≡ node .depth) ⌝ }
 {
     let local = node.h[i];
     let n = run_length(node.depth, local);
@@ -137,7 +138,8 @@ fn spread(a: [u32; 64], n: usize) -> [u32; 64]
 // Each entry twice.
 fn doubled(theta: u32, node: Node) -> Node
     requires { ⌜ (theta ≤ 6) × (node .depth < theta) ⌝ }
-    ensures { λ r. ⌜ (blockOf theta r ≡ double theta (blockOf theta node)) × (r .depth ≡ node .depth + 1) ⌝ }
+    ensures { λ r. ⌜ (blockOf theta r ≡ double theta (blockOf theta node)) × (r .depth ≡ node .depth + 1)
+        × ((j : ℕ) → j < 2 * 2 ^ node .depth → getD (r .h) j 0 ≡ getD (node .h) (j / 2) 0) ⌝ }
 {
     let n = store::pow2(node.depth);
     let h = node.h;
@@ -154,8 +156,10 @@ fn doubled(theta: u32, node: Node) -> Node
 
 // The run of entry i halved; after a doubling if its local depth is the node's depth.
 pub fn grown(theta: u32, node: Node, i: usize, a: u32, c: u32) -> Node
-    requires { ⌜ (theta ≤ 6) × (node .depth ≤ theta) × (i < 2 ^ node .depth) × (getD (node .h) i 0 < theta) ⌝ }
-    ensures { λ r. ⌜ ((k : Key) → index (node .depth) k ≡ i → blockOf theta r ≡ grow theta (blockOf theta node) k a c) × (r .depth ≤ theta) ⌝ }
+    requires { ⌜ (theta ≤ 6) × (node .depth ≤ theta) × (i < 2 ^ node .depth)
+        × (getD (node .h) i 0 < theta) × (getD (node .h) i 0 ≤ node .depth) ⌝ }
+    ensures { λ r. ⌜ ((k : Key) → index (node .depth) k ≡ i → blockOf theta r ≡ grow theta (blockOf theta node) k a c)
+        × (r .depth ≤ theta) ⌝ }
 {
     if node.h[i] < node.depth {
         return halved(theta, node, i, a, c);
@@ -216,7 +220,8 @@ fn thinned(a: [u32; 64], step: usize, n: usize) -> [u32; 64]
 
 // The half of a node whose first bit is clear, or set: every local depth less by one, shrunk to the largest of them.
 pub fn half_node(theta: u32, node: Node, upper: bool) -> Node
-    requires { ⌜ (theta ≤ 6) × (node .depth ≤ theta) × (1 ≤ node .depth) × ((j : ℕ) → j < 2 ^ node .depth → getD (node .h) j 0 ≤ node .depth) ⌝ }
+    requires { ⌜ (theta ≤ 6) × (node .depth ≤ theta) × (1 ≤ node .depth)
+        × ((j : ℕ) → j < 2 ^ node .depth → getD (node .h) j 0 ≤ node .depth) ⌝ }
     ensures { λ r. ⌜ (blockOf theta r ≡ half theta (blockOf theta node) upper) × (r .depth < theta) ⌝ }
 {
     let n = store::pow2(node.depth - 1);
@@ -242,7 +247,8 @@ pub fn half_node(theta: u32, node: Node, upper: bool) -> Node
 // The run of entry i pointing to q.
 pub fn aimed(theta: u32, node: Node, i: usize, q: u32) -> Node
     requires { ⌜ (theta ≤ 6) × (node .depth ≤ theta) × (i < 2 ^ node .depth) ⌝ }
-    ensures { λ r. ⌜ ((k : Key) → index (node .depth) k ≡ i → blockOf theta r ≡ aim theta (blockOf theta node) k q) × (r .depth ≡ node .depth) ⌝ }
+    ensures { λ r. ⌜ ((k : Key) → index (node .depth) k ≡ i → blockOf theta r ≡ aim theta (blockOf theta node) k q)
+        × (r .depth ≡ node .depth) ⌝ }
 {
     let n = run_length(node.depth, node.h[i]);
     let start = i - i % n;
