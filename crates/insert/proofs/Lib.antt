@@ -1,4 +1,5 @@
 pub mod Turned
+pub mod Held
 pub mod PathLaws
 pub mod WayLaws
 pub mod CountLaws
@@ -10,6 +11,7 @@ pub mod StepLaws
 pub mod Refusals
 pub mod InsideWrites
 pub mod InsideRound
+pub mod HeldRound
 pub mod InsideWay
 pub mod InsideEnter
 pub mod Promises
