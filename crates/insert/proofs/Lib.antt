@@ -1,5 +1,6 @@
 pub mod Turned
 pub mod PlanLaws
+pub mod Held
 pub mod PathLaws
 pub mod WayLaws
 pub mod CountLaws
@@ -11,6 +12,7 @@ pub mod StepLaws
 pub mod Refusals
 pub mod InsideWrites
 pub mod InsideRound
+pub mod HeldRound
 pub mod InsideWay
 pub mod InsideEnter
 pub mod Promises

@@ -1,0 +1,267 @@
+-- A node on the path fits the arrays that hold it, on damaged words too: its depth is at most θ, no local depth is above it, and the key's
+-- entry has the local depth that the path says. Each operation on node blocks keeps this, by its entries alone: a run halved is one bit
+-- deeper and there is room for it, and a half in which the key's entry was at θ keeps every entry. No rule of runs is needed.
+--   Holder θ ws k h == ws is a node block of depth at most θ in which no local depth is above the node's, and the entry of the key k has
+--     the local depth h
+--   Held θ s path   == each place of the path is at such a node of the words s
+--   Apart path      == no two places of the path are at one node
+--   Alike ws vs     == the block vs has the depth and the local depths of ws
+use mathlib.Core.Path.{_≡_, refl, sym, ap, _∙_, subst}
+use mathlib.Core.Bool.{Bool, true, false, _&&_}
+use mathlib.Core.List.{List, [], _∷_}
+use Prim.Native.Nat.{ℕ, zero, suc, pred, _+_, _-_, _*_, _/_, _%_, _^_, _≤_, _<_}
+use native.Mathlib.Nat.{zero-add, add-sub-of-le, mod-lt, pow-zero, mul-one}
+use native.Mathlib.Omega.{arith}
+use native.Mathlib.Decide.{decLt}
+use lib.Dec.{leb, ltb}
+use lib.ListN.{drop, set}
+use lib.Pow.{pow-pos, shl-lt}
+use lib.Seq.{getD-set-other}
+use borrow.Author.Tests.{le-leb, lt-ltb, le-ltb}
+use Rattle.lists.specs.Bits.{index}
+use Rattle.lists.specs.Lists.{All, Pairwise}
+use Rattle.lists.proofs.BitLaws.{index-lt, index-add}
+use Rattle.lists.proofs.Tests.{greatest-le, greatest-at}
+use Rattle.tree.specs.Trie.{Key}
+use Rattle.tree.specs.Node.{Entry}
+use Rattle.node.specs.Node.{depthWord, entryDepth, entryOf}
+use Rattle.split.specs.Frame.{nodeOf}
+use Rattle.split.specs.Round.{Place, chosen}
+use Rattle.split.specs.Block.{block, overRun, halves, number, runLength, halveRun, double, grow, halfStart, fallen, halfDepth, half}
+use Rattle.split.specs.Block.{lower, upper, linked, top}
+use Rattle.split.proofs.EntryLaws.{block-entry}
+
+pub record Holder (θ : ℕ) (ws : List ℕ) (k : Key) (h : ℕ) : Type 0 where
+  pub low : depthWord ws 0 ≤ θ
+  pub all : (j : ℕ) → j < 2 ^ depthWord ws 0 → entryDepth ws 0 j ≤ depthWord ws 0
+  pub here : entryDepth ws 0 (index (depthWord ws 0) k) ≡ h
+
+abbrev pub Held : ℕ → List ℕ → List Place → Type 0
+Held θ s path = All (λ p. Holder θ (nodeOf s (p .at)) (p .bits) (p .depth)) path
+
+abbrev pub Apart : List Place → Type 0
+Apart path = Pairwise (λ p q. p .at ≡ q .at → ⊥) path
+
+-- the key's depth is at most the node's
+pub here-low : (θ : ℕ) (ws : List ℕ) (k : Key) (h : ℕ) → Holder θ ws k h → h ≤ depthWord ws 0
+here-low θ ws k h w = omega (arith, w .here, w .all (index (depthWord ws 0) k) (index-lt (depthWord ws 0) k))
+
+-- links do not matter
+pub record Alike (ws vs : List ℕ) : Type 0 where
+  pub depth-same : depthWord vs 0 ≡ depthWord ws 0
+  pub entry-same : (j : ℕ) → entryDepth vs 0 j ≡ entryDepth ws 0 j
+
+pub alike-is : (ws vs : List ℕ) → vs ≡ ws → Alike ws vs
+alike-is ws vs e = record { depth-same = ap (λ x. depthWord x 0) e; entry-same = λ j. ap (λ x. entryDepth x 0 j) e }
+
+pub alike-then : (ws vs us : List ℕ) → Alike ws vs → Alike vs us → Alike ws us
+alike-then ws vs us a b =
+    record { depth-same = b .depth-same ∙ a .depth-same; entry-same = λ j. b .entry-same j ∙ a .entry-same j }
+
+pub alike-linked : (ws : List ℕ) (p q : ℕ) → Alike ws (linked ws p q)
+unfolding linked
+alike-linked ws p q =
+    record {
+      depth-same = getD-set-other (set ws 2 p) 3 0 q 0 (λ e. omega arith) ∙ getD-set-other ws 2 0 p 0 (λ e. omega arith);
+      entry-same = λ j.
+          getD-set-other (set ws 2 p) 3 (0 + 4 + 2 * j) q 0 (λ e. omega arith)
+          ∙ getD-set-other ws 2 (0 + 4 + 2 * j) p 0 (λ e. omega arith);
+    }
+
+pub holder-alike : (θ : ℕ) (ws vs : List ℕ) (k : Key) (h : ℕ) → Alike ws vs → Holder θ ws k h → Holder θ vs k h
+holder-alike θ ws vs k h a w =
+    record {
+      low = omega (arith, a .depth-same, w .low);
+      all = λ j l. omega (arith, a .depth-same, a .entry-same j, w .all j (subst (λ d. j < 2 ^ d) (a .depth-same) l));
+      here = a .entry-same (index (depthWord vs 0) k) ∙ ap (λ d. entryDepth ws 0 (index d k)) (a .depth-same) ∙ w .here;
+    }
+
+pub holder-linked : (θ : ℕ) (ws : List ℕ) (k : Key) (h p q : ℕ) → Holder θ ws k h → Holder θ (linked ws p q) k h
+holder-linked θ ws k h p q = holder-alike θ ws (linked ws p q) k h (alike-linked ws p q)
+
+-- a block written from entries
+block-holder : (θ H level back forward : ℕ) (e : ℕ → Entry ℕ) (k : Key) (h : ℕ) → H ≤ θ → ((j : ℕ) → j < 2 ^ H → e j .0 ≤ H)
+    → e (index H k) .0 ≡ h → Holder θ (block θ H level back forward e) k h
+unfolding block
+block-holder θ H level back forward e k h low all here =
+    let at : (j : ℕ) → j < 2 ^ H → entryDepth (block θ H level back forward e) 0 j ≡ e j .0 =
+    λ j l. ap (λ x. x .0) (block-entry θ H level back forward e j low l) in
+    record { low = low; all = λ j l. omega (arith, at j l, all j l); here = at (index H k) (index-lt H k) ∙ here }
+
+-- a run written over others
+over-either : (P : Entry ℕ → Type 0) (n i : ℕ) (g e : ℕ → Entry ℕ) (j : ℕ) → ((x : ℕ) → P (g x)) → P (e j) → P (overRun n i g e j)
+unfolding overRun
+over-either P n i g e j p q =
+    elim (leb (i - i % n) j && ltb j (i - i % n + n)) as (λ b. P (elim b [ true ↦ g (j - (i - i % n)) | false ↦ e j ])) [
+      | true ↦ p (j - (i - i % n))
+      | false ↦ q
+    ]
+
+over-here : (P : Entry ℕ → Type 0) (n i : ℕ) (g e : ℕ → Entry ℕ) → 1 ≤ n → ((x : ℕ) → P (g x)) → P (overRun n i g e i)
+unfolding overRun
+over-here P n i g e pos p =
+    rw (le-leb (i - i % n) i (omega arith), lt-ltb i (i - i % n + n) (omega (arith, mod-lt i {m = n} pos)), overRun) (p (i - (i - i % n)))
+
+halves-depth : (n h a c j : ℕ) → halves n h a c j .0 ≡ suc h
+unfolding halves
+halves-depth n h a c j =
+    elim (ltb j (n / 2)) as (λ b. (elim b as (λ c. Entry ℕ) [ true ↦ (suc h, a) | false ↦ (suc h, c) ]) .0 ≡ suc h) [
+      | true ↦ refl
+      | false ↦ refl
+    ]
+
+-- the run at the key halved: a bit is left for it
+run-holder : (θ : ℕ) (ws : List ℕ) (k : Key) (h a c : ℕ) → Holder θ ws k h → h < depthWord ws 0 → Holder θ (halveRun θ ws k a c) k (suc h)
+unfolding halveRun
+run-holder θ ws k h a c w room =
+    let i : ℕ = number ws k in
+    let n : ℕ = runLength ws i in
+    let new : (x : ℕ) → halves n (entryDepth ws 0 i) a c x .0 ≡ suc h =
+    λ x. halves-depth n (entryDepth ws 0 i) a c x ∙ ap suc (w .here) in
+    block-holder θ (depthWord ws 0) _ _ _ _ k (suc h) (w .low)
+    (λ j l.
+    over-either (λ x. x .0 ≤ depthWord ws 0) n i (halves n (entryDepth ws 0 i) a c) (entryOf ws 0) j (λ x. omega (arith, new x))
+    (w .all j l))
+    (over-here (λ x. x .0 ≡ suc h) n i (halves n (entryDepth ws 0 i) a c) (entryOf ws 0) (pow-pos (depthWord ws 0 - entryDepth ws 0 i)) new)
+
+-- each entry twice
+index-halved : (H : ℕ) (k : Key) → index (suc H) k / 2 ≡ index H k
+index-halved H k =
+    let e : H + 1 ≡ suc H = omega arith in
+    omega (arith, ap (λ n. index n k) e, index-add H 1 k, index-lt 1 (drop H k))
+
+double-holder : (θ : ℕ) (ws : List ℕ) (k : Key) (h : ℕ) → Holder θ ws k h → depthWord ws 0 < θ → Holder θ (double θ ws) k h
+unfolding double
+double-holder θ ws k h w room =
+    block-holder θ (suc (depthWord ws 0)) _ _ _ _ k h room (λ j l. omega (arith, w .all (j / 2) (omega arith)))
+    (ap (entryDepth ws 0) (index-halved (depthWord ws 0) k) ∙ w .here)
+
+pub grow-holder : (θ : ℕ) (ws : List ℕ) (k : Key) (h a c : ℕ) → Holder θ ws k h → h < θ → Holder θ (grow θ ws k a c) k (suc h)
+unfolding grow double block
+grow-holder θ ws k h a c w room =
+    elim (decLt h (depthWord ws 0)) [
+      | yes l ↦
+          rw (lt-ltb (entryDepth ws 0 (number ws k)) (depthWord ws 0) (omega (arith, w .here)), grow) (run-holder θ ws k h a c w l)
+      | no l ↦
+          let deep = here-low θ ws k h w in
+          rw (le-ltb (entryDepth ws 0 (number ws k)) (depthWord ws 0) (omega (arith, w .here)), grow)
+          (run-holder θ (double θ ws) k h a c (double-holder θ ws k h w (omega arith)) (omega arith))
+    ]
+
+-- a half of a node of depth θ: every local depth less by one
+pred-mono : (m n : ℕ) → m ≤ n → pred m ≤ pred n
+pred-mono zero n h = omega arith
+pred-mono (suc m) zero h = absurd (omega arith)
+pred-mono (suc m) (suc n) h = omega arith
+
+module _ (θ : ℕ) (ws : List ℕ) (k : Key) (w : Holder θ ws k θ) (pos : 1 ≤ θ) where
+  pub full-depth : depthWord ws 0 ≡ θ
+  full-depth = omega (arith, w .low, here-low θ ws k θ w)
+
+  fallen-low : (b : Bool) (j : ℕ) → j < 2 ^ pred (depthWord ws 0) → fallen ws b j .0 ≤ pred (depthWord ws 0)
+  fallen-low b j l = pred-mono (entryDepth ws 0 (halfStart ws b + j)) (depthWord ws 0) (w .all (halfStart ws b + j) (inside b))
+    where
+      twice : 2 ^ depthWord ws 0 ≡ 2 ^ pred (depthWord ws 0) + 2 ^ pred (depthWord ws 0)
+      twice = go (depthWord ws 0) (omega (arith, full-depth))
+        where
+          go : (H : ℕ) → 1 ≤ H → 2 ^ H ≡ 2 ^ pred H + 2 ^ pred H
+          go zero p = absurd (omega arith)
+          go (suc H) p = omega arith
+
+      inside : (b : Bool) → halfStart ws b + j < 2 ^ depthWord ws 0
+      inside false = omega (arith, twice)
+      inside true = omega (arith, twice)
+
+  shrunk-low : (b : Bool) → halfDepth ws b ≤ pred (depthWord ws 0)
+  shrunk-low b = greatest-le (2 ^ pred (depthWord ws 0)) (λ j. fallen ws b j .0) (pred (depthWord ws 0)) (fallen-low b)
+
+  -- both halves have room for a bit more
+  pub half-low : (b : Bool) → depthWord (half θ ws b) 0 < θ
+  unfolding half block
+  half-low b = omega (arith, shrunk-low b, full-depth)
+
+  half-entry : (b : Bool) (j : ℕ) → j < 2 ^ halfDepth ws b
+      → fallen ws b (j * 2 ^ (pred (depthWord ws 0) - halfDepth ws b)) .0 ≤ halfDepth ws b
+  half-entry b j l =
+      let H : ℕ = pred (depthWord ws 0) in
+      let G : ℕ = halfDepth ws b in
+      greatest-at (2 ^ H) (λ i. fallen ws b i .0) (j * 2 ^ (H - G)) (rw (add-sub-of-le (shrunk-low b)) at (shl-lt G (H - G) l))
+
+  -- either half, with some other key
+  pub half-any : (b : Bool) (j : Key) → Holder θ (half θ ws b) j (entryDepth (half θ ws b) 0 (number (half θ ws b) j))
+  unfolding half block
+  half-any b j =
+      record {
+        low = omega (arith, half-low b);
+        all = block-holder θ (halfDepth ws b) _ _ _ _ j _ (omega (arith, shrunk-low b, full-depth)) (half-entry b) refl .all;
+        here = refl;
+      }
+
+  -- the half that the key is in, by the numbers of its entries
+  half-at : (b : Bool) (j : Key) → index (depthWord ws 0) k ≡ halfStart ws b + index (pred (depthWord ws 0)) j
+      → Holder θ (half θ ws b) j (pred θ)
+  unfolding half
+  half-at b j e =
+      let H : ℕ = pred (depthWord ws 0) in
+      let G : ℕ = halfDepth ws b in
+      let own : fallen ws b (index H j) .0 ≡ pred θ = ap (λ i. pred (entryDepth ws 0 i)) (sym e) ∙ ap pred (w .here) in
+      let same : G ≡ H =
+      omega (arith, shrunk-low b, greatest-at (2 ^ H) (λ i. fallen ws b i .0) (index H j) (index-lt H j), own, full-depth) in
+      let none : H - G ≡ 0 = omega arith in
+      let at : index G j * 2 ^ (H - G) ≡ index H j =
+      ap (λ n. index G j * 2 ^ n) none ∙ ap (λ n. index G j * n) (pow-zero 2) ∙ mul-one (index G j) ∙ ap (λ n. index n j) same in
+      block-holder θ G _ _ _ _ j (pred θ) (omega (arith, shrunk-low b, full-depth)) (half-entry b) (ap (λ i. fallen ws b i .0) at ∙ own)
+
+-- the number of an entry, without the key's first bit
+index-none : (H : ℕ) → 1 ≤ H → index H [] ≡ 0 + index (pred H) []
+index-none zero p = absurd (omega arith)
+index-none (suc H) p = sym (zero-add (index H []))
+
+index-false : (H : ℕ) (k : Key) → 1 ≤ H → index H (false ∷ k) ≡ 0 + index (pred H) k
+index-false zero k p = absurd (omega arith)
+index-false (suc H) k p = sym (zero-add (index H k))
+
+index-true : (H : ℕ) (k : Key) → 1 ≤ H → index H (true ∷ k) ≡ 2 ^ pred H + index (pred H) k
+index-true zero k p = absurd (omega arith)
+index-true (suc H) k p = refl
+
+module _ (θ : ℕ) (ws : List ℕ) (pos : 1 ≤ θ) where
+  half-none : Holder θ ws [] θ → Holder θ (half θ ws false) [] (pred θ)
+  half-none w = half-at θ ws [] w pos false [] (index-none (depthWord ws 0) (omega (arith, full-depth θ ws [] w pos)))
+
+  pub half-holder : (b : Bool) (k : Key) → Holder θ ws (b ∷ k) θ → Holder θ (half θ ws b) k (pred θ)
+  half-holder false k w =
+      half-at θ ws (false ∷ k) w pos false k (index-false (depthWord ws 0) k (omega (arith, full-depth θ ws (false ∷ k) w pos)))
+  half-holder true k w =
+      half-at θ ws (true ∷ k) w pos true k (index-true (depthWord ws 0) k (omega (arith, full-depth θ ws (true ∷ k) w pos)))
+
+  -- the run halved in it: the key's entry is at θ again
+  again : (vs : List ℕ) (k : Key) (a c : ℕ) → Holder θ vs k (pred θ) → Holder θ (grow θ vs k a c) k θ
+  again vs k a c w =
+      let e : suc (pred θ) ≡ θ = omega arith in
+      subst (Holder θ (grow θ vs k a c) k) e (grow-holder θ vs k (pred θ) a c w (omega arith))
+
+  pub lower-none : (a c : ℕ) → Holder θ ws [] θ → Holder θ (lower θ ws [] a c) [] θ
+  unfolding lower
+  lower-none a c w = again (half θ ws false) [] a c (half-none w)
+
+  pub lower-holder : (k : Key) (a c : ℕ) → Holder θ ws (false ∷ k) θ → Holder θ (lower θ ws (false ∷ k) a c) k θ
+  unfolding lower
+  lower-holder k a c w = again (half θ ws false) k a c (half-holder false k w)
+
+  pub upper-holder : (k : Key) (a c : ℕ) → Holder θ ws (true ∷ k) θ → Holder θ (upper θ ws (true ∷ k) a c) k θ
+  unfolding upper
+  upper-holder k a c w = again (half θ ws true) k a c (half-holder true k w)
+
+  -- the one of the two that the key is in, where they stand at the numbers x and y
+  pub split-holder : (k : Key) (a c x y : ℕ) (at : ℕ → List ℕ) → Alike (lower θ ws k a c) (at x) → Alike (upper θ ws k a c) (at y)
+      → Holder θ ws k θ → Holder θ (at (chosen k x y)) (drop 1 k) θ
+  split-holder [] a c x y at l u w = holder-alike θ (lower θ ws [] a c) (at x) [] θ l (lower-none a c w)
+  split-holder (false ∷ k) a c x y at l u w = holder-alike θ (lower θ ws (false ∷ k) a c) (at x) k θ l (lower-holder k a c w)
+  split-holder (true ∷ k) a c x y at l u w = holder-alike θ (upper θ ws (true ∷ k) a c) (at y) k θ u (upper-holder k a c w)
+
+-- a root with two entries
+pub top-holder : (θ level a c : ℕ) (k : Key) → 1 ≤ θ → Holder θ (top θ level a c) k 1
+unfolding top
+top-holder θ level a c k pos =
+    block-holder θ 1 level 0 0 (halves 2 0 a c) k 1 pos (λ j l. omega (arith, halves-depth 2 0 a c j)) (halves-depth 2 0 a c (index 1 k))
