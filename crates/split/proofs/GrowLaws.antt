@@ -113,6 +113,17 @@ pub record ReadAs (ws : List ℕ) (H level back forward : ℕ) (e : ℕ → Entr
   pub forward-is : forwardWord ws 0 ≡ forward
   pub entry : (j : ℕ) → j < 2 ^ H → entryOf ws 0 j ≡ e j
 
+pub read-ext : {ws : List ℕ} {H level back forward : ℕ} {e : ℕ → Entry ℕ} → ReadAs ws H level back forward e → (f : ℕ → Entry ℕ)
+    → ((j : ℕ) → j < 2 ^ H → e j ≡ f j) → ReadAs ws H level back forward f
+read-ext r f same =
+    record {
+      depth-is = r .depth-is;
+      level-is = r .level-is;
+      back-is = r .back-is;
+      forward-is = r .forward-is;
+      entry = λ j l. r .entry j l ∙ same j l;
+    }
+
 -- a block as it is written
 pub block-read : (θ H level back forward : ℕ) (e : ℕ → Entry ℕ) → H ≤ θ
     → ReadAs (block θ H level back forward e) H level back forward e
@@ -179,6 +190,11 @@ module _ {ws : List ℕ} {H level back forward : ℕ} {e : ℕ → Entry ℕ} (r
   unfolding double
   double-read =
       like-read (suc (depthWord ws 0)) _ ∙ block-same θ _ _ _ _ _ (ap suc (r .depth-is)) (λ j l. r .entry (j / 2) (omega arith))
+
+  pub twice-read : suc H ≤ θ → ReadAs (double θ ws) (suc H) level back forward (λ j. e (j / 2))
+  twice-read high =
+      subst (λ t. ReadAs t (suc H) level back forward (λ j. e (j / 2))) (sym double-read)
+      (block-read θ (suc H) level back forward (λ j. e (j / 2)) high)
 
   start-read : (b : Bool) → halfStart ws b ≡ startOf H b
   start-read false = refl
@@ -388,8 +404,7 @@ module _ (θ : ℕ) (n : Node) (i a c : ℕ) (ws : List ℕ) where
   full-value d less below one twice deep made k e =
       let H : ℕ = n .depth in
       let r = value-read θ n (omega arith) in
-      let two = subst (λ t. ReadAs t (suc H) (n .level) (n .back) (n .forward) (λ j. entryIn n (j / 2))) (sym (double-read r θ))
-      (block-read θ (suc H) (n .level) (n .back) (n .forward) (λ j. entryIn n (j / 2)) less) in
+      let two = twice-read r θ less in
       let m : Key = bits (suc H) (2 * i) in
       let em : index (suc H) m ≡ 2 * i = index-own (suc H) (2 * i) (omega arith) in
       let near : index (suc H) m / 2 ≡ index (suc H) k / 2 = omega (arith, index-half H k) in
