@@ -24,7 +24,7 @@ use Rattle.represent.proofs.ImageLaws.{length-entryWords}
 use Rattle.split.specs.declared.Node.{Node}
 use Rattle.split.specs.Block.{kept, block, halves, top}
 use Rattle.split.specs.Value.{entryIn, blockOf, own}
-use Rattle.split.proofs.EntryLaws.{kept-in, kept-out, block-entries, block-entry, entryWords-append}
+use Rattle.split.proofs.EntryLaws.{kept-in, kept-out, block-entries, entryWords-append}
 
 pub record Front (xs : List ℕ) (n : ℕ) (f : ℕ → ℕ) : Type 0 where
   pub at : (i : ℕ) → i < n → getD xs i 0 ≡ f i
@@ -176,8 +176,3 @@ two-entries θ level a c xs long = block-ext θ 1 level 0 0 _ (halves 2 0 a c) (
     at (x ∷ y ∷ xs) zero l h = refl
     at (x ∷ y ∷ xs) (suc zero) l h = refl
     at (x ∷ y ∷ xs) (suc (suc j)) l h = absurd (omega arith)
-
--- an entry of a node's block, as it is read
-pub value-entry : (θ : ℕ) (n : Node) (j : ℕ) → n .depth ≤ θ → j < 2 ^ n .depth → entryOf (blockOf θ n) 0 j ≡ entryIn n j
-unfolding blockOf
-value-entry θ n j h l = block-entry θ (n .depth) (n .level) (n .back) (n .forward) (entryIn n) j h l
