@@ -9,7 +9,7 @@
 --   filled a n x xs      == xs with its n elements from a on set to x
 use mathlib.Core.Path.{_≡_, refl, sym, ap, ap₂, _∙_, subst}
 use mathlib.Core.Bool.{Bool, true, false, _&&_}
-use mathlib.Core.List.{List, _∷_}
+use mathlib.Core.List.{List}
 use Prim.Native.Nat.{ℕ, zero, suc, pred, _+_, _-_, _*_, _/_, _%_, _^_, _≤_, _<_}
 use native.Mathlib.Nat.{add-sub-of-le, mod-le}
 use native.Mathlib.Numerals.{add-one}
@@ -21,33 +21,25 @@ use lib.ListN.{length, getD, drop, replicate, length-replicate, getD-replicate}
 use borrow.Author.Tests.{lt-ltb, le-ltb}
 use Rattle.lists.specs.Bits.{bits, index}
 use Rattle.lists.specs.Lists.{greatest, replaced}
-use Rattle.lists.proofs.Tests.{tab-ext, greatest-ext, greatest-le}
+use Rattle.lists.proofs.Tests.{greatest-ext, greatest-le}
 use Rattle.lists.proofs.BitLaws.{index-lt, index-add, index-own}
 use Rattle.lists.proofs.Powers.{pow-split, pow-join, run-lt}
 use Rattle.lists.proofs.Parts.{length-replaced, replaced-in, replaced-below, replaced-above}
 use Rattle.tree.specs.Trie.{Key}
 use Rattle.tree.specs.Node.{Entry, lowered}
 use Rattle.node.specs.Node.{depthWord, levelWord, backWord, forwardWord, entryDepth, entryOf}
-use Rattle.represent.specs.Image.{entryWords}
 use Rattle.split.specs.declared.Node.{Node}
-use Rattle.split.specs.Block.{kept, block, like, overRun, halves, number, runLength, halveRun, double, grow, halfStart, fallen}
+use Rattle.split.specs.Block.{block, like, overRun, halves, number, runLength, halveRun, double, grow, halfStart, fallen}
 use Rattle.split.specs.Block.{halfDepth, half, aim}
 use Rattle.split.specs.Value.{entryIn, blockOf, own}
-use Rattle.split.proofs.EntryLaws.{kept-in, kept-out, block-entry, over-in, over-below, over-above}
+use Rattle.split.proofs.ValueLaws.{block-ext}
+use Rattle.split.proofs.EntryLaws.{block-entry, over-in, over-below, over-above}
 
 -- blocks are equal by the entries in use
 pub block-same : (θ : ℕ) {H K : ℕ} (level back forward : ℕ) (e f : ℕ → Entry ℕ) → H ≡ K → ((j : ℕ) → j < 2 ^ K → e j ≡ f j)
     → block θ H level back forward e ≡ block θ K level back forward f
-unfolding block
 block-same θ {H} {K} level back forward e f same at =
-    ap (λ D. block θ D level back forward e) same
-    ∙ ap (λ es. K ∷ level ∷ back ∷ forward ∷ entryWords es)
-    (tab-ext (2 ^ θ) (kept K e) (kept K f)
-    (λ j l.
-    elim (decLt j (2 ^ K)) [
-      | yes p ↦ kept-in K e j p ∙ at j p ∙ sym (kept-in K f j p)
-      | no p ↦ kept-out K e j (omega arith) ∙ sym (kept-out K f j (omega arith))
-    ]))
+    ap (λ D. block θ D level back forward e) same ∙ block-ext θ K level back forward e f (λ j l m. at j l)
 
 -- the run that is written goes by where it starts, the others by themselves
 module _ (n i : ℕ) (g e : ℕ → Entry ℕ) (j : ℕ) where

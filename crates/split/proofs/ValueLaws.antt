@@ -41,8 +41,8 @@ front-more {xs} {n} {f} {x} old h e =
     }
 
 -- n steps of k from 0 on
-pub stride : (i n k : ℕ) → i < n → 1 ≤ k → (i * k < n * k) × (i ≤ i * k)
-stride i n k h p = (omega (arith, mul-le-mul-right k h), omega (arith, mul-le-mul-left i p))
+pub steps-within : (i n k : ℕ) → i < n → 1 ≤ k → (i * k < n * k) × (i ≤ i * k)
+steps-within i n k h p = (omega (arith, mul-le-mul-right k h), omega (arith, mul-le-mul-left i p))
 
 -- the largest of one number more
 pub greatest-more : (n : ℕ) (f : ℕ → ℕ) {m x : ℕ} → m ≡ greatest n f → x ≡ f n → max m x ≡ greatest (n + 1) f

@@ -35,7 +35,8 @@ back-is : (c : tie.After-word3)
 back-is c =
     let w = c .before .before .before .before .before .before .before .before in
     let p = w .before .before .before in
-    word-of (p .args .store .now) (p .args .head) (w .word .result) 2 (c .word3 .ensures) (c .before .before .before .node-start2 .ensures .0)
+    word-of (p .args .store .now) (p .args .head) (w .word .result) 2 (c .word3 .ensures)
+    (c .before .before .before .node-start2 .ensures .0)
 
 node-start-requires : tie.Need-node-start-requires
 node-start-requires c κs = search needs

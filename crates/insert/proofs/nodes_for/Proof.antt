@@ -61,7 +61,8 @@ loop-again c =
       search needs,
       omega (arith, l .1, c .less2 .ensures),
       omega (arith, l .1, l .2, c .less2 .ensures),
-      costs-more _ _ _ _ _ _ (l .3) (c .before .before .loop-test .taken) (long (c .before .before .before)) refl (c .before .less .ensures) (c .less2 .ensures),
+      costs-more _ _ _ _ _ _ (l .3) (c .before .before .loop-test .taken) (long (c .before .before .before)) refl
+          (c .before .less .ensures) (c .less2 .ensures),
     )
 
 root-nodes-requires : tie.Need-root-nodes-requires Inv-loop μ-loop

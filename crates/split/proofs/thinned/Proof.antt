@@ -4,7 +4,7 @@ use mathlib.Core.Path.{_≡_, refl}
 use Prim.Native.Nat.{_-_, _*_, _≤_, _<_}
 use native.Mathlib.Omega.{arith}
 use lib.ListN.{length, getD, length-set}
-use Rattle.split.proofs.ValueLaws.{Front, front-none, front-more, stride}
+use Rattle.split.proofs.ValueLaws.{Front, front-none, front-more, steps-within}
 use Rattle.split.proofs.thinned.Statement.{statement}
 use Rattle.split.proofs.thinned.Tie as tie
 
@@ -19,7 +19,7 @@ abbrev μ-loop : tie.MeasureT-loop
 inside : (c : tie.In-loop Inv-loop μ-loop) → (c .before .loop .j < 64) × (c .before .loop .j * c .before .before .args .step < 64)
 inside c =
     let a = c .before .before .args in
-    let s = stride (c .before .loop .j) (a .n) (a .step) (c .loop-test .taken) (c .before .before .pre .0) in
+    let s = steps-within (c .before .loop .j) (a .n) (a .step) (c .loop-test .taken) (c .before .before .pre .0) in
     (omega arith, omega arith)
 
 loop-holds : tie.Need-loop-holds Inv-loop μ-loop
