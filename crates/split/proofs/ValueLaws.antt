@@ -12,14 +12,16 @@ use native.Mathlib.Omega.{arith}
 use borrow.Author.Count.{below-more}
 use lib.ListN.{length, getD, take, drop, set, replicate, length-append, length-replicate, length-drop, length-set}
 use lib.ListN.{replicate-append-replicate, drop-of-length-le}
-use lib.Seq.{length-take-le, take-all, take-at, drop-at, drop-cons, set-at, getD-set-same, getD-set-other}
+use lib.Seq.{length-take-le, take-all, take-at, drop-at, drop-drop, drop-cons, set-at, getD-set-same, getD-set-other}
 use Rattle.lists.specs.Lists.{tab, greatest, replaced}
+use Rattle.lists.proofs.Parts.{part-in}
 use Rattle.lists.proofs.Tests.{length-tab, tab-ext, tab-last}
 use Rattle.tree.specs.Node.{Entry}
-use Rattle.store.specs.Head.{word}
+use Rattle.store.specs.declared.Head.{Head}
+use Rattle.store.specs.Head.{word, nodeStart, nodeWords}
 use Rattle.page.proofs.Flat.{set-four}
 use Rattle.node.specs.Node.{entryOf}
-use Rattle.represent.specs.Image.{entryWords}
+use Rattle.represent.specs.Image.{entryWords, nodeAt}
 use Rattle.represent.proofs.ImageLaws.{length-entryWords}
 use Rattle.split.specs.declared.Node.{Node}
 use Rattle.split.specs.Block.{kept, block, halves, top}
@@ -176,3 +178,17 @@ two-entries θ level a c xs long = block-ext θ 1 level 0 0 _ (halves 2 0 a c) (
     at (x ∷ y ∷ xs) zero l h = refl
     at (x ∷ y ∷ xs) (suc zero) l h = refl
     at (x ∷ y ∷ xs) (suc (suc j)) l h = absurd (omega arith)
+
+-- a node block that is lent as a part of the store
+module _ (s : List ℕ) (h : Head) (n : ℕ) {a w : ℕ} (start : a ≡ nodeStart h n) (words : w ≡ nodeWords (h .theta)) where
+  pub node-lent : nodeStart h n + nodeWords (h .theta) ≤ length s → take (a + w - a) (drop a s) ≡ nodeAt s h n
+  unfolding nodeAt
+  node-lent l =
+      let e : a + w - a ≡ w = omega arith in
+      rw (e, start, words) (sym (part-in s (nodeStart h n) (nodeWords (h .theta)) l))
+
+  pub node-back : (ws : List ℕ) → take a s ++ (ws ++ drop (a + w - a) (drop a s)) ≡ replaced (nodeStart h n) (nodeWords (h .theta)) ws s
+  unfolding replaced
+  node-back ws =
+      let e : a + w - a ≡ w = omega arith in
+      rw (e, start, words) (ap (λ l. take (nodeStart h n) s ++ (ws ++ l)) (drop-drop (nodeWords (h .theta)) (nodeStart h n) s))

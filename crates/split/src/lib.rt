@@ -1,4 +1,5 @@
 // The steps of an insertion: a node block by value, its run halved, the node doubled or split.
+use store::Head;
 ghost use mathlib.Core.Path.{_≡_};
 ghost use mathlib.Core.Bool.{Bool, true, false};
 ghost use mathlib.Core.List.{List, _++_};
@@ -7,8 +8,8 @@ ghost use lib.ListN.{length, drop, getD, replicate};
 ghost use Rattle.lists.specs.Bits.{index};
 ghost use Rattle.lists.specs.Lists.{tab, greatest, replaced};
 ghost use Rattle.tree.specs.Trie.{Key};
-ghost use Rattle.store.specs.Head.{nodeWords};
-ghost use Rattle.represent.specs.Image.{entryWords};
+ghost use Rattle.store.specs.Head.{nodeWords, nodeStart};
+ghost use Rattle.represent.specs.Image.{entryWords, nodeAt};
 ghost use Rattle.split.specs.Block.{halveRun, double, grow, half, aim, top};
 ghost use Rattle.split.specs.Value.{entryIn, blockOf, own};
 
@@ -284,4 +285,25 @@ pub fn root_node(theta: u32, level: u32, a: u32, c: u32) -> Node
         h,
         p,
     }
+}
+
+// The block of node n, as a value.
+pub fn node_at(store: &[u32], head: Head, n: u32) -> Node
+    requires { ⌜ (head .theta ≤ 6) × (nodeStart head n + nodeWords (head .theta) ≤ length (now store)) ⌝ }
+    ensures { λ r. ⌜ blockOf (head .theta) r ≡ own (head .theta) (nodeAt (now (store .entry)) head n) ⌝ }
+{
+    let at = store::node_start(head, n);
+    let end = at + store::node_words(head.theta);
+    load_node(&store[at..end], head.theta)
+}
+
+// Writes a node into block n, which is lent as a part of the store.
+pub fn put_node(store: &mut [u32], head: Head, n: u32, node: Node)
+    requires { ⌜ (head .theta ≤ 6) × (node .depth ≤ head .theta) × (nodeStart head n + nodeWords (head .theta) ≤ length (now store)) ⌝ }
+    ensures { λ _. ⌜ now (store .exit)
+        ≡ replaced (nodeStart head n) (nodeWords (head .theta)) (blockOf (head .theta) node) (now (store .entry)) ⌝ }
+{
+    let at = store::node_start(head, n);
+    let end = at + store::node_words(head.theta);
+    write_node(&mut store[at..end], head.theta, node);
 }

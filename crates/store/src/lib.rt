@@ -150,7 +150,7 @@ fn sizes_ok(theta: u32, capacity: u32, nodes: u32, pages: u32) -> bool
 }
 
 // The words of a node block.
-fn node_words(theta: u32) -> usize
+pub fn node_words(theta: u32) -> usize
     requires { ⌜ theta ≤ 6 ⌝ }
     ensures { λ r. ⌜ (r ≡ nodeWords theta) × (6 ≤ r) × (r ≤ 132) ⌝ }
 {
