@@ -21,7 +21,7 @@ use lib.ListN.{length, getD, drop, replicate, length-replicate, getD-replicate}
 use borrow.Author.Tests.{lt-ltb, le-ltb}
 use Rattle.lists.specs.Bits.{bits, index}
 use Rattle.lists.specs.Lists.{greatest, replaced}
-use Rattle.lists.proofs.Tests.{greatest-ext, greatest-le}
+use Rattle.lists.proofs.Tests.{greatest-ext, greatest-le, greatest-at}
 use Rattle.lists.proofs.BitLaws.{index-lt, index-add, index-own}
 use Rattle.lists.proofs.Powers.{pow-split, pow-join, run-lt}
 use Rattle.lists.proofs.Parts.{length-replaced, replaced-in, replaced-below, replaced-above}
@@ -32,7 +32,7 @@ use Rattle.split.specs.declared.Node.{Node}
 use Rattle.split.specs.Block.{block, like, overRun, halves, number, runLength, halveRun, double, grow, halfStart, fallen}
 use Rattle.split.specs.Block.{halfDepth, half, aim}
 use Rattle.split.specs.Value.{entryIn, blockOf, own}
-use Rattle.split.proofs.ValueLaws.{block-ext}
+use Rattle.split.proofs.ValueLaws.{block-ext, steps-within}
 use Rattle.split.proofs.EntryLaws.{block-entry, over-in, over-below, over-above}
 
 -- blocks are equal by the entries in use
@@ -438,3 +438,15 @@ half-value θ x b small high some low s n K m es en eK em l q h p lowers thins t
     ap₂ (λ y z. (y, z)) (thins j in-m ∙ lowers (j * (n / m)) at .0) (thins-p j in-m ∙ lowers (j * (n / m)) at .1)
     ∙ ap₂ (λ y w. lowered (e (y + j * w))) es step)
     ∙ sym (half-read (value-read θ x high) θ some low b)
+
+-- no depth of a half is over its largest
+pub half-kept : (L K n m s : ℕ) (x l h : List ℕ) → K ≤ L → L ≤ 6 → n ≡ 2 ^ L → m ≡ 2 ^ K → K ≡ greatest n (λ j. pred (getD x (s + j) 0))
+    → ((j : ℕ) → j < n → getD l j 0 ≡ pred (getD x (s + j) 0)) → ((j : ℕ) → j < m → getD h j 0 ≡ getD l (j * (n / m)) 0)
+    → (j : ℕ) → j < 2 ^ K → getD h j 0 ≤ K
+half-kept L K n m s x l h le small en em eK lowers thins j r =
+    let step = half-step L K n m le small en em in
+    let whole : m * (n / m) ≡ n = ap₂ (λ a b. a * b) em (step .0) ∙ pow-split le ∙ sym en in
+    let in-m : j < m = omega arith in
+    let at : j * (n / m) < n = omega (arith, steps-within j m (n / m) in-m (step .1) .0, whole) in
+    let e : getD h j 0 ≡ pred (getD x (s + j * (n / m)) 0) = thins j in-m ∙ lowers (j * (n / m)) at in
+    omega (arith, e, eK, greatest-at n (λ i. pred (getD x (s + i) 0)) (j * (n / m)) at)

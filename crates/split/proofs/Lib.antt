@@ -20,3 +20,4 @@ pub mod ValueLaws
 pub mod BlockLaws
 pub mod Promises
 pub mod GrowLaws
+pub mod SplitLaws

@@ -1,16 +1,18 @@
 // The steps of an insertion: a node block by value, its run halved, the node doubled or split.
+use store::Format;
 use store::Head;
 ghost use mathlib.Core.Path.{_≡_};
 ghost use mathlib.Core.Bool.{Bool, true, false};
 ghost use mathlib.Core.List.{List, _++_};
 ghost use Prim.Native.Nat.{ℕ, pred, _+_, _-_, _*_, _/_, _^_, _≤_, _<_};
 ghost use lib.ListN.{length, drop, getD, replicate};
-ghost use Rattle.lists.specs.Bits.{index};
+ghost use Rattle.lists.specs.Bits.{bits, index};
 ghost use Rattle.lists.specs.Lists.{tab, greatest, replaced};
 ghost use Rattle.tree.specs.Trie.{Key};
+ghost use Rattle.store.specs.Format.{width};
 ghost use Rattle.store.specs.Head.{nodeWords, nodeStart};
 ghost use Rattle.represent.specs.Image.{entryWords, nodeAt};
-ghost use Rattle.split.specs.Block.{halveRun, double, grow, half, aim, top};
+ghost use Rattle.split.specs.Block.{halveRun, double, grow, half, lower, upper, aim, top};
 ghost use Rattle.split.specs.Value.{entryIn, blockOf, own};
 
 // A node block by value: its depth, level and links, and of each entry the local depth and the pointer.
@@ -223,7 +225,8 @@ fn thinned(a: [u32; 64], step: usize, n: usize) -> [u32; 64]
 pub fn half_node(theta: u32, node: Node, upper: bool) -> Node
     requires { ⌜ (theta ≤ 6) × (node .depth ≤ theta) × (1 ≤ node .depth)
         × ((j : ℕ) → j < 2 ^ node .depth → getD (node .h) j 0 ≤ node .depth) ⌝ }
-    ensures { λ r. ⌜ (blockOf theta r ≡ half theta (blockOf theta node) upper) × (r .depth < theta) ⌝ }
+    ensures { λ r. ⌜ (blockOf theta r ≡ half theta (blockOf theta node) upper) × (r .depth < node .depth)
+        × ((j : ℕ) → j < 2 ^ r .depth → getD (r .h) j 0 ≤ r .depth) ⌝ }
 {
     let n = store::pow2(node.depth - 1);
     let mut start: usize = 0;
@@ -242,6 +245,36 @@ pub fn half_node(theta: u32, node: Node, upper: bool) -> Node
         forward: node.forward,
         h: thinned(h, step, m),
         p: thinned(p, step, m),
+    }
+}
+
+// The two halves of a split node.
+pub struct Halves {
+    pub lower: Node,
+    pub upper: Node,
+}
+
+// A full node split on its first bit. The run at the key is halved in the half that the key's next bit chooses.
+pub fn split_node(theta: u32, node: Node, f: Format, key: u64, used: u32, a: u32, c: u32) -> Halves
+    requires { ⌜ (1 ≤ theta) × (theta ≤ 6) × (node .depth ≡ theta) × (used + theta ≤ width f) × (key < 2 ^ width f)
+        × ((j : ℕ) → j < 2 ^ node .depth → getD (node .h) j 0 ≤ node .depth) ⌝ }
+    ensures { λ r. ⌜ (blockOf theta (r .lower) ≡ lower theta (blockOf theta node) (bits (width f - used) key) a c)
+        × (blockOf theta (r .upper) ≡ upper theta (blockOf theta node) (bits (width f - used) key) a c)
+        × (r .lower .depth ≤ theta) × (r .upper .depth ≤ theta) ⌝ }
+{
+    let low = half_node(theta, node, false);
+    let high = half_node(theta, node, true);
+    if node::entry_number(f, key, used, 1) == 0 {
+        let i = node::entry_number(f, key, used + 1, low.depth);
+        return Halves {
+            lower: grown(theta, low, i, a, c),
+            upper: high,
+        };
+    }
+    let i = node::entry_number(f, key, used + 1, high.depth);
+    Halves {
+        lower: low,
+        upper: grown(theta, high, i, a, c),
     }
 }
 

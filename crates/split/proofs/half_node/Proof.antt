@@ -10,7 +10,7 @@ use lib.ListN.{getD}
 use borrow.Author.Needs.{needs}
 use Rattle.lists.specs.Lists.{greatest}
 use Rattle.split.specs.Value.{entryIn, blockOf}
-use Rattle.split.proofs.GrowLaws.{startOf, depthOf, depth-low, half-step, half-value}
+use Rattle.split.proofs.GrowLaws.{startOf, depthOf, depth-low, half-step, half-value, half-kept}
 use Rattle.split.proofs.half_node.Statement.{statement}
 use Rattle.split.proofs.half_node.Tie as tie
 
@@ -83,6 +83,9 @@ returns c =
           (l .lower-entries .result .h) (l .lower-entries .result .p) (c .before .thinned .result) (c .thinned2 .result)
           (l .lower-entries .ensures .0) (c .before .thinned .ensures) (c .thinned2 .ensures),
       omega (arith, low l),
+      half-kept _ _ _ _ (l .before .if1 .start) (s .args .node .h) (l .lower-entries .result .h) (c .before .thinned .result) (low l)
+          (omega arith) (size (l .before .before)) (u .pow22 .ensures .0) (l .lower-entries .ensures .1)
+          (λ j q. l .lower-entries .ensures .0 j q .0) (c .before .thinned .ensures),
     )
 
 pub half-node-spec : {M : Type 1} → statement M

@@ -1,0 +1,63 @@
+-- A split node, by the next bit of the key: that bit is the entry that the key takes in a node of depth 1.
+use mathlib.Core.Path.{_≡_, refl, sym, ap, _∙_}
+use mathlib.Core.Bool.{true, false}
+use mathlib.Core.List.{List, _∷_}
+use mathlib.Core.Logic.{inl, inr}
+use Prim.Native.Nat.{ℕ, suc, _+_, _-_, _^_, _≤_, _<_}
+use native.Mathlib.Omega.{arith}
+use Rattle.lists.specs.Bits.{bit, bits, index}
+use Rattle.lists.proofs.Cases.{bool-cases}
+use Rattle.lists.proofs.BitLaws.{drop-bits}
+use Rattle.tree.specs.Trie.{Key}
+use Rattle.node.specs.Node.{entryNumber}
+use Rattle.node.proofs.EntryNumber.{entry-index}
+use Rattle.split.specs.Block.{grow, half, lower, upper}
+
+-- the entry that a key takes, by the bits that are left
+pub entry-at : (W k used H : ℕ) {i : ℕ} → used + H ≤ W → k < 2 ^ W → i ≡ entryNumber W k used H → index H (bits (W - used) k) ≡ i
+entry-at W k used H l q e = sym (e ∙ entry-index W k used H l q ∙ ap (index H) (drop-bits W used k (omega arith)))
+
+module _ (W k used : ℕ) (l : used < W) (q : k < 2 ^ W) {i : ℕ} (e : i ≡ entryNumber W k used 1) where
+  abbrev rest : Key
+  rest = bits (W - (used + 1)) k
+
+  next-bit : bits (W - used) k ≡ bit (W - (used + 1)) k ∷ rest
+  next-bit = let g : W - used ≡ suc (W - (used + 1)) = omega arith in rw g refl
+
+  bit-at : index 1 (bit (W - (used + 1)) k ∷ rest) ≡ i
+  bit-at = ap (index 1) (sym next-bit) ∙ entry-at W k used 1 (omega arith) q e
+
+  clear : i ≡ 0 → bits (W - used) k ≡ false ∷ rest
+  clear z =
+      elim (bool-cases (bit (W - (used + 1)) k)) [
+        | inl t ↦ absurd (omega (arith, ap (λ b. index 1 (b ∷ rest)) (sym t) ∙ bit-at, z))
+        | inr t ↦ next-bit ∙ ap (λ b. b ∷ rest) t
+      ]
+
+  set-bit : (i ≡ 0 → ⊥) → bits (W - used) k ≡ true ∷ rest
+  set-bit z =
+      elim (bool-cases (bit (W - (used + 1)) k)) [
+        | inl t ↦ next-bit ∙ ap (λ b. b ∷ rest) t
+        | inr t ↦ absurd (z (sym bit-at ∙ ap (λ b. index 1 (b ∷ rest)) t))
+      ]
+
+  module _ (θ : ℕ) (ws : List ℕ) (a c : ℕ) where
+    pub lower-clear : i ≡ 0 → lower θ ws (bits (W - used) k) a c ≡ grow θ (half θ ws false) rest a c
+    unfolding lower
+    lower-clear z = rw (clear z) refl
+
+    pub upper-clear : i ≡ 0 → upper θ ws (bits (W - used) k) a c ≡ half θ ws true
+    unfolding upper
+    upper-clear z = rw (clear z) refl
+
+    pub lower-set : (i ≡ 0 → ⊥) → lower θ ws (bits (W - used) k) a c ≡ half θ ws false
+    unfolding lower
+    lower-set z = rw (set-bit z) refl
+
+    pub upper-set : (i ≡ 0 → ⊥) → upper θ ws (bits (W - used) k) a c ≡ grow θ (half θ ws true) rest a c
+    unfolding upper
+    upper-set z = rw (set-bit z) refl
+
+-- the half that grows
+pub grown-half : (θ : ℕ) (k : Key) (a c : ℕ) {x y ws z : List ℕ} → y ≡ grow θ x k a c → x ≡ ws → z ≡ grow θ ws k a c → y ≡ z
+grown-half θ k a c e g h = e ∙ ap (λ b. grow θ b k a c) g ∙ sym h
