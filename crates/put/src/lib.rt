@@ -3,10 +3,10 @@ use store::Format;
 use store::Item;
 ghost use mathlib.Core.Path.{_≡_};
 ghost use mathlib.Core.Bool.{true, false};
-ghost use mathlib.Core.List.{List, [], _∷_};
+ghost use mathlib.Core.List.{List, [], _∷_, _++_};
 ghost use mathlib.Core.Logic.{_⊎_};
-ghost use Prim.Native.Nat.{ℕ, suc, _+_, _*_, _^_, _≤_, _<_};
-ghost use lib.ListN.{length, take, drop};
+ghost use Prim.Native.Nat.{ℕ, suc, _+_, _-_, _*_, _≤_, _<_};
+ghost use lib.ListN.{length, take, drop, replicate};
 ghost use Rattle.lists.specs.Bits.{bit as bitOf};
 ghost use Rattle.lists.specs.Lists.{All, replaced, part};
 ghost use Rattle.lists.specs.Keyed.{Sorted, Prefix, insert};
@@ -94,6 +94,16 @@ fn copy_words(store: &mut [u32], from: usize, to: usize, n: usize)
     }
 }
 
+// Gives a page n records: its first n stay, and all words behind them are cleared.
+fn cut_page(part: &mut [u32], f: Format, capacity: u32, n: usize)
+    requires { ⌜ (capacity ≤ 64) × (n ≤ capacity) × (length (now part) ≡ pageWords f capacity) ⌝ }
+    ensures { λ _. ⌜ now (part .exit) ≡ n ∷ (take (words f * n) (drop 1 (now (part .entry))) ++ replicate (words f * (capacity - n)) 0) ⌝ }
+{
+    part[0] = n as u32;
+    let rest = 1 + store::words_of(f) * n;
+    store::clear(&mut part[rest..]);
+}
+
 // The records of the page at `from`, from number i on, go to the page at `to`, which is written whole; the others stay.
 pub fn halve_page(store: &mut [u32], f: Format, capacity: u32, from: usize, to: usize, i: usize)
     requires { ⌜ Halvable f (now store) capacity from to i ⌝ }
@@ -102,13 +112,12 @@ pub fn halve_page(store: &mut [u32], f: Format, capacity: u32, from: usize, to: 
         (replaced from (pageWords f capacity) (pageImage f capacity (take i rs)) (now (store .entry)))) ⌝ }
 {
     let w = store::words_of(f);
-    let n = page::count_of(&store[from..]);
-    let high = w * (n - i);
-    copy_words(store, from + 1 + w * i, to + 1, high);
-    store[to] = (n - i) as u32;
-    let end = to + store::page_words(f, capacity);
-    store::clear(&mut store[to + 1 + high..end]);
-    store[from] = i as u32;
-    let cut = from + 1 + w * i;
-    store::clear(&mut store[cut..cut + high]);
+    let n = store::to_index(store::word(store, from));
+    let size = store::page_words(f, capacity);
+    let high = n - i;
+    copy_words(store, from + 1 + w * i, to + 1, w * high);
+    let from_end = from + size;
+    cut_page(&mut store[from..from_end], f, capacity, i);
+    let to_end = to + size;
+    cut_page(&mut store[to..to_end], f, capacity, high);
 }
