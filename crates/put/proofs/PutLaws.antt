@@ -30,6 +30,7 @@ use Rattle.page.proofs.Laws.{First, first-facts}
 use Rattle.search.specs.Find.{noItem}
 use Rattle.represent.specs.Image.{pageImage}
 use Rattle.represent.proofs.PageImage.{page-count, page-key}
+use Rattle.put.specs.Put.{cutTo}
 use Rattle.put.proofs.WordLaws.{row}
 
 pub width-small : (f : Format) → width f ≤ 64
@@ -40,11 +41,14 @@ width-small Plots = omega arith
 pub shares : (w n C : ℕ) → n ≤ C → w * n + w * (C - n) ≡ w * C
 shares w n C h = let e : n + (C - n) ≡ C = omega arith in omega (arith, ap (λ (m : ℕ). w * m) e)
 
--- room for n records of C, and for one more between the first i and the others
+-- room for n records of C, the first i apart, and for one more between those and the others
 module _ (f : Format) (C w n L : ℕ) (is : w ≡ words f) (long : L ≡ pageWords f C) where
   pub room-for : n ≤ C → 1 + w * n ≤ L
   unfolding pageWords
   room-for h = rw (long, is) (omega (arith, shares (words f) n C h))
+
+  pub room-cut : (i : ℕ) → i ≤ n → n ≤ C → 1 + w * i + w * (n - i) ≤ L
+  room-cut i l h = omega (arith, room-for h, shares w i n l)
 
   pub room-more : (i : ℕ) → i ≤ n → n < C → 1 + w * i + w * (n - i) + w ≤ L
   unfolding pageWords
@@ -89,8 +93,8 @@ module _ (H T t : List ℕ) (a : ℕ) (is : t ≡ H ++ T) (size : length H ≡ a
 -- a page cut to n records
 pub cut-words : (f : Format) (C n w : ℕ) (s last : List ℕ) → n ≤ C → length s ≡ pageWords f C → w ≡ words f
     → last ≡ replicate (length (end (set s 0 n) (1 + w * n))) 0
-    → returned (set s 0 n) (1 + w * n) last ≡ n ∷ (take (words f * n) (drop 1 s) ++ replicate (words f * (C - n)) 0)
-unfolding pageWords
+    → returned (set s 0 n) (1 + w * n) last ≡ cutTo f C n s
+unfolding pageWords cutTo
 cut-words f C n w [] last h long is e = absurd (omega arith)
 cut-words f C n w (x ∷ xs) last h long is e =
     let m : ℕ = words f * n in
@@ -130,30 +134,30 @@ moved-up H B Z s t w a m is p q e =
     e ∙ rw (r, front, back) (append-assoc H (take w (B ++ Z)) (B ++ drop w Z))
 
 module _ (f : Format) (rs : List Item) (i : ℕ) (within : i ≤ length rs) where
-  size-front : length (take i rs) ≡ i
+  pub size-front : length (take i rs) ≡ i
   size-front = length-take-le i rs within
 
   -- the words of the first i records, and those of the others
-  abbrev low : List ℕ
+  abbrev pub low : List ℕ
   low = flat f (take i rs)
 
-  abbrev high : List ℕ
+  abbrev pub high : List ℕ
   high = flat f (drop i rs)
 
-  length-low : length low ≡ words f * i
+  pub length-low : length low ≡ words f * i
   length-low = length-flat f (take i rs) ∙ ap (λ n. words f * n) size-front
 
-  length-high : length high ≡ words f * (length rs - i)
+  pub length-high : length high ≡ words f * (length rs - i)
   length-high = length-flat f (drop i rs) ∙ ap (λ n. words f * n) (length-drop i rs)
 
   flat-sides : flat f rs ≡ low ++ high
   flat-sides = ap (flat f) (sym (take-append-drop i rs)) ∙ flat-append f (take i rs) (drop i rs)
 
   module _ (C : ℕ) where
-    abbrev blank : List ℕ
+    abbrev pub blank : List ℕ
     blank = replicate (words f * (C - length rs)) 0
 
-    image-sides : pageImage f C rs ≡ (length rs ∷ low) ++ (high ++ blank)
+    pub image-sides : pageImage f C rs ≡ (length rs ∷ low) ++ (high ++ blank)
     unfolding pageImage
     image-sides = ap (λ l. length rs ∷ (l ++ blank)) flat-sides ∙ ap (λ l. length rs ∷ l) (append-assoc low high blank)
 

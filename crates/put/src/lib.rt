@@ -3,20 +3,20 @@ use store::Format;
 use store::Item;
 ghost use mathlib.Core.Path.{_≡_};
 ghost use mathlib.Core.Bool.{true, false};
-ghost use mathlib.Core.List.{List, [], _∷_, _++_};
+ghost use mathlib.Core.List.{List, [], _∷_};
 ghost use mathlib.Core.Logic.{_⊎_};
-ghost use Prim.Native.Nat.{ℕ, suc, _+_, _-_, _*_, _≤_, _<_};
-ghost use lib.ListN.{length, take, drop, replicate};
+ghost use Prim.Native.Nat.{ℕ, suc, _+_, _≤_, _<_};
+ghost use lib.ListN.{length, take, drop};
 ghost use Rattle.lists.specs.Bits.{bit as bitOf};
 ghost use Rattle.lists.specs.Lists.{All, replaced, part};
 ghost use Rattle.lists.specs.Keyed.{Sorted, Prefix, insert};
 ghost use Rattle.tree.specs.Build.{side};
-ghost use Rattle.store.specs.Format.{width, words};
+ghost use Rattle.store.specs.Format.{width};
 ghost use Rattle.store.specs.Head.{pageWords};
 ghost use Rattle.page.specs.Page.{count, lawfulItem};
 ghost use Rattle.page.specs.Schema.{keyOf};
 ghost use Rattle.represent.specs.Image.{pageImage};
-ghost use Rattle.put.specs.Put.{Halvable};
+ghost use Rattle.put.specs.Put.{Halvable, cutTo};
 
 // Moves n words up by so many places, the last one first.
 fn move_up(part: &mut [u32], from: usize, n: usize, by: usize)
@@ -97,7 +97,7 @@ fn copy_words(store: &mut [u32], from: usize, to: usize, n: usize)
 // Gives a page n records: its first n stay, and all words behind them are cleared.
 fn cut_page(part: &mut [u32], f: Format, capacity: u32, n: usize)
     requires { ⌜ (capacity ≤ 64) × (n ≤ capacity) × (length (now part) ≡ pageWords f capacity) ⌝ }
-    ensures { λ _. ⌜ now (part .exit) ≡ n ∷ (take (words f * n) (drop 1 (now (part .entry))) ++ replicate (words f * (capacity - n)) 0) ⌝ }
+    ensures { λ _. ⌜ now (part .exit) ≡ cutTo f capacity n (now (part .entry)) ⌝ }
 {
     part[0] = n as u32;
     let rest = 1 + store::words_of(f) * n;

@@ -1,3 +1,4 @@
+-- The first j words have been copied, and the word that is read next stands outside of them.
 use borrow.Author.Needs.{needs}
 use mathlib.Core.Path.{_≡_, refl}
 use Prim.Native.Nat.{_-_, _≤_}
@@ -6,8 +7,6 @@ use lib.ListN.{length, length-set}
 use Rattle.put.proofs.WordLaws.{Copied, copy-none, copy-turn}
 use Rattle.put.proofs.copy_words.Statement.{statement}
 use Rattle.put.proofs.copy_words.Tie as tie
-use Rattle.put.proofs.copy_words.Reads as reads
-use Rattle.put.proofs.copy_words.Lts as lts
 
 abbrev Inv-loop : tie.InvT-loop
 Inv-loop store₀ from to n j₀ store j = (j ≤ n) × (length store ≡ length store₀) × Copied store₀ from to j store
@@ -15,45 +14,35 @@ Inv-loop store₀ from to n j₀ store j = (j ≤ n) × (length store ≡ length
 abbrev μ-loop : tie.MeasureT-loop
 μ-loop store₀ from to n j₀ store j = n - j
 
--- src/lib.rt:91:5
 loop-holds : tie.Need-loop-holds Inv-loop μ-loop
 loop-holds c =
     let a = c .args in
     (omega arith, refl, copy-none (a .store .now) (a .from) (a .to))
 
--- src/lib.rt:92:31
 add-store : tie.Need-add-store Inv-loop μ-loop
 add-store c = search needs
 
--- src/lib.rt:92:25
 mul-store : tie.Need-mul-store Inv-loop μ-loop
 mul-store c = search needs
 
--- src/lib.rt:92:25
 slice-read-store : tie.Need-slice-read-store Inv-loop μ-loop
 slice-read-store c = search needs
 
--- src/lib.rt:92:15
 add-store-2 : tie.Need-add-store-2 Inv-loop μ-loop
 add-store-2 c = search needs
 
--- src/lib.rt:92:9
 mul-store-2 : tie.Need-mul-store-2 Inv-loop μ-loop
 mul-store-2 c = search needs
 
--- src/lib.rt:92:9
 slice-write-store : tie.Need-slice-write-store Inv-loop μ-loop
 slice-write-store c = search needs
 
--- src/lib.rt:93:9
 add-j : tie.Need-add-j Inv-loop μ-loop
 add-j c = search needs
 
--- src/lib.rt:91:5
 loop-less : tie.Need-loop-less Inv-loop μ-loop
 loop-less c = search needs
 
--- src/lib.rt:91:5
 loop-again : tie.Need-loop-again Inv-loop μ-loop
 loop-again c =
     let l = c .before .before .loop in
@@ -65,11 +54,9 @@ loop-again c =
       copy-turn (a .store .now) (a .from) (a .to) (a .n) (l .j) (l .store) (p .0) (p .1) (p .2) (c .before .loop-test .taken) (l .inv .2),
     )
 
--- src/lib.rt:86:1
 same-length : tie.Need-same-length Inv-loop μ-loop
 same-length c = search needs
 
--- src/lib.rt:86:1
 returns : tie.Need-returns Inv-loop μ-loop
 returns c =
     let l = c .before .loop in

@@ -1,3 +1,4 @@
+-- All but the first j words have been moved, the last one first, so the word that is read next has not been written over.
 use borrow.Author.Needs.{needs}
 use mathlib.Core.Path.{_≡_, refl}
 use Prim.Native.Nat.{_≤_}
@@ -6,8 +7,6 @@ use lib.ListN.{length, length-set}
 use Rattle.put.proofs.WordLaws.{Moved, move-none, move-turn, move-all}
 use Rattle.put.proofs.move_up.Statement.{statement}
 use Rattle.put.proofs.move_up.Tie as tie
-use Rattle.put.proofs.move_up.Reads as reads
-use Rattle.put.proofs.move_up.Lts as lts
 
 abbrev Inv-loop : tie.InvT-loop
 Inv-loop part₀ from n by j₀ part j = (j ≤ n) × (length part ≡ length part₀) × Moved part₀ from by n j part
@@ -15,49 +14,38 @@ Inv-loop part₀ from n by j₀ part j = (j ≤ n) × (length part ≡ length pa
 abbrev μ-loop : tie.MeasureT-loop
 μ-loop part₀ from n by j₀ part j = j
 
--- src/lib.rt:27:5
 loop-holds : tie.Need-loop-holds Inv-loop μ-loop
 loop-holds c =
     let a = c .args in
     (omega arith, refl, move-none (a .part .now) (a .from) (a .by) (a .n))
 
--- src/lib.rt:28:9
 sub-j : tie.Need-sub-j Inv-loop μ-loop
 sub-j c = search needs
 
--- src/lib.rt:29:36
 add-part : tie.Need-add-part Inv-loop μ-loop
 add-part c = search needs
 
--- src/lib.rt:29:31
 mul-part : tie.Need-mul-part Inv-loop μ-loop
 mul-part c = search needs
 
--- src/lib.rt:29:31
 slice-read-part : tie.Need-slice-read-part Inv-loop μ-loop
 slice-read-part c = search needs
 
--- src/lib.rt:29:14
 add-part-2 : tie.Need-add-part-2 Inv-loop μ-loop
 add-part-2 c = search needs
 
--- src/lib.rt:29:14
 add-part-3 : tie.Need-add-part-3 Inv-loop μ-loop
 add-part-3 c = search needs
 
--- src/lib.rt:29:9
 mul-part-2 : tie.Need-mul-part-2 Inv-loop μ-loop
 mul-part-2 c = search needs
 
--- src/lib.rt:29:9
 slice-write-part : tie.Need-slice-write-part Inv-loop μ-loop
 slice-write-part c = search needs
 
--- src/lib.rt:27:5
 loop-less : tie.Need-loop-less Inv-loop μ-loop
 loop-less c = search needs
 
--- src/lib.rt:27:5
 loop-again : tie.Need-loop-again Inv-loop μ-loop
 loop-again c =
     let l = c .before .before .loop in
@@ -68,11 +56,9 @@ loop-again c =
       move-turn (a .part .now) (a .from) (a .by) (a .n) (l .j) (l .part) (start .pre) (c .before .loop-test .taken) (l .inv .0) (l .inv .2),
     )
 
--- src/lib.rt:22:1
 same-length : tie.Need-same-length Inv-loop μ-loop
 same-length c = search needs
 
--- src/lib.rt:22:1
 returns : tie.Need-returns Inv-loop μ-loop
 returns c =
     let l = c .before .loop in
