@@ -1,17 +1,16 @@
 -- A page that is halved: the copied words are those of the records from number i on, both pages are written whole, and neither is changed
 -- by what is written to the other one.
 use mathlib.Core.Path.{_≡_, refl, sym, ap, _∙_}
-use mathlib.Core.List.{List, [], _∷_, _++_, append-assoc}
+use mathlib.Core.List.{List, _∷_, _++_, append-assoc}
 use mathlib.Core.Logic.{_⊎_, inl, inr}
-use Prim.Native.Nat.{ℕ, zero, suc, _+_, _-_, _*_, _≤_, _<_}
+use Prim.Native.Nat.{ℕ, _+_, _-_, _*_, _≤_}
 use native.Mathlib.Nat.{add-zero}
-use native.Mathlib.Decide.{decLt, decLe}
 use native.Mathlib.Omega.{arith}
-use lib.ListN.{length, getD, take, drop, replicate, length-append, length-drop}
-use lib.Seq.{take-at, drop-at, take-take, drop-drop, getD-drop}
+use lib.ListN.{length, take, drop, replicate, length-drop}
+use lib.Seq.{take-at, drop-at, drop-drop, getD-drop}
 use Rattle.lists.specs.Lists.{replaced, part}
-use Rattle.lists.proofs.Parts.{part-in, part-next, part-replaced, length-replaced, replaced-in, replaced-below, replaced-above}
-use Rattle.lists.proofs.Elsewhere.{Elsewhere, elsewhere-replaced, part-beside, drop-beside}
+use Rattle.lists.proofs.Parts.{part-in, part-next, part-replaced, length-replaced, replaced-below, replaced-above}
+use Rattle.lists.proofs.Elsewhere.{Elsewhere, elsewhere-replaced, part-beside}
 use Rattle.store.specs.declared.Format.{Format}
 use Rattle.store.specs.declared.Item.{Item}
 use Rattle.store.specs.Format.{words}
@@ -19,69 +18,14 @@ use Rattle.store.specs.Head.{word, pageWords}
 use Rattle.page.specs.Page.{flat}
 use Rattle.represent.specs.Image.{pageImage}
 use Rattle.put.specs.Put.{Halvable, cutTo}
-use Rattle.put.proofs.WordLaws.{row, length-row}
-use Rattle.put.proofs.PutLaws.{room-cut, size-front, low, high, blank, length-low, length-high, image-sides}
-
--- a part that is written over does not show what stood there
-over : (b m : ℕ) (ys s t : List ℕ) → b + m ≤ length s → Elsewhere 0 b m s t → replaced b m ys t ≡ replaced b m ys s
-unfolding replaced
-over b m ys s t h e =
-    rw (
-      sym (part-in t 0 b (omega (arith, e .long))) ∙ part-beside 0 e 0 b (inl (omega arith)) ∙ part-in s 0 b (omega arith),
-      drop-beside 0 e (b + m) (omega arith),
-    )
-
--- one part replaced in two lists that agree at an index
-same-at : (a n : ℕ) (ys s t : List ℕ) → a + n ≤ length s → length t ≡ length s → length ys ≡ n → (j : ℕ) → word t j ≡ word s j
-    → word (replaced a n ys t) j ≡ word (replaced a n ys s) j
-same-at a n ys s t h l k j e =
-    let g : a + n ≤ length t = omega arith in
-    elim (decLt j a) [
-      | yes p ↦ replaced-below a n ys t g k 0 j p ∙ e ∙ sym (replaced-below a n ys s h k 0 j p)
-      | no p ↦
-          elim (decLe (a + n) j) [
-            | yes q ↦ replaced-above a n ys t g k 0 j q ∙ e ∙ sym (replaced-above a n ys s h k 0 j q)
-            | no q ↦
-                let i : ℕ = j - a in
-                let d : j ≡ a + i = omega arith in
-                rw d (replaced-in a n ys t g k 0 i (omega arith) ∙ sym (replaced-in a n ys s h k 0 i (omega arith)))
-          ]
-    ]
-
--- the same with another part replaced in between
-over-two : (a n b m : ℕ) (xs ys s t : List ℕ) → a + n ≤ length s → length xs ≡ n → b + m ≤ length s → Elsewhere 0 b m s t
-    → replaced b m ys (replaced a n xs t) ≡ replaced b m ys (replaced a n xs s)
-over-two a n b m xs ys s t h k g e =
-    let l = length-replaced a n xs s h k in
-    over b m ys (replaced a n xs s) (replaced a n xs t) (omega arith)
-    (record {
-      long = length-replaced a n xs t (omega (arith, e .long)) k ∙ e .long ∙ sym l;
-      below = λ j q. same-at a n xs s t h (e .long) k j (e .below j q);
-      above = λ j q. same-at a n xs s t h (e .long) k j (e .above j q);
-    })
-
--- a callee is lent the n words from a on, and leaves `last` there
-abbrev pub lent : List ℕ → ℕ → ℕ → List ℕ → List ℕ
-lent t a n last = take a t ++ (last ++ drop n (drop a t))
-
-lent-is : (t : List ℕ) (a n : ℕ) (last : List ℕ) → lent t a n last ≡ replaced a n last t
-unfolding replaced
-lent-is t a n last = rw (drop-drop n a t)
-
--- words within a page, without its count
-inner : (m n : ℕ) (xs : List ℕ) → suc m ≤ n → take m (drop 1 (take n xs)) ≡ take m (drop 1 xs)
-inner m zero xs h = absurd (omega arith)
-inner m (suc n) [] h = refl
-inner m (suc n) (x ∷ xs) h = take-take m n xs (omega arith)
-
-inner-row : (s : List ℕ) (a m n : ℕ) → suc m ≤ n → take m (drop 1 (row s a n)) ≡ row s (a + 1) m
-inner-row s a m n h = inner m n (drop a s) h ∙ ap (take m) (drop-drop 1 a s)
+use Rattle.put.proofs.WordLaws.{row, length-row, lent, lent-is, over-two, inner-row}
+use Rattle.put.proofs.PutLaws.{room-cut, size-front, blank, length-low, length-high, image-sides}
 
 module _ (f : Format) (C : ℕ) (rs : List Item) (i : ℕ) (within : i ≤ length rs) where
   cut-low : cutTo f C i (pageImage f C rs) ≡ pageImage f C (take i rs)
   unfolding cutTo pageImage
   cut-low =
-      let Z : List ℕ = blank f rs i within C in
+      let Z : List ℕ = blank f C rs in
       ap (λ l. i ∷ (take (words f * i) (drop 1 l) ++ replicate (words f * (C - i)) 0)) (image-sides f rs i within C)
       ∙ ap (λ l. i ∷ (l ++ replicate (words f * (C - i)) 0))
       (take-at (flat f (take i rs)) (flat f (drop i rs) ++ Z) (words f * i) (length-low f rs i within))
@@ -134,7 +78,7 @@ module _ (f : Format) (C from to i : ℕ) (s : List ℕ) (ready : Halvable f s C
   moved =
       let H : List ℕ = length rs ∷ flat f (take i rs) in
       let B : List ℕ = flat f (drop i rs) in
-      let Z : List ℕ = blank f rs i within C in
+      let Z : List ℕ = blank f C rs in
       let rest : List ℕ = drop (from + P) s in
       let at : from + 1 + words f * i ≡ from + (1 + words f * i) = omega arith in
       let size : length H ≡ 1 + words f * i = omega (arith, length-low f rs i within) in

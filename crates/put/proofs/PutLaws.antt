@@ -1,17 +1,15 @@
 -- Pages that are written, as page images: the words of records stand one after another, so a page's words are cut where its list of
 -- records is cut, and a record's words stand between those of the records before it and behind it.
-use mathlib.Core.Path.{_≡_, refl, sym, ap, ap₂, _∙_}
+use mathlib.Core.Path.{_≡_, refl, sym, ap, _∙_}
 use mathlib.Core.Bool.{true, false}
 use mathlib.Core.List.{List, [], _∷_, _++_, append-assoc, append-nil}
 use Prim.Native.Nat.{ℕ, zero, suc, _+_, _-_, _*_, _≤_, _<_}
-use native.Mathlib.Nat.{add-assoc, add-comm}
 use native.Mathlib.Numerals.{add-one}
 use native.Mathlib.Omega.{arith}
 use borrow.Author.Tests.{ltb-true, ltb-false}
-use borrow.Rule.Slice.PartMut.{same-len-mid}
-use lib.ListN.{length, getD, take, drop, set, replicate, length-append, length-take, length-drop}
-use lib.ListN.{length-replicate, take-append-drop, replicate-append-replicate}
-use lib.Seq.{take-length, drop-length, length-take-le, take-append-add, drop-append-add, take-at, drop-at}
+use lib.ListN.{length, getD, take, drop, set, replicate, length-append, length-drop}
+use lib.ListN.{length-replicate, take-append-drop}
+use lib.Seq.{length-take-le, drop-at}
 use Rattle.lists.specs.Bits.{bit}
 use Rattle.lists.specs.Lists.{All, replaced}
 use Rattle.lists.specs.Keyed.{Sorted, Prefix, insert}
@@ -25,13 +23,13 @@ use Rattle.store.specs.Format.{width, words}
 use Rattle.store.specs.Head.{pageWords}
 use Rattle.page.specs.Page.{count, keyAt, lawfulItem, above, firstAbove, itemWords, flat}
 use Rattle.page.specs.Schema.{keyOf}
-use Rattle.page.proofs.Flat.{length-item, length-flat, flat-append}
+use Rattle.page.proofs.Flat.{length-flat, flat-append}
 use Rattle.page.proofs.Laws.{First, first-facts}
 use Rattle.search.specs.Find.{noItem}
 use Rattle.represent.specs.Image.{pageImage}
 use Rattle.represent.proofs.PageImage.{page-count, page-key}
 use Rattle.put.specs.Put.{cutTo}
-use Rattle.put.proofs.WordLaws.{row}
+use Rattle.put.proofs.WordLaws.{row, end, returned, end-cleared, end-written, moved-up, zeros-less}
 
 pub width-small : (f : Format) → width f ≤ 64
 unfolding width
@@ -56,40 +54,6 @@ module _ (f : Format) (C w n L : ℕ) (is : w ≡ words f) (long : L ≡ pageWor
       rw (long, is)
       (omega (arith, shares (words f) i n l, shares (words f) n C (omega arith), shares (words f) 1 (C - n) (omega arith)))
 
--- a callee is lent the end of a list, from index a on, and leaves `last` there
-abbrev pub end : List ℕ → ℕ → List ℕ
-end t a = take (length t - a) (drop a t)
-
-abbrev pub returned : List ℕ → ℕ → List ℕ → List ℕ
-returned t a last = take a t ++ (last ++ drop (length t - a) (drop a t))
-
-pub end-room : (t : List ℕ) (a w : ℕ) → a + w ≤ length t → w ≤ length (end t a)
-end-room t a w h = simp (length-take, length-drop) (omega arith)
-
-pub returned-long : (t : List ℕ) (a : ℕ) (last : List ℕ) → length last ≡ length (end t a) → length (returned t a last) ≡ length t
-returned-long t a last = same-len-mid a (length t - a) t last
-
-module _ (H T t : List ℕ) (a : ℕ) (is : t ≡ H ++ T) (size : length H ≡ a) where
-  back : drop a t ≡ T
-  back = ap (drop a) is ∙ drop-at H T a size
-
-  rest : length t - a ≡ length T
-  rest = omega (arith, ap length is, length-append H T)
-
-  end-is : end t a ≡ T
-  end-is = rw (back, rest) (take-length T)
-
-  end-returned : (last : List ℕ) → returned t a last ≡ H ++ last
-  end-returned last = rw (ap (take a) is ∙ take-at H T a size, back, rest, drop-length T) (ap (λ l. H ++ l) (append-nil last))
-
-  -- zeros, and a record's words
-  end-cleared : (last : List ℕ) → last ≡ replicate (length (end t a)) 0 → returned t a last ≡ H ++ replicate (length T) 0
-  end-cleared last e = end-returned last ∙ ap (λ l. H ++ l) (e ∙ ap (λ l. replicate (length l) 0) end-is)
-
-  end-item : (f : Format) (it : Item) (last : List ℕ) → last ≡ itemWords f it ++ drop (words f) (end t a)
-      → returned t a last ≡ H ++ (itemWords f it ++ drop (words f) T)
-  end-item f it last e = end-returned last ∙ ap (λ l. H ++ l) (e ∙ ap (λ l. itemWords f it ++ drop (words f) l) end-is)
-
 -- a page cut to n records
 pub cut-words : (f : Format) (C n w : ℕ) (s last : List ℕ) → n ≤ C → length s ≡ pageWords f C → w ≡ words f
     → last ≡ replicate (length (end (set s 0 n) (1 + w * n))) 0
@@ -104,12 +68,6 @@ cut-words f C n w (x ∷ xs) last h long is e =
     end-cleared (n ∷ take m xs) (drop m xs) (n ∷ xs) (1 + w * n) (ap (λ t. n ∷ t) (sym (take-append-drop m xs))) front last e
     ∙ ap (λ k. n ∷ (take m xs ++ replicate k 0)) behind
 
-zeros-less : (w k m : ℕ) → m ≡ w + k → drop w (replicate {A = ℕ} m 0) ≡ replicate k 0
-zeros-less w k m e =
-    ap (λ j. drop w (replicate j 0)) e
-    ∙ ap (drop w) (sym (replicate-append-replicate w k 0))
-    ∙ drop-at (replicate w 0) (replicate k 0) w (length-replicate {A = ℕ} w 0)
-
 -- a page of one record, written into zeros
 pub first-words : (f : Format) (C : ℕ) (it : Item) (s t last : List ℕ) → 1 ≤ C → length s ≡ pageWords f C
     → t ≡ set (replicate (length s) 0) 0 1 → last ≡ itemWords f it ++ drop (words f) (end t 1)
@@ -117,21 +75,13 @@ pub first-words : (f : Format) (C : ℕ) (it : Item) (s t last : List ℕ) → 1
 unfolding pageImage flat pageWords
 first-words f C it s t last h long is e =
     let size : length s ≡ suc (words f * C) = omega (arith, long) in
-    end-item (1 ∷ []) (replicate (words f * C) 0) t 1 (is ∙ rw size) refl f it last e
+    end-written (1 ∷ []) (replicate (words f * C) 0) t 1 (is ∙ rw size) refl (itemWords f it) (words f) last e
     ∙ ap (λ k. 1 ∷ (itemWords f it ++ k)) (zeros-less (words f) (words f * (C - 1)) (words f * C) (omega (arith, shares (words f) 1 C h)))
     ∙ ap (λ k. 1 ∷ (k ++ replicate (words f * (C - 1)) 0)) (sym (append-nil (itemWords f it)))
 
--- words moved up, so that w words are free in front of them
-moved-up : (H B Z s t : List ℕ) (w a m : ℕ) → s ≡ H ++ (B ++ Z) → length H ≡ a → length B ≡ m → t ≡ replaced (a + w) m (row s a m) s
-    → t ≡ H ++ (take w (B ++ Z) ++ (B ++ drop w Z))
-unfolding replaced
-moved-up H B Z s t w a m is p q e =
-    let r : row s a m ≡ B = ap (λ l. take m (drop a l)) is ∙ ap (take m) (drop-at H (B ++ Z) a p) ∙ take-at B Z m q in
-    let n : a + w + m ≡ length H + (length B + w) = omega arith in
-    let front : take (a + w) s ≡ H ++ take w (B ++ Z) = ap₂ take (ap (λ k. k + w) (sym p)) is ∙ take-append-add H (B ++ Z) w in
-    let back : drop (a + w + m) s ≡ drop w Z =
-    ap₂ drop n is ∙ drop-append-add H (B ++ Z) (length B + w) ∙ drop-append-add B Z w in
-    e ∙ rw (r, front, back) (append-assoc H (take w (B ++ Z)) (B ++ drop w Z))
+-- the zeros of a page with the records rs
+abbrev pub blank : Format → ℕ → List Item → List ℕ
+blank f C rs = replicate (words f * (C - length rs)) 0
 
 module _ (f : Format) (rs : List Item) (i : ℕ) (within : i ≤ length rs) where
   pub size-front : length (take i rs) ≡ i
@@ -154,12 +104,12 @@ module _ (f : Format) (rs : List Item) (i : ℕ) (within : i ≤ length rs) wher
   flat-sides = ap (flat f) (sym (take-append-drop i rs)) ∙ flat-append f (take i rs) (drop i rs)
 
   module _ (C : ℕ) where
-    abbrev pub blank : List ℕ
-    blank = replicate (words f * (C - length rs)) 0
+    abbrev zeros : List ℕ
+    zeros = blank f C rs
 
-    pub image-sides : pageImage f C rs ≡ (length rs ∷ low) ++ (high ++ blank)
+    pub image-sides : pageImage f C rs ≡ (length rs ∷ low) ++ (high ++ zeros)
     unfolding pageImage
-    image-sides = ap (λ l. length rs ∷ (l ++ blank)) flat-sides ∙ ap (λ l. length rs ∷ l) (append-assoc low high blank)
+    image-sides = ap (λ l. length rs ∷ (l ++ zeros)) flat-sides ∙ ap (λ l. length rs ∷ l) (append-assoc low high zeros)
 
     -- a page that is not full has the zeros of one record more
     less : length rs < C → words f * (C - length rs) ≡ words f + words f * (C - suc (length rs))
@@ -169,7 +119,7 @@ module _ (f : Format) (rs : List Item) (i : ℕ) (within : i ≤ length rs) wher
 
     -- the record between the two
     put-image : (it : Item) → length rs < C
-        → suc (length rs) ∷ (low ++ (itemWords f it ++ (high ++ drop (words f) blank))) ≡ pageImage f C (take i rs ++ it ∷ drop i rs)
+        → suc (length rs) ∷ (low ++ (itemWords f it ++ (high ++ drop (words f) zeros))) ≡ pageImage f C (take i rs ++ it ∷ drop i rs)
     unfolding pageImage flat
     put-image it h =
         let more : length (take i rs ++ it ∷ drop i rs) ≡ suc (length rs) =
@@ -187,16 +137,16 @@ module _ (f : Format) (rs : List Item) (i : ℕ) (within : i ≤ length rs) wher
         → set (returned t (1 + words f * i) last) 0 (length rs + 1) ≡ pageImage f C (take i rs ++ it ∷ drop i rs)
     put-here it s t last is h e q =
         let H : List ℕ = length rs ∷ low in
-        let free : List ℕ = take (words f) (high ++ blank) in
-        let moved : List ℕ = high ++ drop (words f) blank in
+        let free : List ℕ = take (words f) (high ++ zeros) in
+        let moved : List ℕ = high ++ drop (words f) zeros in
         let size : length H ≡ 1 + words f * i = omega (arith, length-low) in
         let opened : t ≡ H ++ (free ++ moved) =
-        moved-up H high blank s t (words f) (1 + words f * i) (words f * (length rs - i)) (is ∙ image-sides) size length-high e in
-        let long : words f ≤ length (high ++ blank) =
-        omega (arith, length-append high blank, length-replicate {A = ℕ} (words f * (C - length rs)) 0, less h) in
-        ap (λ l. set l 0 (length rs + 1)) (end-item H (free ++ moved) t (1 + words f * i) opened size f it last q)
+        moved-up H high zeros s t (words f) (1 + words f * i) (words f * (length rs - i)) (is ∙ image-sides) size length-high e in
+        let long : words f ≤ length (high ++ zeros) =
+        omega (arith, length-append high zeros, length-replicate {A = ℕ} (words f * (C - length rs)) 0, less h) in
+        ap (λ l. set l 0 (length rs + 1)) (end-written H (free ++ moved) t (1 + words f * i) opened size (itemWords f it) (words f) last q)
         ∙ ap (λ l. (length rs + 1) ∷ (low ++ (itemWords f it ++ l)))
-        (drop-at free moved (words f) (length-take-le (words f) (high ++ blank) long))
+        (drop-at free moved (words f) (length-take-le (words f) (high ++ zeros) long))
         ∙ ap (λ k. k ∷ (low ++ (itemWords f it ++ moved))) (add-one (length rs))
         ∙ put-image it h
 
@@ -236,7 +186,9 @@ module _ {R : Type 0} (key : R → ℕ) (z : R) where
       sides-at w q xs r (omega arith) (λ j l. before (suc j) (omega arith)) (λ l. found (omega arith)) (s .1) (p .1) in
       (ap (λ (l : List R). x ∷ l) (rest .0) ∙ sym (one .0), rest .1 ∙ sym (one .1))
 
-module _ (f : Format) (C : ℕ) (pg : List ℕ) (rs : List Item) (is : pg ≡ pageImage f C rs) (lawful : All (λ it. lawfulItem f it ≡ true) rs) where
+-- a page's number of a record is the list's
+module _ (f : Format) (C : ℕ) (pg : List ℕ) (rs : List Item) (is : pg ≡ pageImage f C rs)
+    (lawful : All (λ it. lawfulItem f it ≡ true) rs) where
   size : count pg ≡ length rs
   size = page-count f C pg rs is
 

@@ -1,6 +1,6 @@
 -- What halving a page asks of the words, and a page cut down.
---   Halvable f s C from to i == two page blocks of capacity C that do not overlap, at from and at to; the one at from has at most C records, and i is no
---     more than their number
+--   Halvable f s C from to i == at from and at to are two page blocks of capacity C that do not overlap; the one at from has at most C
+--     records, and i is no more than their number
 --   cutTo f C n pg == the page block pg with its first n records and no others; C is its capacity
 use mathlib.Core.Logic.{_⊎_}
 use mathlib.Core.List.{List, _∷_, _++_}

@@ -33,8 +33,8 @@ fn move_up(part: &mut [u32], from: usize, n: usize, by: usize)
 // Puts a record in order into a page that has room. Only the records behind it are moved.
 pub fn put_record(part: &mut [u32], f: Format, capacity: u32, item: Item)
     requires { ⌜ (capacity ≤ 64) × (length (now part) ≡ pageWords f capacity) × (count (now part) < capacity) ⌝ }
-    ensures { λ _. ⌜ ((rs : List Item) → now (part .entry) ≡ pageImage f capacity rs → All (λ it. lawfulItem f it ≡ true) rs → Sorted keyOf rs
-        → now (part .exit) ≡ pageImage f capacity (insert keyOf item rs)) ⌝ }
+    ensures { λ _. ⌜ ((rs : List Item) → now (part .entry) ≡ pageImage f capacity rs → All (λ it. lawfulItem f it ≡ true) rs
+        → Sorted keyOf rs → now (part .exit) ≡ pageImage f capacity (insert keyOf item rs)) ⌝ }
 {
     let n = page::count_of(part);
     let i = page::first_above(part, f, true, item.key);
@@ -96,7 +96,7 @@ fn copy_words(store: &mut [u32], from: usize, to: usize, n: usize)
 
 // Gives a page n records: its first n stay, and all words behind them are cleared.
 fn cut_page(part: &mut [u32], f: Format, capacity: u32, n: usize)
-    requires { ⌜ (capacity ≤ 64) × (n ≤ capacity) × (length (now part) ≡ pageWords f capacity) ⌝ }
+    requires { ⌜ (n ≤ capacity) × (length (now part) ≡ pageWords f capacity) ⌝ }
     ensures { λ _. ⌜ now (part .exit) ≡ cutTo f capacity n (now (part .entry)) ⌝ }
 {
     part[0] = n as u32;

@@ -4,7 +4,8 @@ use mathlib.Core.Path.{refl, _∙_}
 use Prim.Native.Nat.{_+_, _*_, _≤_}
 use native.Mathlib.Omega.{arith}
 use lib.ListN.{length, set, length-set}
-use Rattle.put.proofs.PutLaws.{room-for, returned-long, cut-words}
+use Rattle.put.proofs.WordLaws.{returned-long}
+use Rattle.put.proofs.PutLaws.{room-for, cut-words}
 use Rattle.put.proofs.cut_page.Statement.{statement}
 use Rattle.put.proofs.cut_page.Tie as tie
 
@@ -12,7 +13,7 @@ room : (c : tie.After-words-of) → 1 + c .words-of .result * c .before .before 
 room c =
     let a = c .before .before .args in
     let p = c .before .before .pre in
-    room-for (a .f) (a .capacity) (c .words-of .result) (a .n) (length (a .part .now)) (c .words-of .ensures .0) (p .2) (p .1)
+    room-for (a .f) (a .capacity) (c .words-of .result) (a .n) (length (a .part .now)) (c .words-of .ensures .0) (p .1) (p .0)
 
 cast-part : tie.Need-cast-part
 cast-part c = search needs
@@ -20,7 +21,7 @@ cast-part c = search needs
 slice-write-part : tie.Need-slice-write-part
 slice-write-part c =
     let a = c .before .args in
-    omega (arith, room-for (a .f) (a .capacity) _ 0 (length (a .part .now)) refl (c .before .pre .2) (omega arith))
+    omega (arith, room-for (a .f) (a .capacity) _ 0 (length (a .part .now)) refl (c .before .pre .1) (omega arith))
 
 words-of-requires : tie.Need-words-of-requires
 words-of-requires c κs = search needs
@@ -59,7 +60,7 @@ returns c =
     let a = start .args in
     let w = c .before .before .before .before .words-of in
     let last = c .before .before .clear in
-    cut-words (a .f) (a .capacity) (a .n) (w .result) (a .part .now) (last .last .0) (start .pre .1) (start .pre .2) (w .ensures .0)
+    cut-words (a .f) (a .capacity) (a .n) (w .result) (a .part .now) (last .last .0) (start .pre .0) (start .pre .1) (w .ensures .0)
     (last .ensures)
 
 pub cut-page-spec : {M : Type 1} → statement M

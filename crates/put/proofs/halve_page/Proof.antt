@@ -1,4 +1,4 @@
--- The words of the high records are copied first; then each page is cut to its own records, and cutting one page leaves the other as it was.
+-- The words of the high records are copied first. Then each page is cut to its own records, which leaves the other one as it was.
 use borrow.Author.Needs.{needs}
 use mathlib.Core.Path.{_≡_, _∙_}
 use mathlib.Core.Logic.{_⊎_}

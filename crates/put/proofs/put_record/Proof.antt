@@ -3,13 +3,14 @@ use borrow.Author.Needs.{needs}
 use mathlib.Core.Path.{_≡_, sym, ap, _∙_}
 use mathlib.Core.Bool.{true}
 use mathlib.Core.List.{List}
-use Prim.Native.Nat.{ℕ, _+_, _-_, _*_, _≤_, _<_}
+use Prim.Native.Nat.{ℕ, _+_, _-_, _*_, _≤_}
 use native.Mathlib.Omega.{arith}
 use lib.ListN.{length, length-set}
 use Rattle.page.proofs.Laws.{first-facts}
 use Rattle.represent.specs.Image.{pageImage}
 use Rattle.represent.proofs.PageImage.{page-count}
-use Rattle.put.proofs.PutLaws.{room-more, end-room, returned, returned-long, put-words, insert-first}
+use Rattle.put.proofs.WordLaws.{end-room, returned, returned-long}
+use Rattle.put.proofs.PutLaws.{room-more, put-words, insert-first}
 use Rattle.put.proofs.put_record.Statement.{statement}
 use Rattle.put.proofs.put_record.Tie as tie
 
@@ -125,7 +126,7 @@ returns c rs is lawful sorted =
     (n .count-of .result) (first .first-above .result) is (within first) (omega (arith, n .count-of .ensures .0, start .pre .2)) size
     (w .words-of .ensures .0) (m .move-up .ensures) (i .write-item .ensures)
     ∙ ap (pageImage (a .f) (a .capacity))
-    (sym (insert-first (a .f) (a .capacity) (a .part .now) rs is lawful (a .item) (first .first-above .result) (first .first-above .ensures .0)))
+    (sym (insert-first (a .f) (a .capacity) (a .part .now) rs is lawful (a .item) _ (first .first-above .ensures .0)))
 
 pub put-record-spec : {M : Type 1} → statement M
 put-record-spec =

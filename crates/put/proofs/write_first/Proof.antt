@@ -5,7 +5,8 @@ use Prim.Native.Nat.{_+_, _≤_}
 use native.Mathlib.Omega.{arith}
 use lib.ListN.{length, set, length-set}
 use Rattle.store.specs.Format.{words}
-use Rattle.put.proofs.PutLaws.{room-for, end-room, returned-long, first-words}
+use Rattle.put.proofs.WordLaws.{end-room, returned-long}
+use Rattle.put.proofs.PutLaws.{room-for, first-words}
 use Rattle.put.proofs.write_first.Statement.{statement}
 use Rattle.put.proofs.write_first.Tie as tie
 
