@@ -1,7 +1,7 @@
 -- Pages that are written, as page images: the words of records stand one after another, so a page's words are cut where its list of
 -- records is cut, and a record's words stand between those of the records before it and behind it.
 use mathlib.Core.Path.{_≡_, refl, sym, ap, _∙_}
-use mathlib.Core.Bool.{true, false}
+use mathlib.Core.Bool.{Bool, true, false}
 use mathlib.Core.List.{List, [], _∷_, _++_, append-assoc, append-nil}
 use Prim.Native.Nat.{ℕ, zero, suc, _+_, _-_, _*_, _≤_, _<_}
 use native.Mathlib.Numerals.{add-one}
@@ -158,6 +158,10 @@ pub put-words : (f : Format) (C : ℕ) (rs : List Item) (it : Item) (s t last : 
     → set (returned t (1 + w * i) last) 0 (n + 1) ≡ pageImage f C (take i rs ++ it ∷ drop i rs)
 put-words f C rs it s t last w n i is h l e d =
     rw (e, d) (put-here f rs i (omega arith) C it s t last is (omega arith))
+
+-- the first record that is above is one of the page's, or stands behind them
+pub first-within : (f : Format) (pg : List ℕ) (strict : Bool) (k r n : ℕ) → r ≡ firstAbove f pg strict k → n ≡ count pg → r ≤ n
+first-within f pg strict k r n e c = omega (arith, first-facts f pg strict k .within)
 
 -- a number that is the first of a kind in an ascending list cuts the list
 module _ {R : Type 0} (key : R → ℕ) (z : R) where

@@ -1,26 +1,19 @@
 -- The records with a larger key are moved up by one, and the new one is written in front of them: insertion by key.
 use borrow.Author.Needs.{needs}
 use mathlib.Core.Path.{_≡_, sym, ap, _∙_}
-use mathlib.Core.Bool.{true}
 use mathlib.Core.List.{List}
 use Prim.Native.Nat.{ℕ, _+_, _-_, _*_, _≤_}
 use native.Mathlib.Omega.{arith}
 use lib.ListN.{length, length-set}
-use Rattle.page.proofs.Laws.{first-facts}
 use Rattle.represent.specs.Image.{pageImage}
 use Rattle.represent.proofs.PageImage.{page-count}
 use Rattle.put.proofs.WordLaws.{end-room, returned, returned-long}
-use Rattle.put.proofs.PutLaws.{room-more, put-words, insert-first}
+use Rattle.put.proofs.PutLaws.{room-more, first-within, put-words, insert-first}
 use Rattle.put.proofs.put_record.Statement.{statement}
 use Rattle.put.proofs.put_record.Tie as tie
 
--- the first record with a larger key is one of the page's, or stands behind them
 within : (c : tie.After-first-above) → c .first-above .result ≤ c .before .before .count-of .result
-within c =
-    let n = c .before .before in
-    let a = n .before .before .before .args in
-    let q = first-facts (a .f) (a .part .now) true (a .item .key) .within in
-    omega (arith, c .first-above .ensures .0, n .count-of .ensures .0)
+within c = first-within _ _ _ _ _ _ (c .first-above .ensures .0) (c .before .before .count-of .ensures .0)
 
 -- where the record goes
 abbrev at : tie.After-words-of → ℕ
