@@ -12,6 +12,7 @@ use Rattle.put.proofs.PutLaws.{room-more, first-within, put-words, inse
 use Rattle.put.proofs.put_record.Statement.{statement}
 use Rattle.put.proofs.put_record.Tie as tie
 
+-- the new number is at most the count
 within : (c : tie.After-first-above) → c .first-above .result ≤ c .before .before .count-of .result
 within c = first-within _ _ _ _ _ _ (c .first-above .ensures .0) (c .before .before .count-of .ensures .0)
 
