@@ -35,9 +35,12 @@ unfolding flat
 length-flat f [] = omega arith
 length-flat f (it ∷ its) = length-append (itemWords f it) (flat f its) ∙ omega (arith, length-item f it, length-flat f its)
 
+pub flat-append : (f : Format) (xs ys : List Item) → flat f (xs ++ ys) ≡ flat f xs ++ flat f ys
+unfolding flat
+flat-append f [] ys = refl
+flat-append f (x ∷ xs) ys =
+    ap (λ (l : List ℕ). itemWords f x ++ l) (flat-append f xs ys) ∙ sym (append-assoc (itemWords f x) (flat f xs) (flat f ys))
+
 pub flat-last : (f : Format) (its : List Item) (it : Item) → flat f (its ++ (it ∷ [])) ≡ flat f its ++ itemWords f it
 unfolding flat
-flat-last f [] it = append-nil (itemWords f it)
-flat-last f (x ∷ its) it =
-    ap (λ (l : List ℕ). itemWords f x ++ l) (flat-last f its it) ∙
-    sym (append-assoc (itemWords f x) (flat f its) (itemWords f it))
+flat-last f its it = flat-append f its (it ∷ []) ∙ ap (λ (l : List ℕ). flat f its ++ l) (append-nil (itemWords f it))

@@ -21,11 +21,11 @@ use Rattle.lists.specs.Keyed.{Sorted, Lacks, Bounded, Prefix}
 use Rattle.lists.proofs.Cases.{bool-cases}
 use Rattle.lists.proofs.Powers.{half}
 use Rattle.lists.proofs.BitLaws.{bit-false, bit-true}
-use Rattle.lists.proofs.ListLaws.{filter-true, filter-false, all-map, all-both}
+use Rattle.lists.proofs.ListLaws.{all-map}
 use Rattle.lists.proofs.KeyedLaws.{bounded-prefix}
 use Rattle.tree.specs.Trie.{Trie, leaf, fork, Key, labels, leafAt}
-use Rattle.tree.specs.Build.{same, side, build}
-use Rattle.tree.proofs.BuildLaws.{sorted-side, prefix-low, prefix-high, build-le, build-gt}
+use Rattle.tree.specs.Build.{side, build}
+use Rattle.tree.proofs.BuildLaws.{sorted-side, sides-low, sides-high, prefix-low, prefix-high, build-le, build-gt}
 use Rattle.store.specs.declared.Item.{Item}
 use Rattle.page.specs.Page.{above}
 use Rattle.search.specs.declared.Sought.the-variants.{Record, Nothing}
@@ -34,7 +34,7 @@ use Rattle.page.specs.Schema.{keyOf}
 use Rattle.represent.specs.Rep.{Stretch, contents, Keyed}
 use Rattle.readings.specs.Listing.{firstWhere}
 use Rattle.represent.proofs.LabelLaws.{labels-at}
-use Rattle.lists.proofs.AppendLaws.{filter-every, filter-none, all-append}
+use Rattle.lists.proofs.AppendLaws.{all-append}
 use Rattle.readings.proofs.FirstLaws.{firstOf, orElse, orElse-nothing, first-append, first-none, skip-below, first-beyond}
 
 -- a key with a smaller quotient is smaller
@@ -45,42 +45,21 @@ shr-lt-back w a b h =
       | no l ↦ let g : b ≤ a = omega arith in absurd (omega (arith, shr-mono w g))
     ]
 
--- of two keys alike above bit w, the larger one has the bit if the smaller has it
-bit-rises : (w x y : ℕ) → x / 2 ^ suc w ≡ y / 2 ^ suc w → x < y → bit w x ≡ true → bit w y ≡ true
-bit-rises w x y p l e =
-    elim (bool-cases (bit w y)) [
-      | inl d ↦ d
-      | inr d ↦ let g : x ≤ y = omega arith in absurd (omega (arith, shr-mono w g, bit-true w x e, bit-false w y d))
-    ]
-
 module _ {R : Type 0} where
   abbrev pub held : Trie (List R) → List R
   held (leaf rs) = rs
   held (fork l r) = held l ++ held r
 
   module _ (key : R → ℕ) where
-    -- behind a record with bit w, all have it
-    all-high : (w q : ℕ) (x : R) (xs : List R) → Sorted key (x ∷ xs) → Prefix key (suc w) q (x ∷ xs) → bit w (key x) ≡ true
-        → All (λ y. bit w (key y) ≡ true) xs
-    all-high w q x xs s p e =
-        all-both (λ y. key x < key y) (λ y. key y / 2 ^ suc w ≡ q) (λ y. bit w (key y) ≡ true) xs
-        (λ y l o. bit-rises w (key x) (key y) (p .0 ∙ sym o) l e) (s .0) (p .1)
-
     -- the low side of an ascending list, then the high side
     sides-join : (w q : ℕ) (rs : List R) → Sorted key rs → Prefix key (suc w) q rs → side key false w rs ++ side key true w rs ≡ rs
     sides-join w q [] s p = refl
     sides-join w q (x ∷ xs) s p =
-        let low : R → Bool = λ r. same false (bit w (key r)) in
-        let high : R → Bool = λ r. same true (bit w (key r)) in
         elim (bool-cases (bit w (key x))) [
-          | inl e ↦
-              let a : All (λ r. bit w (key r) ≡ true) (x ∷ xs) = (e, all-high w q x xs s p e) in
-              let b : All (λ r. low r ≡ false) (x ∷ xs) =
-              all-map (λ r. high r ≡ true) (λ r. low r ≡ false) (x ∷ xs) (λ r o. ap (same false) o) a in
-              ap₂ _++_ (filter-none low (x ∷ xs) b) (filter-every high (x ∷ xs) a)
+          | inl e ↦ let h = sides-high key w q x xs s p e in ap₂ _++_ (h .0) (h .1)
           | inr e ↦
-              ap₂ _++_ (filter-true low x xs (ap (same false) e)) (filter-false high x xs e)
-              ∙ ap (λ (l : List R). x ∷ l) (sides-join w q xs (s .1) (p .1))
+              let h = sides-low key w x xs e in
+              ap₂ _++_ (h .0) (h .1) ∙ ap (λ (l : List R). x ∷ l) (sides-join w q xs (s .1) (p .1))
         ]
 
     build-records : (C w q : ℕ) (rs : List R) → Sorted key rs → Prefix key w q rs → held (build key C w rs) ≡ rs

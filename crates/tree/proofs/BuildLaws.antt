@@ -9,13 +9,15 @@ use native.Mathlib.Nat.{sub-zero, suc-sub-suc, div-one}
 use native.Mathlib.Decide.{decLe}
 use native.Mathlib.Omega.{arith}
 use lib.ListN.{length}
+use lib.Pow.{shr-mono}
 use borrow.Author.Tests.{le-leb, lt-leb}
 use Rattle.lists.specs.Bits.{bit, bits}
 use Rattle.lists.specs.Lists.{All}
 use Rattle.lists.specs.Keyed.{Sorted, Prefix, insert}
 use Rattle.lists.proofs.Cases.{bool-cases}
 use Rattle.lists.proofs.BitLaws.{bit-false, bit-true}
-use Rattle.lists.proofs.ListLaws.{all-filter, all-filter-to, pairwise-filter, filter-not}
+use Rattle.lists.proofs.ListLaws.{all-filter, all-filter-to, all-map, all-both, pairwise-filter, filter-true, filter-false, filter-not}
+use Rattle.lists.proofs.AppendLaws.{filter-every, filter-none}
 use Rattle.lists.proofs.KeyedLaws.{length-insert, filter-insert-in, filter-insert-out}
 use Rattle.tree.specs.Trie.{Trie, leaf, fork, height, leafAt, depth}
 use Rattle.tree.specs.Build.{same, side, build, target}
@@ -32,6 +34,14 @@ pub same-true : (b c : Bool) → same b c ≡ true → c ≡ b
 same-true true c e = e
 same-true false true e = sym e
 same-true false false e = refl
+
+-- of two keys alike above bit w, the larger one has the bit if the smaller has it
+bit-rises : (w x y : ℕ) → x / 2 ^ suc w ≡ y / 2 ^ suc w → x < y → bit w x ≡ true → bit w y ≡ true
+bit-rises w x y p l e =
+    elim (bool-cases (bit w y)) [
+      | inl d ↦ d
+      | inr d ↦ let g : x ≤ y = omega arith in absurd (omega (arith, shr-mono w g, bit-true w x e, bit-false w y d))
+    ]
 
 module _ {R : Type 0} (key : R → ℕ) where
   -- the two sides of a list, at bit w
@@ -68,6 +78,29 @@ module _ {R : Type 0} (key : R → ℕ) where
         | inl e ↦ rw (e, bit-true w k e) (prefix-high w (k / 2 ^ suc w) rs p)
         | inr e ↦ rw (e, bit-false w k e) (prefix-low w (k / 2 ^ suc w) rs p)
       ]
+
+  -- a first record without bit w is the first of the low side
+  pub sides-low : (w : ℕ) (x : R) (xs : List R) → bit w (key x) ≡ false
+      → (side key false w (x ∷ xs) ≡ x ∷ side key false w xs) × (side key true w (x ∷ xs) ≡ side key true w xs)
+  sides-low w x xs e = (
+    filter-true (λ r. same false (bit w (key r))) x xs (ap (same false) e),
+    filter-false (λ r. same true (bit w (key r))) x xs e,
+  )
+
+  -- behind a record with bit w, all have it: keys ascend, and they are alike above the bit
+  pub sides-high : (w q : ℕ) (x : R) (xs : List R) → Sorted key (x ∷ xs) → Prefix key (suc w) q (x ∷ xs) → bit w (key x) ≡ true
+      → (side key false w (x ∷ xs) ≡ []) × (side key true w (x ∷ xs) ≡ x ∷ xs)
+  sides-high w q x xs s p e =
+      let low : R → Bool = λ r. same false (bit w (key r)) in
+      let high : R → Bool = λ r. same true (bit w (key r)) in
+      let a : All (λ r. high r ≡ true) (x ∷ xs) = (
+        e,
+        all-both (λ y. key x < key y) (λ y. key y / 2 ^ suc w ≡ q) (λ y. bit w (key y) ≡ true) xs
+            (λ y l o. bit-rises w (key x) (key y) (p .0 ∙ sym o) l e) (s .0) (p .1),
+      ) in (
+        filter-none low (x ∷ xs) (all-map (λ r. high r ≡ true) (λ r. low r ≡ false) (x ∷ xs) (λ r o. ap (same false) o) a),
+        filter-every high (x ∷ xs) a,
+      )
 
   -- no two keys with all bits in common
   one-left : (q : ℕ) (rs : List R) → Sorted key rs → Prefix key zero q rs → length rs ≤ 1
