@@ -187,8 +187,9 @@ module _ (s : List ℕ) (h : Head) (n : ℕ) {a w : ℕ} (start : a ≡ nodeStar
       let e : a + w - a ≡ w = omega arith in
       rw (e, start, words) (sym (part-in s (nodeStart h n) (nodeWords (h .theta)) l))
 
-  pub node-back : (ws : List ℕ) → take a s ++ (ws ++ drop (a + w - a) (drop a s)) ≡ replaced (nodeStart h n) (nodeWords (h .theta)) ws s
+  pub node-back : {ws vs : List ℕ} → ws ≡ vs
+      → take a s ++ (ws ++ drop (a + w - a) (drop a s)) ≡ replaced (nodeStart h n) (nodeWords (h .theta)) vs s
   unfolding replaced
-  node-back ws =
+  node-back {ws} {vs} g =
       let e : a + w - a ≡ w = omega arith in
-      rw (e, start, words) (ap (λ l. take (nodeStart h n) s ++ (ws ++ l)) (drop-drop (nodeWords (h .theta)) (nodeStart h n) s))
+      rw (e, start, words, g) (ap (λ l. take (nodeStart h n) s ++ (vs ++ l)) (drop-drop (nodeWords (h .theta)) (nodeStart h n) s))

@@ -190,7 +190,8 @@ fn one_less(x: u32) -> u32
 // n entries of a node from `start` on, lowered. The largest new depth is kept while they are copied.
 fn lower_entries(node: Node, start: usize, n: usize) -> Lowered
     requires { ⌜ start + n ≤ 64 ⌝ }
-    ensures { λ r. ⌜ ((j : ℕ) → j < n → (getD (r .h) j 0 ≡ pred (getD (node .h) (start + j) 0)) × (getD (r .p) j 0 ≡ getD (node .p) (start + j) 0))
+    ensures { λ r. ⌜ ((j : ℕ) → j < n
+        → (getD (r .h) j 0 ≡ pred (getD (node .h) (start + j) 0)) × (getD (r .p) j 0 ≡ getD (node .p) (start + j) 0))
         × (r .largest ≡ greatest n (λ j. pred (getD (node .h) (start + j) 0))) ⌝ }
 {
     let mut h = [0u32; 64];

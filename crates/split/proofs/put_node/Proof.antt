@@ -1,8 +1,5 @@
 -- The part that is given back is the block of the node.
 use borrow.Author.Needs.{needs}
-use mathlib.Core.Path.{ap, _∙_}
-use Rattle.lists.specs.Lists.{replaced}
-use Rattle.store.specs.Head.{nodeWords, nodeStart}
 use Rattle.split.proofs.ValueLaws.{node-back}
 use Rattle.split.proofs.put_node.Statement.{statement}
 use Rattle.split.proofs.put_node.Tie as tie
@@ -39,9 +36,7 @@ returns c =
     let words = c .before .before .before .before in
     let start = words .before .before .before in
     node-back (start .args .store .now) (start .args .head) (start .args .n) (words .before .node-start .ensures .0)
-    (words .node-words .ensures .0) _
-    ∙ ap (λ ws. replaced (nodeStart (start .args .head) (start .args .n)) (nodeWords (start .args .head .theta)) ws (start .args .store .now))
-    (c .before .before .write-node .ensures)
+    (words .node-words .ensures .0) (c .before .before .write-node .ensures)
 
 pub put-node-spec : {M : Type 1} → statement M
 put-node-spec =
