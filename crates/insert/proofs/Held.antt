@@ -1,8 +1,6 @@
 -- A node on the path fits the arrays that hold it, on damaged words too: its depth is at most θ, no local depth is above it, and the key's
 -- entry has the local depth that the path says. Each operation on node blocks keeps this, by its entries alone: a run halved is one bit
 -- deeper and there is room for it, and a half in which the key's entry was at θ keeps every entry. No rule of runs is needed.
---   Holder θ ws k h == ws is a node block of depth at most θ in which no local depth is above the node's, and the entry of the key k has
---     the local depth h
 --   Held θ s path   == each place of the path is at such a node of the words s
 --   Apart path      == no two places of the path are at one node
 --   Alike ws vs     == the block vs has the depth and the local depths of ws
@@ -27,24 +25,17 @@ use Rattle.tree.specs.Node.{Entry}
 use Rattle.node.specs.Node.{depthWord, entryDepth, entryOf}
 use Rattle.split.specs.Frame.{nodeOf}
 use Rattle.split.specs.Round.{Place, chosen}
+use Rattle.split.specs.Value.{Holder}
+use Rattle.split.proofs.GrowLaws.{here-low}
 use Rattle.split.specs.Block.{block, overRun, halves, number, runLength, halveRun, double, grow, halfStart, fallen, halfDepth, half}
 use Rattle.split.specs.Block.{lower, upper, linked, top}
 use Rattle.split.proofs.EntryLaws.{block-entry}
-
-pub record Holder (θ : ℕ) (ws : List ℕ) (k : Key) (h : ℕ) : Type 0 where
-  pub low : depthWord ws 0 ≤ θ
-  pub all : (j : ℕ) → j < 2 ^ depthWord ws 0 → entryDepth ws 0 j ≤ depthWord ws 0
-  pub here : entryDepth ws 0 (index (depthWord ws 0) k) ≡ h
 
 abbrev pub Held : ℕ → List ℕ → List Place → Type 0
 Held θ s path = All (λ p. Holder θ (nodeOf s (p .at)) (p .bits) (p .depth)) path
 
 abbrev pub Apart : List Place → Type 0
 Apart path = Pairwise (λ p q. p .at ≡ q .at → ⊥) path
-
--- the key's depth is at most the node's
-pub here-low : (θ : ℕ) (ws : List ℕ) (k : Key) (h : ℕ) → Holder θ ws k h → h ≤ depthWord ws 0
-here-low θ ws k h w = omega (arith, w .here, w .all (index (depthWord ws 0) k) (index-lt (depthWord ws 0) k))
 
 -- links do not matter
 pub record Alike (ws vs : List ℕ) : Type 0 where

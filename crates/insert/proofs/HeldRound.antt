@@ -25,7 +25,9 @@ use Rattle.split.proofs.Kept.{Kept}
 use Rattle.split.proofs.Climb.{climb-room, climb-full}
 use Rattle.split.proofs.RoundLaws.{round-room, round-full}
 use Rattle.insert.proofs.Turned.{turned, turned-slack, turned-full}
-use Rattle.insert.proofs.Held.{Holder, Held, Apart, Alike, here-low, alike-is, alike-then, holder-alike, grow-holder, split-holder}
+use Rattle.split.specs.Value.{Holder}
+use Rattle.split.proofs.GrowLaws.{here-low}
+use Rattle.insert.proofs.Held.{Held, Apart, Alike, alike-is, alike-then, holder-alike, grow-holder, split-holder}
 use Rattle.insert.proofs.Held.{top-holder}
 use Rattle.insert.proofs.InsideWrites.{Off, Among, grown-now, grown-here, halve-now, halve-lower, halve-upper, root-now, among-more}
 use Rattle.insert.proofs.InsideWrites.{depths, climb-now}

@@ -31,7 +31,7 @@ use Rattle.node.specs.Node.{depthWord, levelWord, backWord, forwardWord, entryD
 use Rattle.split.specs.declared.Node.{Node}
 use Rattle.split.specs.Block.{block, like, overRun, halves, number, runLength, halveRun, double, grow, halfStart, fallen}
 use Rattle.split.specs.Block.{halfDepth, half, aim}
-use Rattle.split.specs.Value.{entryIn, blockOf, own}
+use Rattle.split.specs.Value.{entryIn, blockOf, own, Holder}
 use Rattle.split.proofs.ValueLaws.{block-ext, steps-within}
 use Rattle.split.proofs.EntryLaws.{block-entry, over-in, over-below, over-above}
 
@@ -450,3 +450,33 @@ half-kept L K n m s x l h le small en em eK lowers thins j r =
     let at : j * (n / m) < n = omega (arith, steps-within j m (n / m) in-m (step .1) .0, whole) in
     let e : getD h j 0 ≡ pred (getD x (s + j * (n / m)) 0) = thins j in-m ∙ lowers (j * (n / m)) at in
     omega (arith, e, eK, greatest-at n (λ i. pred (getD x (s + i) 0)) (j * (n / m)) at)
+
+-- a node that was loaded from its block
+pub record Loaded (θ : ℕ) (ws : List ℕ) (x : Node) : Type 0 where
+  pub depth-is : x .depth ≡ depthWord ws 0
+  pub locals : (j : ℕ) → j < 2 ^ depthWord ws 0 → getD (x .h) j 0 ≡ entryDepth ws 0 j
+
+first-word : (θ : ℕ) (x : Node) {ws : List ℕ} → blockOf θ x ≡ ws → x .depth ≡ depthWord ws 0
+unfolding blockOf block
+first-word θ x e = ap (λ b. depthWord b 0) e
+
+pub loaded-is : (θ : ℕ) (ws : List ℕ) (x : Node) → depthWord ws 0 ≤ θ → blockOf θ x ≡ own θ ws → Loaded θ ws x
+loaded-is θ ws x high e =
+    let d : x .depth ≡ depthWord ws 0 = first-word θ x e ∙ own-read θ ws high .depth-is in
+    let low : x .depth ≤ θ = omega arith in
+    record {
+      depth-is = d;
+      locals = λ j l.
+          ap (λ y. y .0)
+          (sym (value-entry θ x j low (subst (λ n. j < 2 ^ n) (sym d) l)) ∙ ap (λ b. entryOf b 0 j) e ∙ own-read θ ws high .entry j l);
+    }
+
+-- the local depth of the key's entry in it
+pub loaded-local : (θ : ℕ) (ws : List ℕ) (x : Node) (k : Key) {i : ℕ} → Loaded θ ws x → index (x .depth) k ≡ i
+    → getD (x .h) i 0 ≡ entryDepth ws 0 (number ws k)
+loaded-local θ ws x k l e =
+    ap (λ j. getD (x .h) j 0) (sym e ∙ ap (λ d. index d k) (l .depth-is)) ∙ l .locals (number ws k) (index-lt (depthWord ws 0) k)
+
+-- the key's depth is at most the node's
+pub here-low : (θ : ℕ) (ws : List ℕ) (k : Key) (h : ℕ) → Holder θ ws k h → h ≤ depthWord ws 0
+here-low θ ws k h w = omega (arith, w .here, w .all (index (depthWord ws 0) k) (index-lt (depthWord ws 0) k))

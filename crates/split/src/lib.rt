@@ -11,9 +11,10 @@ ghost use Rattle.lists.specs.Lists.{tab, greatest, replaced};
 ghost use Rattle.tree.specs.Trie.{Key};
 ghost use Rattle.store.specs.Format.{width};
 ghost use Rattle.store.specs.Head.{nodeWords, nodeStart};
+ghost use Rattle.node.specs.Node.{depthWord};
 ghost use Rattle.represent.specs.Image.{entryWords, nodeAt};
 ghost use Rattle.split.specs.Block.{halveRun, double, grow, half, lower, upper, aim, top};
-ghost use Rattle.split.specs.Value.{entryIn, blockOf, own};
+ghost use Rattle.split.specs.Value.{entryIn, blockOf, own, localAt, Reached};
 
 // A node block by value: its depth, level and links, and of each entry the local depth and the pointer.
 pub struct Node {
@@ -340,4 +341,64 @@ pub fn put_node(store: &mut [u32], head: Head, n: u32, node: Node)
     let at = store::node_start(head, n);
     let end = at + store::node_words(head.theta);
     write_node(&mut store[at..end], head.theta, node);
+}
+
+// The run at the key halved, in node n where it stands.
+pub fn grow_block(
+    store: &mut [u32],
+    f: Format,
+    head: Head,
+    n: u32,
+    key: u64,
+    used: u32,
+    a: u32,
+    c: u32,
+)
+    requires { ⌜ (head .theta ≤ 6) × (nodeStart head n + nodeWords (head .theta) ≤ length (now store)) × (key < 2 ^ width f)
+        × Reached f (head .theta) (nodeAt (now store) head n) key used
+        × (localAt (nodeAt (now store) head n) (bits (width f - used) key) < head .theta) ⌝ }
+    ensures { λ _. ⌜ now (store .exit) ≡ replaced (nodeStart head n) (nodeWords (head .theta))
+        (grow (head .theta) (nodeAt (now (store .entry)) head n) (bits (width f - used) key) a c) (now (store .entry)) ⌝ }
+{
+    let node = node_at(store, head, n);
+    let i = node::entry_number(f, key, used, node.depth);
+    put_node(store, head, n, grown(head.theta, node, i, a, c));
+}
+
+// The run at the key pointing to q, in node n where it stands.
+pub fn aim_block(store: &mut [u32], f: Format, head: Head, n: u32, key: u64, used: u32, q: u32)
+    requires { ⌜ (head .theta ≤ 6) × (nodeStart head n + nodeWords (head .theta) ≤ length (now store)) × (key < 2 ^ width f)
+        × Reached f (head .theta) (nodeAt (now store) head n) key used ⌝ }
+    ensures { λ _. ⌜ now (store .exit) ≡ replaced (nodeStart head n) (nodeWords (head .theta))
+        (aim (head .theta) (nodeAt (now (store .entry)) head n) (bits (width f - used) key) q) (now (store .entry)) ⌝ }
+{
+    let node = node_at(store, head, n);
+    let i = node::entry_number(f, key, used, node.depth);
+    put_node(store, head, n, aimed(head.theta, node, i, q));
+}
+
+// Full node n split: the left half keeps its block, the right half is written into block m.
+pub fn split_block(
+    store: &mut [u32],
+    f: Format,
+    head: Head,
+    n: u32,
+    m: u32,
+    key: u64,
+    used: u32,
+    a: u32,
+    c: u32,
+)
+    requires { ⌜ (1 ≤ head .theta) × (head .theta ≤ 6) × (nodeStart head n + nodeWords (head .theta) ≤ length (now store))
+        × (nodeStart head m + nodeWords (head .theta) ≤ length (now store)) × (key < 2 ^ width f)
+        × Reached f (head .theta) (nodeAt (now store) head n) key used × (depthWord (nodeAt (now store) head n) 0 ≡ head .theta) ⌝ }
+    ensures { λ _. ⌜ now (store .exit) ≡ replaced (nodeStart head m) (nodeWords (head .theta))
+        (upper (head .theta) (nodeAt (now (store .entry)) head n) (bits (width f - used) key) a c)
+        (replaced (nodeStart head n) (nodeWords (head .theta))
+        (lower (head .theta) (nodeAt (now (store .entry)) head n) (bits (width f - used) key) a c) (now (store .entry))) ⌝ }
+{
+    let node = node_at(store, head, n);
+    let halves = split_node(head.theta, node, f, key, used, a, c);
+    put_node(store, head, n, halves.lower);
+    put_node(store, head, m, halves.upper);
 }
