@@ -454,11 +454,18 @@ half-kept L K n m s x l h le small en em eK lowers thins j r =
 -- a node that was loaded from its block
 pub record Loaded (θ : ℕ) (ws : List ℕ) (x : Node) : Type 0 where
   pub depth-is : x .depth ≡ depthWord ws 0
+  pub back-is : x .back ≡ backWord ws 0
+  pub forward-is : x .forward ≡ forwardWord ws 0
   pub locals : (j : ℕ) → j < 2 ^ depthWord ws 0 → getD (x .h) j 0 ≡ entryDepth ws 0 j
 
-first-word : (θ : ℕ) (x : Node) {ws : List ℕ} → blockOf θ x ≡ ws → x .depth ≡ depthWord ws 0
-unfolding blockOf block
-first-word θ x e = ap (λ b. depthWord b 0) e
+module _ (θ : ℕ) (x : Node) {ws : List ℕ} (e : blockOf θ x ≡ ws) where
+  first-word : x .depth ≡ depthWord ws 0
+  unfolding blockOf block
+  first-word = ap (λ b. depthWord b 0) e
+
+  link-words : (x .back ≡ backWord ws 0) × (x .forward ≡ forwardWord ws 0)
+  unfolding blockOf block
+  link-words = (ap (λ b. backWord b 0) e, ap (λ b. forwardWord b 0) e)
 
 pub loaded-is : (θ : ℕ) (ws : List ℕ) (x : Node) → depthWord ws 0 ≤ θ → blockOf θ x ≡ own θ ws → Loaded θ ws x
 loaded-is θ ws x high e =
@@ -466,6 +473,8 @@ loaded-is θ ws x high e =
     let low : x .depth ≤ θ = omega arith in
     record {
       depth-is = d;
+      back-is = link-words θ x e .0 ∙ own-read θ ws high .back-is;
+      forward-is = link-words θ x e .1 ∙ own-read θ ws high .forward-is;
       locals = λ j l.
           ap (λ y. y .0)
           (sym (value-entry θ x j low (subst (λ n. j < 2 ^ n) (sym d) l)) ∙ ap (λ b. entryOf b 0 j) e ∙ own-read θ ws high .entry j l);

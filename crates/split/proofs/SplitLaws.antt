@@ -1,5 +1,6 @@
 -- A split node, by the next bit of the key: that bit is the entry that the key takes in a node of depth 1.
-use mathlib.Core.Path.{_≡_, refl, sym, ap, _∙_}
+use mathlib.Core.Path.{_≡_, refl, sym, ap, _∙_, subst}
+use lib.ListN.{getD}
 use mathlib.Core.Bool.{Bool, true, false}
 use mathlib.Core.List.{List, [], _∷_}
 use mathlib.Core.Logic.{inl, inr}
@@ -9,11 +10,14 @@ use Rattle.lists.specs.Bits.{bit, bits, index}
 use Rattle.lists.proofs.Cases.{bool-cases}
 use Rattle.lists.proofs.BitLaws.{drop-bits}
 use Rattle.tree.specs.Trie.{Key}
-use Rattle.node.specs.Node.{depthWord, entryDepth, entryNumber}
+use Rattle.store.specs.declared.Format.{Format}
+use Rattle.store.specs.Format.{width}
+use Rattle.node.specs.Node.{depthWord, entryNumber}
 use Rattle.node.proofs.EntryNumber.{entry-index}
 use Rattle.split.specs.Block.{grow, half, lower, upper}
-use Rattle.split.specs.Value.{own}
-use Rattle.split.proofs.GrowLaws.{own-half}
+use Rattle.split.specs.declared.Node.{Node}
+use Rattle.split.specs.Value.{own, Reached}
+use Rattle.split.proofs.GrowLaws.{Loaded, own-half}
 
 -- the entry that a key takes, by the bits that are left
 pub entry-at : (W k used H : ℕ) {i : ℕ} → used + H ≤ W → k < 2 ^ W → i ≡ entryNumber W k used H → index H (bits (W - used) k) ≡ i
@@ -64,20 +68,36 @@ module _ (W k used : ℕ) (l : used < W) (q : k < 2 ^ W) {i : ℕ} (e : i ≡ en
 pub grown-half : (θ : ℕ) (k : Key) (a c : ℕ) {x y ws z : List ℕ} → y ≡ grow θ x k a c → x ≡ ws → z ≡ grow θ ws k a c → y ≡ z
 grown-half θ k a c e g h = e ∙ ap (λ b. grow θ b k a c) g ∙ sym h
 
--- the halves of a node's words are those of the block that they are read as
-module _ (θ : ℕ) (ws : List ℕ) (high : depthWord ws 0 ≤ θ) (some : 1 ≤ depthWord ws 0)
-    (all : (j : ℕ) → j < 2 ^ depthWord ws 0 → entryDepth ws 0 j ≤ depthWord ws 0) where
-  same : (b : Bool) → half θ (own θ ws) b ≡ half θ ws b
-  same b = own-half θ ws high some all b
+-- a full node of the store, split: the halves of its words are those of the block that they are read as
+module _ (f : Format) (θ : ℕ) (ws : List ℕ) (key used : ℕ) (some : 1 ≤ θ) (full : depthWord ws 0 ≡ θ) (r : Reached f θ ws key used) where
+  pub splittable : (x : Node) → Loaded θ ws x
+      → (x .depth ≡ θ) × (used + θ ≤ width f) × ((j : ℕ) → j < 2 ^ x .depth → getD (x .h) j 0 ≤ x .depth)
+  splittable x l = (
+    l .depth-is ∙ full,
+    omega (arith, r .1, full),
+    λ j h.
+        let q = subst (λ d. j < 2 ^ d) (l .depth-is) h in
+        omega (arith, l .locals j q, l .depth-is, r .0 .all j q),
+  )
 
-  pub own-lower : (k : Key) (a c : ℕ) → lower θ (own θ ws) k a c ≡ lower θ ws k a c
+  same : (b : Bool) → half θ (own θ ws) b ≡ half θ ws b
+  same b = own-half θ ws (r .0 .low) (omega arith) (r .0 .all) b
+
+  own-lower : (k : Key) (a c : ℕ) → lower θ (own θ ws) k a c ≡ lower θ ws k a c
   unfolding lower
   own-lower [] a c = ap (λ b. grow θ b [] a c) (same false)
   own-lower (false ∷ k) a c = ap (λ b. grow θ b k a c) (same false)
   own-lower (true ∷ k) a c = same false
 
-  pub own-upper : (k : Key) (a c : ℕ) → upper θ (own θ ws) k a c ≡ upper θ ws k a c
+  own-upper : (k : Key) (a c : ℕ) → upper θ (own θ ws) k a c ≡ upper θ ws k a c
   unfolding upper
   own-upper [] a c = same true
   own-upper (false ∷ k) a c = same true
   own-upper (true ∷ k) a c = ap (λ b. grow θ b k a c) (same true)
+
+  module _ (k : Key) (a c : ℕ) {x y : List ℕ} where
+    pub lower-of : y ≡ lower θ x k a c → x ≡ own θ ws → y ≡ lower θ ws k a c
+    lower-of e g = e ∙ ap (λ b. lower θ b k a c) g ∙ own-lower k a c
+
+    pub upper-of : y ≡ upper θ x k a c → x ≡ own θ ws → y ≡ upper θ ws k a c
+    upper-of e g = e ∙ ap (λ b. upper θ b k a c) g ∙ own-upper k a c

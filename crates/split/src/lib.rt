@@ -11,9 +11,9 @@ ghost use Rattle.lists.specs.Lists.{tab, greatest, replaced};
 ghost use Rattle.tree.specs.Trie.{Key};
 ghost use Rattle.store.specs.Format.{width};
 ghost use Rattle.store.specs.Head.{nodeWords, nodeStart};
-ghost use Rattle.node.specs.Node.{depthWord};
+ghost use Rattle.node.specs.Node.{depthWord, backWord, forwardWord};
 ghost use Rattle.represent.specs.Image.{entryWords, nodeAt};
-ghost use Rattle.split.specs.Block.{halveRun, double, grow, half, lower, upper, aim, top};
+ghost use Rattle.split.specs.Block.{halveRun, double, grow, half, lower, upper, aim, linked, top};
 ghost use Rattle.split.specs.Value.{entryIn, blockOf, own, localAt, Reached};
 
 // A node block by value: its depth, level and links, and of each entry the local depth and the pointer.
@@ -280,6 +280,22 @@ pub fn split_node(theta: u32, node: Node, f: Format, key: u64, used: u32, a: u32
     }
 }
 
+// A node with other links.
+fn with_links(node: Node, back: u32, forward: u32) -> Node
+    ensures { λ r. ⌜ ((θ : ℕ) → blockOf θ r ≡ linked (blockOf θ node) back forward) × (r .depth ≡ node .depth) ⌝ }
+{
+    let h = node.h;
+    let p = node.p;
+    Node {
+        depth: node.depth,
+        level: node.level,
+        back,
+        forward,
+        h,
+        p,
+    }
+}
+
 // The run of entry i pointing to q.
 pub fn aimed(theta: u32, node: Node, i: usize, q: u32) -> Node
     requires { ⌜ (theta ≤ 6) × (node .depth ≤ theta) × (i < 2 ^ node .depth) ⌝ }
@@ -401,4 +417,34 @@ pub fn split_block(
     let halves = split_node(head.theta, node, f, key, used, a, c);
     put_node(store, head, n, halves.lower);
     put_node(store, head, m, halves.upper);
+}
+
+// Full level-1 node n split in the same way: block m stands between it and the node that was behind it.
+pub fn split_linked(
+    store: &mut [u32],
+    f: Format,
+    head: Head,
+    n: u32,
+    m: u32,
+    key: u64,
+    used: u32,
+    a: u32,
+    c: u32,
+)
+    requires { ⌜ (1 ≤ head .theta) × (head .theta ≤ 6) × (nodeStart head n + nodeWords (head .theta) ≤ length (now store))
+        × (nodeStart head m + nodeWords (head .theta) ≤ length (now store)) × (key < 2 ^ width f)
+        × Reached f (head .theta) (nodeAt (now store) head n) key used × (depthWord (nodeAt (now store) head n) 0 ≡ head .theta) ⌝ }
+    ensures { λ _. ⌜ now (store .exit) ≡ replaced (nodeStart head m) (nodeWords (head .theta))
+        (linked (upper (head .theta) (nodeAt (now (store .entry)) head n) (bits (width f - used) key) a c) n
+        (forwardWord (nodeAt (now (store .entry)) head n) 0))
+        (replaced (nodeStart head n) (nodeWords (head .theta))
+        (linked (lower (head .theta) (nodeAt (now (store .entry)) head n) (bits (width f - used) key) a c)
+        (backWord (nodeAt (now (store .entry)) head n) 0) m) (now (store .entry))) ⌝ }
+{
+    let node = node_at(store, head, n);
+    let back = node.back;
+    let forward = node.forward;
+    let halves = split_node(head.theta, node, f, key, used, a, c);
+    put_node(store, head, n, with_links(halves.lower, back, m));
+    put_node(store, head, m, with_links(halves.upper, n, forward));
 }

@@ -1,16 +1,14 @@
 -- The node is read, split, and its halves are written, one after the other.
 use borrow.Author.Needs.{needs}
-use mathlib.Core.Path.{ap, ap₂, subst, _∙_}
-use Prim.Native.Nat.{_-_, _^_, _<_, _≤_}
-use native.Mathlib.Omega.{arith}
+use mathlib.Core.Path.{ap, ap₂, _∙_}
+use Prim.Native.Nat.{_-_}
 use Rattle.lists.specs.Bits.{bits}
 use Rattle.lists.specs.Lists.{replaced}
 use Rattle.store.specs.Format.{width}
 use Rattle.store.specs.Head.{nodeStart, nodeWords}
 use Rattle.represent.specs.Image.{nodeAt}
-use Rattle.split.specs.Block.{lower, upper}
 use Rattle.split.proofs.GrowLaws.{Loaded, loaded-is}
-use Rattle.split.proofs.SplitLaws.{own-lower, own-upper}
+use Rattle.split.proofs.SplitLaws.{splittable, lower-of, upper-of}
 use Rattle.split.proofs.split_block.Statement.{statement}
 use Rattle.split.proofs.split_block.Tie as tie
 
@@ -27,16 +25,9 @@ node-at-requires c κs = search needs
 split-node-requires : tie.Need-split-node-requires
 split-node-requires c κs =
     let s = c .before .before .before in
-    let x = read c in (
-      s .pre .0,
-      s .pre .1,
-      x .depth-is ∙ s .pre .6,
-      omega (arith, s .pre .5 .1, s .pre .6),
-      s .pre .4,
-      λ j l.
-          let q = subst (λ d. j < 2 ^ d) (x .depth-is) l in
-          omega (arith, x .locals j q, x .depth-is, s .pre .5 .0 .all j q),
-    )
+    let a = s .args in
+    let x = splittable (a .f) (a .head .theta) _ (a .key) (a .used) (s .pre .0) (s .pre .6) (s .pre .5) _ (read c) in
+    (s .pre .0, s .pre .1, x .0, x .1, s .pre .4, x .2)
 
 put-node-requires : tie.Need-put-node-requires
 put-node-requires c κs = search needs
@@ -57,12 +48,9 @@ returns c =
     let key = bits (width (a .f) - a .used) (a .key) in
     let ws = nodeAt (a .store .now) (a .head) (a .n) in
     let e = v .before .node-at .ensures in
-    let holder = s .pre .5 .0 in
-    let some : 1 ≤ θ = s .pre .0 in
-    let low = v .split-node .ensures .0 ∙ ap (λ b. lower θ b key (a .a) (a .c)) e
-    ∙ own-lower θ ws (holder .low) (omega (arith, s .pre .6)) (holder .all) key (a .a) (a .c) in
-    let high = v .split-node .ensures .1 ∙ ap (λ b. upper θ b key (a .a) (a .c)) e
-    ∙ own-upper θ ws (holder .low) (omega (arith, s .pre .6)) (holder .all) key (a .a) (a .c) in
+    let low = lower-of (a .f) θ ws (a .key) (a .used) (s .pre .0) (s .pre .6) (s .pre .5) key (a .a) (a .c) (v .split-node .ensures .0) e in
+    let high =
+    upper-of (a .f) θ ws (a .key) (a .used) (s .pre .0) (s .pre .6) (s .pre .5) key (a .a) (a .c) (v .split-node .ensures .1) e in
     c .before .before .put-node2 .ensures
     ∙ ap₂ (λ b t. replaced (nodeStart (a .head) (a .m)) (nodeWords θ) b t) high
     (first .put-node .ensures ∙ ap (λ b. replaced (nodeStart (a .head) (a .n)) (nodeWords θ) b (a .store .now)) low)
