@@ -12,19 +12,20 @@ use native.Mathlib.Omega.{arith}
 use borrow.Author.Count.{below-more}
 use lib.ListN.{length, getD, take, drop, set, replicate, length-append, length-replicate, length-drop, length-set}
 use lib.ListN.{replicate-append-replicate, drop-of-length-le}
-use lib.Seq.{length-take-le, take-all, take-at, drop-at, drop-drop, drop-cons, set-at, getD-set-same, getD-set-other}
+use lib.Seq.{length-take-le, take-all, take-at, drop-at, drop-drop, drop-cons, set-at, getD-set-same, getD-set-other, set-getD}
+use borrow.Rule.Slice.PartMut.{set-mid-at}
 use Rattle.lists.specs.Lists.{tab, greatest, replaced}
-use Rattle.lists.proofs.Parts.{part-in}
+use Rattle.lists.proofs.Parts.{part-in, length-part}
 use Rattle.lists.proofs.Tests.{length-tab, tab-ext, tab-last}
 use Rattle.tree.specs.Node.{Entry}
 use Rattle.store.specs.declared.Head.{Head}
 use Rattle.store.specs.Head.{word, nodeStart, nodeWords}
 use Rattle.page.proofs.Flat.{set-four}
-use Rattle.node.specs.Node.{entryOf}
+use Rattle.node.specs.Node.{forwardWord, entryOf}
 use Rattle.represent.specs.Image.{entryWords, nodeAt}
 use Rattle.represent.proofs.ImageLaws.{length-entryWords}
 use Rattle.split.specs.declared.Node.{Node}
-use Rattle.split.specs.Block.{kept, block, halves, top}
+use Rattle.split.specs.Block.{kept, block, halves, linked, top}
 use Rattle.split.specs.Value.{entryIn, blockOf, own}
 use Rattle.split.proofs.EntryLaws.{kept-in, kept-out, block-entries, entryWords-append}
 
@@ -193,3 +194,40 @@ module _ (s : List ℕ) (h : Head) (n : ℕ) {a w : ℕ} (start : a ≡ nodeStar
   node-back {ws} {vs} g =
       let e : a + w - a ≡ w = omega arith in
       rw (e, start, words, g) (ap (λ l. take (nodeStart h n) s ++ (vs ++ l)) (drop-drop (nodeWords (h .theta)) (nodeStart h n) s))
+
+pub four-words : (θ : ℕ) → 4 ≤ nodeWords θ
+unfolding nodeWords
+four-words θ = omega arith
+
+-- another back link of a node block where it stands
+module _ (s : List ℕ) (h : Head) (n m : ℕ) (inside : nodeStart h n + nodeWords (h .theta) ≤ length s) where
+  abbrev ws : List ℕ
+  ws = nodeAt s h n
+
+  abbrev a : ℕ
+  a = nodeStart h n
+
+  abbrev w : ℕ
+  w = nodeWords (h .theta)
+
+  block-is-part : ws ≡ take w (drop a s)
+  unfolding nodeAt
+  block-is-part = part-in s a w inside
+
+  long-block : length ws ≡ w
+  unfolding nodeAt
+  long-block = length-part s a w inside
+
+  back-only : linked ws m (forwardWord ws 0) ≡ set ws 2 m
+  unfolding linked
+  back-only =
+      ap (set (set ws 2 m) 3) (sym (getD-set-other ws 2 3 m 0 (λ e. omega arith))) ∙ set-getD (set ws 2 m) 3 0
+
+  pub relinked : {b : ℕ} → b ≡ nodeStart h n → set s (b + 2) m ≡ replaced a w (linked ws m (forwardWord ws 0)) s
+  unfolding replaced
+  relinked e =
+      let short : 2 < length (take w (drop a s)) = omega (arith, ap length block-is-part, long-block, four-words (h .theta)) in
+      ap (λ x. set s (x + 2) m) e
+      ∙ sym (set-mid-at a w 2 s m short)
+      ∙ ap (λ l. take a s ++ (set (take w (drop a s)) 2 m ++ l)) (drop-drop w a s)
+      ∙ ap (λ l. take a s ++ (l ++ drop (a + w) s)) (ap (λ l. set l 2 m) (sym block-is-part) ∙ sym back-only)

@@ -448,3 +448,17 @@ pub fn split_linked(
     put_node(store, head, n, with_links(halves.lower, back, m));
     put_node(store, head, m, with_links(halves.upper, n, forward));
 }
+
+// Links node q, if there is one, back to m.
+pub fn relink(store: &mut [u32], head: Head, q: u32, m: u32)
+    requires { ⌜ (head .theta ≤ 6) × (nodeStart head q + nodeWords (head .theta) ≤ length (now store)) ⌝ }
+    ensures { λ _. ⌜ ((q ≡ 0) → now (store .exit) ≡ now (store .entry))
+        × (((q ≡ 0) → ⊥) → now (store .exit) ≡ replaced (nodeStart head q) (nodeWords (head .theta))
+        (linked (nodeAt (now (store .entry)) head q) m (forwardWord (nodeAt (now (store .entry)) head q) 0)) (now (store .entry))) ⌝ }
+{
+    if q == 0 {
+        return;
+    }
+    let at = store::node_start(head, q);
+    store[at + 2] = m;
+}
