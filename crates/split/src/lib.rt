@@ -27,7 +27,7 @@ pub struct Node {
 }
 
 // A node block as a value.
-pub fn load_node(part: &[u32], theta: u32) -> Node
+fn load_node(part: &[u32], theta: u32) -> Node
     requires { ⌜ (theta ≤ 6) × (length (now part) ≡ nodeWords theta) ⌝ }
     ensures { λ r. ⌜ blockOf theta r ≡ own theta (now (part .entry)) ⌝ }
 {
@@ -64,7 +64,7 @@ fn write_entries(part: &mut [u32], node: Node, n: usize)
 }
 
 // Writes a node block whole.
-pub fn write_node(part: &mut [u32], theta: u32, node: Node)
+fn write_node(part: &mut [u32], theta: u32, node: Node)
     requires { ⌜ (theta ≤ 6) × (node .depth ≤ theta) × (length (now part) ≡ nodeWords theta) ⌝ }
     ensures { λ _. ⌜ now (part .exit) ≡ blockOf theta node ⌝ }
 {
@@ -159,7 +159,7 @@ fn doubled(theta: u32, node: Node) -> Node
 }
 
 // The run of entry i halved; after a doubling if its local depth is the node's depth.
-pub fn grown(theta: u32, node: Node, i: usize, a: u32, c: u32) -> Node
+fn grown(theta: u32, node: Node, i: usize, a: u32, c: u32) -> Node
     requires { ⌜ (theta ≤ 6) × (node .depth ≤ theta) × (i < 2 ^ node .depth)
         × (getD (node .h) i 0 < theta) × (getD (node .h) i 0 ≤ node .depth) ⌝ }
     ensures { λ r. ⌜ ((k : Key) → index (node .depth) k ≡ i → blockOf theta r ≡ grow theta (blockOf theta node) k a c)
@@ -224,7 +224,7 @@ fn thinned(a: [u32; 64], step: usize, n: usize) -> [u32; 64]
 }
 
 // The half of a node whose first bit is clear, or set: every local depth less by one, shrunk to the largest of them.
-pub fn half_node(theta: u32, node: Node, upper: bool) -> Node
+fn half_node(theta: u32, node: Node, upper: bool) -> Node
     requires { ⌜ (theta ≤ 6) × (node .depth ≤ theta) × (1 ≤ node .depth)
         × ((j : ℕ) → j < 2 ^ node .depth → getD (node .h) j 0 ≤ node .depth) ⌝ }
     ensures { λ r. ⌜ (blockOf theta r ≡ half theta (blockOf theta node) upper) × (r .depth < node .depth)
@@ -257,7 +257,7 @@ pub struct Halves {
 }
 
 // A full node split on its first bit. The run at the key is halved in the half that the key's next bit chooses.
-pub fn split_node(theta: u32, node: Node, f: Format, key: u64, used: u32, a: u32, c: u32) -> Halves
+fn split_node(theta: u32, node: Node, f: Format, key: u64, used: u32, a: u32, c: u32) -> Halves
     requires { ⌜ (1 ≤ theta) × (theta ≤ 6) × (node .depth ≡ theta) × (used + theta ≤ width f) × (key < 2 ^ width f)
         × ((j : ℕ) → j < 2 ^ node .depth → getD (node .h) j 0 ≤ node .depth) ⌝ }
     ensures { λ r. ⌜ (blockOf theta (r .lower) ≡ lower theta (blockOf theta node) (bits (width f - used) key) a c)
@@ -297,7 +297,7 @@ fn with_links(node: Node, back: u32, forward: u32) -> Node
 }
 
 // The run of entry i pointing to q.
-pub fn aimed(theta: u32, node: Node, i: usize, q: u32) -> Node
+fn aimed(theta: u32, node: Node, i: usize, q: u32) -> Node
     requires { ⌜ (theta ≤ 6) × (node .depth ≤ theta) × (i < 2 ^ node .depth) ⌝ }
     ensures { λ r. ⌜ ((k : Key) → index (node .depth) k ≡ i → blockOf theta r ≡ aim theta (blockOf theta node) k q)
         × (r .depth ≡ node .depth) ⌝ }
@@ -318,7 +318,7 @@ pub fn aimed(theta: u32, node: Node, i: usize, q: u32) -> Node
 }
 
 // A root at a level, with two entries.
-pub fn root_node(theta: u32, level: u32, a: u32, c: u32) -> Node
+fn root_node(theta: u32, level: u32, a: u32, c: u32) -> Node
     requires { ⌜ (1 ≤ theta) × (theta ≤ 6) ⌝ }
     ensures { λ r. ⌜ (blockOf theta r ≡ top theta level a c) × (r .depth ≡ 1) ⌝ }
 {
@@ -339,7 +339,7 @@ pub fn root_node(theta: u32, level: u32, a: u32, c: u32) -> Node
 }
 
 // The block of node n, as a value.
-pub fn node_at(store: &[u32], head: Head, n: u32) -> Node
+fn node_at(store: &[u32], head: Head, n: u32) -> Node
     requires { ⌜ (head .theta ≤ 6) × (nodeStart head n + nodeWords (head .theta) ≤ length (now store)) ⌝ }
     ensures { λ r. ⌜ blockOf (head .theta) r ≡ own (head .theta) (nodeAt (now (store .entry)) head n) ⌝ }
 {
@@ -349,7 +349,7 @@ pub fn node_at(store: &[u32], head: Head, n: u32) -> Node
 }
 
 // Writes a node into block n, which is lent as a part of the store.
-pub fn put_node(store: &mut [u32], head: Head, n: u32, node: Node)
+fn put_node(store: &mut [u32], head: Head, n: u32, node: Node)
     requires { ⌜ (head .theta ≤ 6) × (node .depth ≤ head .theta) × (nodeStart head n + nodeWords (head .theta) ≤ length (now store)) ⌝ }
     ensures { λ _. ⌜ now (store .exit)
         ≡ replaced (nodeStart head n) (nodeWords (head .theta)) (blockOf (head .theta) node) (now (store .entry)) ⌝ }
@@ -461,4 +461,13 @@ pub fn relink(store: &mut [u32], head: Head, q: u32, m: u32)
     }
     let at = store::node_start(head, q);
     store[at + 2] = m;
+}
+
+// Writes a root at a level, with two entries, into block n.
+pub fn root_block(store: &mut [u32], head: Head, n: u32, level: u32, a: u32, c: u32)
+    requires { ⌜ (1 ≤ head .theta) × (head .theta ≤ 6) × (nodeStart head n + nodeWords (head .theta) ≤ length (now store)) ⌝ }
+    ensures { λ _. ⌜ now (store .exit)
+        ≡ replaced (nodeStart head n) (nodeWords (head .theta)) (top (head .theta) level a c) (now (store .entry)) ⌝ }
+{
+    put_node(store, head, n, root_node(head.theta, level, a, c));
 }
