@@ -67,9 +67,6 @@ holder-alike θ ws vs k h a w =
       here = a .entry-same (index (depthWord vs 0) k) ∙ ap (λ d. entryDepth ws 0 (index d k)) (a .depth-same) ∙ w .here;
     }
 
-pub holder-linked : (θ : ℕ) (ws : List ℕ) (k : Key) (h p q : ℕ) → Holder θ ws k h → Holder θ (linked ws p q) k h
-holder-linked θ ws k h p q = holder-alike θ ws (linked ws p q) k h (alike-linked ws p q)
-
 -- a block written from entries
 block-holder : (θ H level back forward : ℕ) (e : ℕ → Entry ℕ) (k : Key) (h : ℕ) → H ≤ θ → ((j : ℕ) → j < 2 ^ H → e j .0 ≤ H)
     → e (index H k) .0 ≡ h → Holder θ (block θ H level back forward e) k h
@@ -177,16 +174,6 @@ module _ (θ : ℕ) (ws : List ℕ) (k : Key) (w : Holder θ ws k θ) (pos : 1 �
       let H : ℕ = pred (depthWord ws 0) in
       let G : ℕ = halfDepth ws b in
       greatest-at (2 ^ H) (λ i. fallen ws b i .0) (j * 2 ^ (H - G)) (rw (add-sub-of-le (shrunk-low b)) at (shl-lt G (H - G) l))
-
-  -- either half, with some other key
-  pub half-any : (b : Bool) (j : Key) → Holder θ (half θ ws b) j (entryDepth (half θ ws b) 0 (number (half θ ws b) j))
-  unfolding half block
-  half-any b j =
-      record {
-        low = omega (arith, half-low b);
-        all = block-holder θ (halfDepth ws b) _ _ _ _ j _ (omega (arith, shrunk-low b, full-depth)) (half-entry b) refl .all;
-        here = refl;
-      }
 
   -- the half that the key is in, by the numbers of its entries
   half-at : (b : Bool) (j : Key) → index (depthWord ws 0) k ≡ halfStart ws b + index (pred (depthWord ws 0)) j

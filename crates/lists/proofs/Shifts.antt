@@ -22,6 +22,10 @@ pub pow-within : (n k m : ℕ) → n ≡ 2 ^ k → k ≤ m → (1 ≤ n) × (n �
 pow-within n k m e h = rw e (omega (arith, pow-pos k), pow-mono h)
 
 -- k steps end before n steps do
+-- n of C parts of w each, and the others
+pub shares : (w n C : ℕ) → n ≤ C → w * n + w * (C - n) ≡ w * C
+shares w n C h = let e : n + (C - n) ≡ C = omega arith in omega (arith, ap (λ (m : ℕ). w * m) e)
+
 pub stride : (k n step : ℕ) → k < n → k * step + step ≤ n * step
 stride k n step h =
     let part : (k + 1) * step ≤ n * step = mul-le-mul-right step (omega arith) in

@@ -13,6 +13,7 @@ use lib.Seq.{length-take-le, drop-at}
 use Rattle.lists.specs.Bits.{bit}
 use Rattle.lists.specs.Lists.{All, replaced}
 use Rattle.lists.specs.Keyed.{Sorted, Prefix, insert}
+use Rattle.lists.proofs.Shifts.{shares}
 use Rattle.lists.proofs.KeyedLaws.{insert-lt, insert-ge}
 use Rattle.tree.specs.Build.{side}
 use Rattle.tree.proofs.BuildLaws.{sides-low, sides-high}
@@ -34,10 +35,6 @@ use Rattle.put.proofs.WordLaws.{row, end, returned, end-cleared, end-wr
 pub width-small : (f : Format) → width f ≤ 64
 unfolding width
 width-small Plots = omega arith
-
--- n records and the rest of C
-pub shares : (w n C : ℕ) → n ≤ C → w * n + w * (C - n) ≡ w * C
-shares w n C h = let e : n + (C - n) ≡ C = omega arith in omega (arith, ap (λ (m : ℕ). w * m) e)
 
 -- room for n records of C, the first i apart, and for one more between those and the others
 module _ (f : Format) (C w n L : ℕ) (is : w ≡ words f) (long : L ≡ pageWords f C) where

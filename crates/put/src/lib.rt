@@ -32,9 +32,9 @@ fn move_up(part: &mut [u32], from: usize, n: usize, by: usize)
 
 // Puts a record in order into a page that has room. Only the records behind it are moved.
 pub fn put_record(part: &mut [u32], f: Format, capacity: u32, item: Item)
-    requires { ⌜ (capacity ≤ 64) × (length (now part) ≡ pageWords f capacity) × (count (now part) < capacity) ⌝ }
+    requires { ⌜ (length (now part) ≡ pageWords f capacity) × (count (now part) < capacity) ⌝ }
     ensures { λ _. ⌜ ((rs : List Item) → now (part .entry) ≡ pageImage f capacity rs → All (λ it. lawfulItem f it ≡ true) rs
-        → Sorted keyOf rs → now (part .exit) ≡ pageImage f capacity (insert keyOf item rs)) ⌝ }
+        → now (part .exit) ≡ pageImage f capacity (insert keyOf item rs)) ⌝ }
 {
     let n = page::count_of(part);
     let i = page::first_above(part, f, true, item.key);
@@ -47,7 +47,7 @@ pub fn put_record(part: &mut [u32], f: Format, capacity: u32, item: Item)
 
 // Writes a page of one record, whole.
 pub fn write_first(part: &mut [u32], f: Format, capacity: u32, item: Item)
-    requires { ⌜ (1 ≤ capacity) × (capacity ≤ 64) × (length (now part) ≡ pageWords f capacity) ⌝ }
+    requires { ⌜ (1 ≤ capacity) × (length (now part) ≡ pageWords f capacity) ⌝ }
     ensures { λ _. ⌜ now (part .exit) ≡ pageImage f capacity (item ∷ []) ⌝ }
 {
     store::clear(part);
@@ -65,7 +65,7 @@ fn bit_set(key: u64, bit: u32) -> bool
 
 // How many records of a page have a bit clear. Keys ascend, so these come first.
 pub fn low_count(page: &[u32], f: Format, bit: u32) -> usize
-    requires { ⌜ (bit < width f) × (count (now page) ≤ 64) ⌝ }
+    requires { ⌜ bit < width f ⌝ }
     ensures { λ r. ⌜ (r ≤ count (now (page .entry)))
         × ((C q : ℕ) (rs : List Item) → now (page .entry) ≡ pageImage f C rs → All (λ it. lawfulItem f it ≡ true) rs → Sorted keyOf rs
         → Prefix keyOf (suc bit) q rs → (take r rs ≡ side keyOf false bit rs) × (drop r rs ≡ side keyOf true bit rs)) ⌝ }

@@ -16,13 +16,12 @@ use Rattle.tree.proofs.TrieLaws.{depth-le-height, height-shape}
 use Rattle.tree.proofs.TowerLaws.{height-cut}
 use Rattle.tree.proofs.NodePromises.{at-key}
 use Rattle.store.specs.declared.Format.{Format}
-use Rattle.store.specs.declared.Format.the-variants.{Plots}
 use Rattle.store.specs.declared.Head.{Head}
 use Rattle.store.specs.Format.{width}
 use Rattle.store.specs.Head.{headOf, nodeStart}
 use Rattle.node.specs.Node.{depthWord, entryOf, nodeRule, entryNumber}
 use Rattle.node.proofs.EntryNumber.{entry-index, entry-below}
-use Rattle.store.proofs.HeadLaws.{sizes-limits}
+use Rattle.store.proofs.HeadLaws.{sizes-limits, width-within}
 use Rattle.search.specs.declared.Step.{Step}
 use Rattle.search.specs.Descent.{noStep, noSteps, stepTaken, descend, descent}
 use Rattle.search.proofs.DescentLaws.{visit-entry, turn-on}
@@ -93,10 +92,6 @@ above-length (suc n) θ (fork l r) h = omega (arith, above-length n θ (cut θ (
 tower-length : (θ : ℕ) (t : Shape) → 1 ≤ θ → length (tower θ t) ≤ max 1 (height t)
 unfolding tower
 tower-length θ t h = omega (arith, above-length (height t) θ (cut θ t) h, height-cut θ t)
-
-width-within : (f : Format) → width f ≤ 32
-unfolding width
-width-within Plots = omega arith
 
 module _ (f : Format) (s : List ℕ) (b0 : Trie Stretch) (bs : List (Trie ℕ)) (r : Rep f s b0 bs) where
   abbrev h : Head

@@ -320,15 +320,11 @@ module _ (n i x : ℕ) (h p : List ℕ) (room-h : i - i % n + n ≤ length h) (r
       room : s + n / 2 + (n - n / 2) ≤ length left
       room = omega (arith, length-filled s (n / 2) a p room-a)
 
--- a node by value, with the run of entry i written by g into its arrays
-module _ (θ : ℕ) (n : Node) (i m : ℕ) (small : n .depth ≤ 6) (high : n .depth ≤ θ) (below : i < 2 ^ n .depth)
-    (run : m ≡ 2 ^ (n .depth - getD (n .h) i 0)) (long-h : length (n .h) ≡ 64) (long-p : length (n .p) ≡ 64) (k : Key)
-    (at-key : index (n .depth) k ≡ i) where
+-- a node by value, with the run of entry i, m entries from s on, written by g into its arrays
+module _ (θ : ℕ) (n : Node) (i m s : ℕ) (high : n .depth ≤ θ) (run : m ≡ 2 ^ (n .depth - getD (n .h) i 0)) (start : s ≡ i - i % m)
+    (room : s + m ≤ 64) (long-h : length (n .h) ≡ 64) (long-p : length (n .p) ≡ 64) (k : Key) (at-key : index (n .depth) k ≡ i) where
   abbrev valued : List ℕ → List ℕ → List ℕ
   valued h p = block θ (n .depth) (n .level) (n .back) (n .forward) (λ j. (getD h j 0, getD p j 0))
-
-  room : i - i % m + m ≤ 64
-  room = run-room (n .depth) (getD (n .h) i 0) i m small below run .1
 
   run-value : (g : ℕ → ℕ → ℕ → Entry ℕ) (h p : List ℕ)
       → ((j : ℕ) → (getD h j 0, getD p j 0) ≡ overRun m i (g m (getD (n .h) i 0)) (entryIn n) j)
@@ -339,23 +335,26 @@ module _ (θ : ℕ) (n : Node) (i m : ℕ) (small : n .depth ≤ 6) (high : n .d
       at j ∙ ap (λ w. overRun w i (g w (getD (n .h) i 0)) (entryIn n) j) run
       ∙ ap (λ x. runBy (n .depth) (entryIn n) x g j) (sym at-key))
 
-  pub aimed-value : (q : ℕ) (h p : List ℕ) → h ≡ filled (i - i % m) m (getD (n .h) i 0) (n .h) → p ≡ filled (i - i % m) m q (n .p)
+  pub aimed-value : (q : ℕ) (h p : List ℕ) → h ≡ filled s m (getD (n .h) i 0) (n .h) → p ≡ filled s m q (n .p)
       → valued h p ≡ aim θ (blockOf θ n) k q
   aimed-value q h p eh ep =
       run-value (λ w x j. (x, q)) h p
       (λ j.
-      ap₂ (λ y z. (getD y j 0, getD z j 0)) eh ep
-      ∙ aimed-entry m i (getD (n .h) i 0) (n .h) (n .p) (omega (arith, room)) (omega (arith, room)) j q)
+      ap₂ (λ y z. (getD y j 0, getD z j 0)) (eh ∙ ap (λ t. filled t m (getD (n .h) i 0) (n .h)) start)
+      (ep ∙ ap (λ t. filled t m q (n .p)) start)
+      ∙ aimed-entry m i (getD (n .h) i 0) (n .h) (n .p) (omega arith) (omega arith) j q)
       ∙ sym (aim-read (value-read θ n high) θ k q)
 
-  pub halved-value : (a c : ℕ) (h l p : List ℕ) → h ≡ filled (i - i % m) m (getD (n .h) i 0 + 1) (n .h)
-      → l ≡ filled (i - i % m) (m / 2) a (n .p) → p ≡ filled (i - i % m + m / 2) (m - m / 2) c l
+  pub halved-value : (a c : ℕ) (h l p : List ℕ) → h ≡ filled s m (getD (n .h) i 0 + 1) (n .h)
+      → l ≡ filled s (m / 2) a (n .p) → p ≡ filled (s + m / 2) (m - m / 2) c l
       → valued h p ≡ halveRun θ (blockOf θ n) k a c
   halved-value a c h l p eh el ep =
       run-value (λ w x. halves w x a c) h p
       (λ j.
-      ap₂ (λ y z. (getD y j 0, getD z j 0)) eh (ep ∙ ap (λ z. filled (i - i % m + m / 2) (m - m / 2) c z) el)
-      ∙ halved-entry m i (getD (n .h) i 0) (n .h) (n .p) (omega (arith, room)) (omega (arith, room)) j a c)
+      ap₂ (λ y z. (getD y j 0, getD z j 0)) (eh ∙ ap (λ t. filled t m (getD (n .h) i 0 + 1) (n .h)) start)
+      (ep ∙ ap (λ z. filled (s + m / 2) (m - m / 2) c z) el
+      ∙ ap (λ t. filled (t + m / 2) (m - m / 2) c (filled t (m / 2) a (n .p))) start)
+      ∙ halved-entry m i (getD (n .h) i 0) (n .h) (n .p) (omega arith) (omega arith) j a c)
       ∙ sym (halve-read (value-read θ n high) θ k a c)
 
 -- a node with each entry twice
@@ -463,7 +462,7 @@ module _ (θ : ℕ) (x : Node) {ws : List ℕ} (e : blockOf θ x ≡ ws) where
   unfolding blockOf block
   first-word = ap (λ b. depthWord b 0) e
 
-  link-words : (x .back ≡ backWord ws 0) × (x .forward ≡ forwardWord ws 0)
+  pub link-words : (x .back ≡ backWord ws 0) × (x .forward ≡ forwardWord ws 0)
   unfolding blockOf block
   link-words = (ap (λ b. backWord b 0) e, ap (λ b. forwardWord b 0) e)
 

@@ -1,10 +1,11 @@
 -- The words of a block's image fill the block: its entries or records, and zeros for those that are not in use.
-use mathlib.Core.Path.{_≡_, ap}
+use mathlib.Core.Path.{_≡_}
 use mathlib.Core.List.{List}
-use Prim.Native.Nat.{ℕ, _+_, _-_, _*_, _^_, _≤_}
+use Prim.Native.Nat.{ℕ, _-_, _*_, _^_, _≤_}
 use native.Mathlib.Omega.{arith}
 use lib.ListN.{length, replicate, length-append, length-replicate}
 use lib.Pow.{pow-mono}
+use Rattle.lists.proofs.Shifts.{shares}
 use Rattle.tree.specs.Trie.{Trie, height}
 use Rattle.tree.specs.Node.{Entry, flatten}
 use Rattle.tree.proofs.Flatten.{length-flatten}
@@ -30,9 +31,6 @@ length-nodeImage θ level back forward v h =
       pow-mono {i = height v} {j = θ} h,
     )
 
-shares : (w n i C : ℕ) → n + i ≡ C → w * n + w * i ≡ w * C
-shares w n i C e = omega (arith, ap (λ (m : ℕ). w * m) e)
-
 pub length-pageImage : (f : Format) (C : ℕ) (rs : List Item) → length rs ≤ C → length (pageImage f C rs) ≡ pageWords f C
 unfolding pageImage pageWords
 length-pageImage f C rs h =
@@ -41,5 +39,5 @@ length-pageImage f C rs h =
       length-append (flat f rs) (replicate (words f * (C - length rs)) 0),
       length-flat f rs,
       length-replicate {A = ℕ} (words f * (C - length rs)) 0,
-      shares (words f) (length rs) (C - length rs) C (omega arith),
+      shares (words f) (length rs) C h,
     )

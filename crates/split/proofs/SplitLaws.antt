@@ -1,5 +1,6 @@
 -- A split node, by the next bit of the key: that bit is the entry that the key takes in a node of depth 1.
 use mathlib.Core.Path.{_≡_, refl, sym, ap, _∙_, subst}
+use lib.Dec.{ltb}
 use lib.ListN.{getD}
 use mathlib.Core.Bool.{Bool, true, false}
 use mathlib.Core.List.{List, [], _∷_}
@@ -12,12 +13,12 @@ use Rattle.lists.proofs.BitLaws.{drop-bits}
 use Rattle.tree.specs.Trie.{Key}
 use Rattle.store.specs.declared.Format.{Format}
 use Rattle.store.specs.Format.{width}
-use Rattle.node.specs.Node.{depthWord, entryNumber}
+use Rattle.node.specs.Node.{depthWord, backWord, forwardWord, entryDepth, entryNumber}
 use Rattle.node.proofs.EntryNumber.{entry-index}
-use Rattle.split.specs.Block.{grow, half, lower, upper}
+use Rattle.split.specs.Block.{block, number, halveRun, double, grow, half, lower, upper}
 use Rattle.split.specs.declared.Node.{Node}
-use Rattle.split.specs.Value.{own, Reached}
-use Rattle.split.proofs.GrowLaws.{Loaded, own-half}
+use Rattle.split.specs.Value.{blockOf, own, Reached}
+use Rattle.split.proofs.GrowLaws.{Loaded, own-half, link-words}
 
 -- the entry that a key takes, by the bits that are left
 pub entry-at : (W k used H : ℕ) {i : ℕ} → used + H ≤ W → k < 2 ^ W → i ≡ entryNumber W k used H → index H (bits (W - used) k) ≡ i
@@ -101,3 +102,45 @@ module _ (f : Format) (θ : ℕ) (ws : List ℕ) (key used : ℕ) (some : 1 ≤ 
 
     pub upper-of : y ≡ upper θ x k a c → x ≡ own θ ws → y ≡ upper θ ws k a c
     upper-of e g = e ∙ ap (λ b. upper θ b k a c) g ∙ own-upper k a c
+
+-- a run halved, and a half, keep the links
+abbrev SameLinks : List ℕ → List ℕ → Type 0
+SameLinks ws vs = (backWord vs 0 ≡ backWord ws 0) × (forwardWord vs 0 ≡ forwardWord ws 0)
+
+module _ (θ : ℕ) (a c : ℕ) where
+  grow-links : (ws : List ℕ) (k : Key) → SameLinks ws (grow θ ws k a c)
+  unfolding grow halveRun double block
+  grow-links ws k =
+      elim (ltb (entryDepth ws 0 (number ws k)) (depthWord ws 0))
+      as (λ b. SameLinks ws (elim b [ true ↦ halveRun θ ws k a c | false ↦ halveRun θ (double θ ws) k a c ])) [
+        | true ↦ (refl, refl)
+        | false ↦ (refl, refl)
+      ]
+
+  half-links : (ws : List ℕ) (b : Bool) → SameLinks ws (half θ ws b)
+  unfolding half block
+  half-links ws b = (refl, refl)
+
+  both-links : (ws : List ℕ) (b : Bool) (k : Key) → SameLinks ws (grow θ (half θ ws b) k a c)
+  both-links ws b k =
+      let g = grow-links (half θ ws b) k in
+      let h = half-links ws b in
+      (g .0 ∙ h .0, g .1 ∙ h .1)
+
+  lower-links : (ws : List ℕ) (k : Key) → SameLinks ws (lower θ ws k a c)
+  unfolding lower
+  lower-links ws [] = both-links ws false []
+  lower-links ws (false ∷ k) = both-links ws false k
+  lower-links ws (true ∷ k) = half-links ws false
+
+  upper-links : (ws : List ℕ) (k : Key) → SameLinks ws (upper θ ws k a c)
+  unfolding upper
+  upper-links ws [] = half-links ws true
+  upper-links ws (false ∷ k) = half-links ws true
+  upper-links ws (true ∷ k) = both-links ws true k
+
+  pub lower-back : (ws : List ℕ) (k : Key) (x : Node) → blockOf θ x ≡ lower θ ws k a c → x .back ≡ backWord ws 0
+  lower-back ws k x e = link-words θ x e .0 ∙ lower-links ws k .0
+
+  pub upper-forward : (ws : List ℕ) (k : Key) (x : Node) → blockOf θ x ≡ upper θ ws k a c → x .forward ≡ forwardWord ws 0
+  upper-forward ws k x e = link-words θ x e .1 ∙ upper-links ws k .1

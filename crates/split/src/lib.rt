@@ -4,7 +4,7 @@ use store::Head;
 ghost use mathlib.Core.Path.{_≡_};
 ghost use mathlib.Core.Bool.{Bool, true, false};
 ghost use mathlib.Core.List.{List, _++_};
-ghost use Prim.Native.Nat.{ℕ, pred, _+_, _-_, _*_, _/_, _^_, _≤_, _<_};
+ghost use Prim.Native.Nat.{ℕ, pred, _+_, _-_, _*_, _/_, _%_, _^_, _≤_, _<_};
 ghost use lib.ListN.{length, drop, getD, replicate};
 ghost use Rattle.lists.specs.Bits.{bits, index};
 ghost use Rattle.lists.specs.Lists.{tab, greatest, replaced};
@@ -92,15 +92,25 @@ fn fill(a: [u32; 64], from: usize, n: usize, x: u32) -> [u32; 64]
     b
 }
 
-// How many entries the run of an entry has, by the node's depth and the entry's local depth.
-fn run_length(depth: u32, local: u32) -> usize
-    requires { ⌜ depth ≤ 6 ⌝ }
-    ensures { λ r. ⌜ (r ≡ 2 ^ (depth - local)) × (1 ≤ r) × (r ≤ 64) ⌝ }
+// A run of entries: where it begins, and how many they are.
+struct Run {
+    start: usize,
+    n: usize,
+}
+
+// The run of entry i, by the node's depth and the entry's local depth. A run of more local depth than the node has is one entry.
+fn run_of(depth: u32, local: u32, i: usize) -> Run
+    requires { ⌜ (depth ≤ 6) × (i < 2 ^ depth) ⌝ }
+    ensures { λ r. ⌜ (r .n ≡ 2 ^ (depth - local)) × (r .start ≡ i - i % r .n) × (r .start + r .n ≤ 64) ⌝ }
 {
-    if depth < local {
-        return 1;
+    let mut n: usize = 1;
+    if local < depth {
+        n = store::pow2(depth - local);
     }
-    store::pow2(depth - local)
+    Run {
+        start: i - i % n,
+        n,
+    }
 }
 
 // The run of entry i halved, with the pointers a and c.
@@ -110,9 +120,8 @@ fn halved(theta: u32, node: Node, i: usize, a: u32, c: u32) -> Node
         × (r .depth ≡ node .depth) ⌝ }
 {
     let local = node.h[i];
-    let n = run_length(node.depth, local);
-    let start = i - i % n;
-    let m = n / 2;
+    let run = run_of(node.depth, local, i);
+    let m = run.n / 2;
     let h = node.h;
     let p = node.p;
     Node {
@@ -120,8 +129,8 @@ fn halved(theta: u32, node: Node, i: usize, a: u32, c: u32) -> Node
         level: node.level,
         back: node.back,
         forward: node.forward,
-        h: fill(h, start, n, local + 1),
-        p: fill(fill(p, start, m, a), start + m, n - m, c),
+        h: fill(h, run.start, run.n, local + 1),
+        p: fill(fill(p, run.start, m, a), run.start + m, run.n - m, c),
     }
 }
 
@@ -302,18 +311,17 @@ fn aimed(theta: u32, node: Node, i: usize, q: u32) -> Node
     ensures { λ r. ⌜ ((k : Key) → index (node .depth) k ≡ i → blockOf theta r ≡ aim theta (blockOf theta node) k q)
         × (r .depth ≡ node .depth) ⌝ }
 {
-    let n = run_length(node.depth, node.h[i]);
-    let start = i - i % n;
+    let local = node.h[i];
+    let run = run_of(node.depth, local, i);
     let h = node.h;
     let p = node.p;
-    let local = node.h[i];
     Node {
         depth: node.depth,
         level: node.level,
         back: node.back,
         forward: node.forward,
-        h: fill(h, start, n, local),
-        p: fill(p, start, n, q),
+        h: fill(h, run.start, run.n, local),
+        p: fill(p, run.start, run.n, q),
     }
 }
 
@@ -359,6 +367,26 @@ fn put_node(store: &mut [u32], head: Head, n: u32, node: Node)
     write_node(&mut store[at..end], head.theta, node);
 }
 
+// A node and the entry that a key takes in it.
+struct Opened {
+    node: Node,
+    i: usize,
+}
+
+// Node n, which a key comes to with so many bits used.
+fn open_node(store: &[u32], f: Format, head: Head, n: u32, key: u64, used: u32) -> Opened
+    requires { ⌜ (head .theta ≤ 6) × (nodeStart head n + nodeWords (head .theta) ≤ length (now store)) × (key < 2 ^ width f)
+        × Reached f (head .theta) (nodeAt (now store) head n) key used ⌝ }
+    ensures { λ r. ⌜ (blockOf (head .theta) (r .node) ≡ own (head .theta) (nodeAt (now (store .entry)) head n))
+        × (r .node .depth ≡ depthWord (nodeAt (now (store .entry)) head n) 0)
+        × (index (r .node .depth) (bits (width f - used) key) ≡ r .i)
+        × (getD (r .node .h) (r .i) 0 ≡ localAt (nodeAt (now (store .entry)) head n) (bits (width f - used) key)) ⌝ }
+{
+    let node = node_at(store, head, n);
+    let i = node::entry_number(f, key, used, node.depth);
+    Opened { node, i }
+}
+
 // The run at the key halved, in node n where it stands.
 pub fn grow_block(
     store: &mut [u32],
@@ -376,9 +404,8 @@ pub fn grow_block(
     ensures { λ _. ⌜ now (store .exit) ≡ replaced (nodeStart head n) (nodeWords (head .theta))
         (grow (head .theta) (nodeAt (now (store .entry)) head n) (bits (width f - used) key) a c) (now (store .entry)) ⌝ }
 {
-    let node = node_at(store, head, n);
-    let i = node::entry_number(f, key, used, node.depth);
-    put_node(store, head, n, grown(head.theta, node, i, a, c));
+    let at = open_node(store, f, head, n, key, used);
+    put_node(store, head, n, grown(head.theta, at.node, at.i, a, c));
 }
 
 // The run at the key pointing to q, in node n where it stands.
@@ -388,9 +415,33 @@ pub fn aim_block(store: &mut [u32], f: Format, head: Head, n: u32, key: u64, use
     ensures { λ _. ⌜ now (store .exit) ≡ replaced (nodeStart head n) (nodeWords (head .theta))
         (aim (head .theta) (nodeAt (now (store .entry)) head n) (bits (width f - used) key) q) (now (store .entry)) ⌝ }
 {
+    let at = open_node(store, f, head, n, key, used);
+    put_node(store, head, n, aimed(head.theta, at.node, at.i, q));
+}
+
+// The halves of full node n, split at a key.
+fn halves_of(
+    store: &[u32],
+    f: Format,
+    head: Head,
+    n: u32,
+    key: u64,
+    used: u32,
+    a: u32,
+    c: u32,
+) -> Halves
+    requires { ⌜ (1 ≤ head .theta) × (head .theta ≤ 6) × (nodeStart head n + nodeWords (head .theta) ≤ length (now store))
+        × (key < 2 ^ width f) × Reached f (head .theta) (nodeAt (now store) head n) key used
+        × (depthWord (nodeAt (now store) head n) 0 ≡ head .theta) ⌝ }
+    ensures { λ r. ⌜ (blockOf (head .theta) (r .lower)
+        ≡ lower (head .theta) (nodeAt (now (store .entry)) head n) (bits (width f - used) key) a c)
+        × (blockOf (head .theta) (r .upper) ≡ upper (head .theta) (nodeAt (now (store .entry)) head n) (bits (width f - used) key) a c)
+        × (r .lower .depth ≤ head .theta) × (r .upper .depth ≤ head .theta)
+        × (r .lower .back ≡ backWord (nodeAt (now (store .entry)) head n) 0)
+        × (r .upper .forward ≡ forwardWord (nodeAt (now (store .entry)) head n) 0) ⌝ }
+{
     let node = node_at(store, head, n);
-    let i = node::entry_number(f, key, used, node.depth);
-    put_node(store, head, n, aimed(head.theta, node, i, q));
+    split_node(head.theta, node, f, key, used, a, c)
 }
 
 // Full node n split: the left half keeps its block, the right half is written into block m.
@@ -413,8 +464,7 @@ pub fn split_block(
         (replaced (nodeStart head n) (nodeWords (head .theta))
         (lower (head .theta) (nodeAt (now (store .entry)) head n) (bits (width f - used) key) a c) (now (store .entry))) ⌝ }
 {
-    let node = node_at(store, head, n);
-    let halves = split_node(head.theta, node, f, key, used, a, c);
+    let halves = halves_of(store, f, head, n, key, used, a, c);
     put_node(store, head, n, halves.lower);
     put_node(store, head, m, halves.upper);
 }
@@ -441,10 +491,9 @@ pub fn split_linked(
         (linked (lower (head .theta) (nodeAt (now (store .entry)) head n) (bits (width f - used) key) a c)
         (backWord (nodeAt (now (store .entry)) head n) 0) m) (now (store .entry))) ⌝ }
 {
-    let node = node_at(store, head, n);
-    let back = node.back;
-    let forward = node.forward;
-    let halves = split_node(head.theta, node, f, key, used, a, c);
+    let halves = halves_of(store, f, head, n, key, used, a, c);
+    let back = halves.lower.back;
+    let forward = halves.upper.forward;
     put_node(store, head, n, with_links(halves.lower, back, m));
     put_node(store, head, m, with_links(halves.upper, n, forward));
 }

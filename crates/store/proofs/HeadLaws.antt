@@ -100,7 +100,7 @@ sizes-last θ C N P l =
     simp
     (le-leb _ _ (l .0), le-leb _ _ (l .1), le-leb _ _ (l .2), le-leb _ _ (l .3), le-leb _ _ (l .4), le-leb _ _ (l .5), le-leb _ _ (l .6))
 
-pub width-within : (f : Format) → width f ≤ 64
+pub width-within : (f : Format) → width f ≤ 32
 unfolding width
 width-within Plots = omega arith
 

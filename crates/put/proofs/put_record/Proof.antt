@@ -28,8 +28,8 @@ room c =
     let n = c .before .before .before .count-of in
     let start = c .before .before .before .before .before .before in
     let a = start .args in
-    room-more (a .f) (a .capacity) (c .words-of .result) (n .result) (length (a .part .now)) (c .words-of .ensures .0) (start .pre .1)
-    (c .before .first-above .result) (within (c .before)) (omega (arith, n .ensures .0, start .pre .2))
+    room-more (a .f) (a .capacity) (c .words-of .result) (n .result) (length (a .part .now)) (c .words-of .ensures .0) (start .pre .0)
+    (c .before .first-above .result) (within (c .before)) (omega (arith, n .ensures .0, start .pre .1))
 
 count-of-requires : tie.Need-count-of-requires
 count-of-requires c κs = search needs
@@ -107,7 +107,7 @@ same-length c =
     length-set (written i) 0 _ ∙ written-long i ∙ moved-long (i .before .before .before .before)
 
 returns : tie.Need-returns
-returns c rs is lawful sorted =
+returns c rs is lawful =
     let i = c .before .before in
     let m = i .before .before .before .before in
     let w = m .before .before in
@@ -117,7 +117,7 @@ returns c rs is lawful sorted =
     let a = start .args in
     let size : n .count-of .result ≡ length rs = n .count-of .ensures .0 ∙ page-count (a .f) (a .capacity) (a .part .now) rs is in
     put-words (a .f) (a .capacity) rs (a .item) (a .part .now) (m .move-up .last .0) (i .write-item .last .0) (w .words-of .result)
-    (n .count-of .result) (first .first-above .result) is (within first) (omega (arith, n .count-of .ensures .0, start .pre .2)) size
+    (n .count-of .result) (first .first-above .result) is (within first) (omega (arith, n .count-of .ensures .0, start .pre .1)) size
     (w .words-of .ensures .0) (m .move-up .ensures) (i .write-item .ensures)
     ∙ ap (pageImage (a .f) (a .capacity))
     (sym (insert-first (a .f) (a .capacity) (a .part .now) rs is lawful (a .item) _ (first .first-above .ensures .0)))

@@ -18,7 +18,7 @@ room : (c : tie.After-clear) → 1 + words (c .before .before .before .args .f) 
 room c =
     let start = c .before .before .before in
     let a = start .args in
-    omega (arith, long c, room-for (a .f) (a .capacity) _ 1 (length (a .part .now)) refl (start .pre .2) (start .pre .0))
+    omega (arith, long c, room-for (a .f) (a .capacity) _ 1 (length (a .part .now)) refl (start .pre .1) (start .pre .0))
 
 clear-requires : tie.Need-clear-requires
 clear-requires c κs = search needs
@@ -54,7 +54,7 @@ returns c =
     let start = r .before .before .before in
     let a = start .args in
     first-words (a .f) (a .capacity) (a .item) (a .part .now) (set (r .clear .last .0) 0 1) (w .write-item .last .0) (start .pre .0)
-    (start .pre .2) (ap (λ l. set l 0 1) (r .clear .ensures)) (w .write-item .ensures)
+    (start .pre .1) (ap (λ l. set l 0 1) (r .clear .ensures)) (w .write-item .ensures)
 
 pub write-first-spec : {M : Type 1} → statement M
 write-first-spec =
