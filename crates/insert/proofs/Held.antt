@@ -30,12 +30,7 @@ use Rattle.split.proofs.GrowLaws.{here-low}
 use Rattle.split.specs.Block.{block, overRun, halves, number, runLength, halveRun, double, grow, halfStart, fallen, halfDepth, half}
 use Rattle.split.specs.Block.{lower, upper, linked, top}
 use Rattle.split.proofs.EntryLaws.{block-entry}
-
-abbrev pub Held : ℕ → List ℕ → List Place → Type 0
-Held θ s path = All (λ p. Holder θ (nodeOf s (p .at)) (p .bits) (p .depth)) path
-
-abbrev pub Apart : List Place → Type 0
-Apart path = Pairwise (λ p q. p .at ≡ q .at → ⊥) path
+use Rattle.insert.specs.Fine.{}
 
 -- links do not matter
 pub record Alike (ws vs : List ℕ) : Type 0 where

@@ -27,12 +27,13 @@ use Rattle.split.proofs.RoundLaws.{round-room, round-full}
 use Rattle.insert.proofs.Turned.{turned, turned-slack, turned-full}
 use Rattle.split.specs.Value.{Holder}
 use Rattle.split.proofs.GrowLaws.{here-low}
-use Rattle.insert.proofs.Held.{Held, Apart, Alike, alike-is, alike-then, holder-alike, grow-holder, split-holder}
+use Rattle.insert.proofs.Held.{Alike, alike-is, alike-then, holder-alike, grow-holder, split-holder}
 use Rattle.insert.proofs.Held.{top-holder}
-use Rattle.insert.proofs.InsideWrites.{Off, Among, grown-now, grown-here, halve-now, halve-lower, halve-upper, root-now, among-more}
-use Rattle.insert.proofs.InsideWrites.{depths, climb-now}
-use Rattle.insert.proofs.InsideRound.{Led, chosen-either, turned-in, off-among, first-now, first-lower, first-upper}
+use Rattle.insert.proofs.InsideWrites.{grown-now, grown-here, halve-now, halve-lower, halve-upper, root-now, among-more}
+use Rattle.insert.proofs.InsideWrites.{climb-now}
+use Rattle.insert.proofs.InsideRound.{chosen-either, turned-in, off-among, first-now, first-lower, first-upper}
 use Rattle.insert.proofs.InsideRound.{first-other, round-turned}
+use Rattle.insert.specs.Fine.{Off, Among, Led, Held, Apart, depths}
 
 abbrev pub Beside : ℕ → List Place → Type 0
 Beside x = All (λ q. x ≡ q .at → ⊥)
@@ -84,26 +85,26 @@ module _ (f : Format) (θ : ℕ) where
   abbrev ClimbHeld : List Place → Type 0
   ClimbHeld path =
       (k : Key) (s : List ℕ) (a c : ℕ) → 1 ≤ θ → Sized f s → headOf s .theta ≡ θ → Among (headOf s .nodesTaken) path
-      → headOf s .nodesTaken ≤ headOf s .nodeBlocks → headOf s .nodesTaken + bumpCost θ (depths f θ path) ≤ headOf s .nodeBlocks
+      → headOf s .nodesTaken ≤ headOf s .nodeBlocks → headOf s .nodesTaken + bumpCost θ (depths path) ≤ headOf s .nodeBlocks
       → Held θ s path → Apart path
       → Held θ (climb (nodeOps θ) (wordStore f θ) θ k s path a c .store) (climb (nodeOps θ) (wordStore f θ) θ k s path a c .path)
 
   above-held : (s t : List ℕ) (p : Place) (path : List Place) (k : Key) (a c : ℕ) → 1 ≤ θ → headOf s .theta ≡ θ
       → Among (headOf s .nodesTaken) (p ∷ path) → θ ≤ p .depth
-      → headOf s .nodesTaken + bumpCost θ (depths f θ (p ∷ path)) ≤ headOf s .nodeBlocks → Held θ s (p ∷ path) → Apart (p ∷ path)
+      → headOf s .nodesTaken + bumpCost θ (depths (p ∷ path)) ≤ headOf s .nodeBlocks → Held θ s (p ∷ path) → Apart (p ∷ path)
       → Cut s t p a c → ClimbHeld path
       → Held θ (climb (nodeOps θ) (wordStore f θ) θ k t path (p .at) (suc (headOf s .nodesTaken)) .store)
       (inHalf θ p (suc (headOf s .nodesTaken))
       ∷ climb (nodeOps θ) (wordStore f θ) θ k t path (p .at) (suc (headOf s .nodesTaken)) .path)
   above-held s t p path k a c pos own among full room held apart w climbs =
-      let cost = bump-full θ (p .depth) (depths f θ path) full .1 in
+      let cost = bump-full θ (p .depth) (depths path) full .1 in
       let ws : List ℕ = nodeOf s (p .at) in
       let m : ℕ = suc (headOf s .nodesTaken) in
       let v : List ℕ = climb (nodeOps θ) (wordStore f θ) θ k t path (p .at) m .store in
       let own-t : headOf t .theta ≡ θ = w .kept .sizes-same .theta ∙ own in
       let in-t = among-more f θ (headOf s .nodesTaken) (headOf t .nodesTaken) path (omega (arith, w .taken)) (among .1) in
       let fits-t : headOf t .nodesTaken ≤ headOf t .nodeBlocks = omega (arith, w .taken, w .kept .sizes-same .nodes, cost) in
-      let room-t : headOf t .nodesTaken + bumpCost θ (depths f θ path) ≤ headOf t .nodeBlocks =
+      let room-t : headOf t .nodesTaken + bumpCost θ (depths path) ≤ headOf t .nodeBlocks =
       omega (arith, w .taken, w .kept .sizes-same .nodes, cost) in
       let up = climb-now f θ path k t (p .at) m (w .kept .sized) own-t in-t fits-t room-t .0 in
       let e : p .depth ≡ θ = omega (arith, here-low θ ws (p .bits) (p .depth) (held .0), held .0 .low) in (
@@ -131,7 +132,7 @@ module _ (f : Format) (θ : ℕ) where
             (grown-held s p path a c ok own among fits h held apart)
         | no h ↦
             let full : θ ≤ p .depth = omega arith in
-            let more : headOf s .nodesTaken < headOf s .nodeBlocks = omega (arith, bump-full θ (p .depth) (depths f θ path) full .1) in
+            let more : headOf s .nodesTaken < headOf s .nodeBlocks = omega (arith, bump-full θ (p .depth) (depths path) full .1) in
             let z = halve-now f θ s p a c ok own (among .0) more in
             let t : List ℕ = splitNode (nodeOps θ) (wordStore f θ) s p a c in
             subst (λ r. Held θ (r .store) (r .path)) (sym (climb-full (nodeOps θ) (wordStore f θ) θ k s p a c path full))
@@ -159,7 +160,7 @@ module _ (f : Format) (θ : ℕ) where
               let off : (x : ℕ) → x ≤ suc m → Off x path → Beside x (turned θ key (suc m) path) =
               λ x high o.
               off-beside x (turned θ key (suc m) path)
-              (turned-in f θ key path (suc m) x (suc m + bumpCost θ (depths f θ path)) more o high (omega arith) .1) in
+              (turned-in f θ key path (suc m) x (suc m + bumpCost θ (depths path)) more o high (omega arith) .1) in
               subst Apart (sym (turned-full θ key m p path (omega arith))) (
                 chosen-either (λ x. Beside x (turned θ key (suc m) path)) (p .bits) (p .at) (suc m)
                     (off (p .at) (omega (arith, among .0 .1)) (beside-off (p .at) path (apart .0)))
@@ -170,7 +171,7 @@ module _ (f : Format) (θ : ℕ) where
 
     pub round-held : (path : List Place) (s : List ℕ) (a c : ℕ) → 1 ≤ θ → Sized f s → headOf s .theta ≡ θ → Led s path
         → headOf s .nodesTaken ≤ headOf s .nodeBlocks
-        → headOf s .nodesTaken + bumpCost θ (depths f θ path) ≤ headOf s .nodeBlocks
+        → headOf s .nodesTaken + bumpCost θ (depths path) ≤ headOf s .nodeBlocks
         → Held θ s path → Apart path
         → Held θ (round (nodeOps θ) (wordStore f θ) θ key s path a c .store) (round (nodeOps θ) (wordStore f θ) θ key s path a c .path)
         × Apart (round (nodeOps θ) (wordStore f θ) θ key s path a c .path)
@@ -182,7 +183,7 @@ module _ (f : Format) (θ : ℕ) where
             (grown-held s p path a c ok own ((led .0, led .1), led .2) fits h held apart)
         | no h ↦
             let full : θ ≤ p .depth = omega arith in
-            let more : headOf s .nodesTaken < headOf s .nodeBlocks = omega (arith, bump-full θ (p .depth) (depths f θ path) full .1) in
+            let more : headOf s .nodesTaken < headOf s .nodeBlocks = omega (arith, bump-full θ (p .depth) (depths path) full .1) in
             let w = first-now f θ key s p a c ok own (led .0, led .1) more (led .4) in
             subst (λ r. Held θ (r .store) (r .path)) (sym (round-full (nodeOps θ) (wordStore f θ) θ key s p path a c full))
             (above-held s (splitFirst (nodeOps θ) (wordStore f θ) s p a c) p path key a c pos own ((led .0, led .1), led .2) full room

@@ -1,3 +1,4 @@
 pub mod Enter
+pub mod Fine
 pub mod Promises
 pub mod Example
