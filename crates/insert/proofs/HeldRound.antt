@@ -38,7 +38,7 @@ use Rattle.insert.specs.Fine.{Off, Among, Led, Held, Apart, depths}
 abbrev pub Beside : ℕ → List Place → Type 0
 Beside x = All (λ q. x ≡ q .at → ⊥)
 
-beside-off : (x : ℕ) (path : List Place) → Beside x path → Off x path
+pub beside-off : (x : ℕ) (path : List Place) → Beside x path → Off x path
 beside-off x path = all-map (λ q. x ≡ q .at → ⊥) (λ q. q .at ≡ x → ⊥) path (λ q n e. n (sym e))
 
 pub off-beside : (x : ℕ) (path : List Place) → Off x path → Beside x path

@@ -15,5 +15,7 @@ pub mod InsideRound
 pub mod HeldRound
 pub mod InsideWay
 pub mod InsideEnter
+pub mod FoundPath
+pub mod FoundClimb
 pub mod Promises
 pub mod Example
