@@ -17,5 +17,6 @@ pub mod InsideWay
 pub mod InsideEnter
 pub mod FoundPath
 pub mod FoundClimb
+pub mod FoundRound
 pub mod Promises
 pub mod Example
