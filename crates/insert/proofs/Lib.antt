@@ -18,5 +18,6 @@ pub mod InsideEnter
 pub mod FoundPath
 pub mod FoundClimb
 pub mod FoundRound
+pub mod FoundWay
 pub mod Promises
 pub mod Example

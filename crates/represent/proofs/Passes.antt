@@ -63,7 +63,7 @@ over-each P Q b u g h =
     let w = over-in (λ n v. P n v × ((x : ℕ) → occ x v ≤ occ x u)) b u n o (over-parts P b u h) in
     g n (w .0) o (w .1 .1) (w .1 .0))
 
-node-passes : (h : Head) (s : List ℕ) (at level : ℕ) (v : Trie ℕ) → Shown s at (h .theta) level v
+pub node-passes : (h : Head) (s : List ℕ) (at level : ℕ) (v : Trie ℕ) → Shown s at (h .theta) level v
     → ((x : ℕ) → 1 ≤ occ x v → (pointerLow level ≤ x) × (x ≤ pointerHigh h level))
     → linkRule h level (backWord s at) (forwardWord s at) ≡ true
     → nodeRule h s at level ≡ true

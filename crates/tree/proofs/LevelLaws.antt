@@ -30,7 +30,7 @@ pow-logBelow (suc n) C h =
 
 module _ {R : Type 0} (key : R → ℕ) (C : ℕ) where
   -- more than C records have more than f bits left
-  bits-left : 1 ≤ C → (w q : ℕ) (rs : List R) → Sorted key rs → Prefix key w q rs → C < length rs → log2 C < w
+  pub bits-left : 1 ≤ C → (w q : ℕ) (rs : List R) → Sorted key rs → Prefix key w q rs → C < length rs → log2 C < w
   bits-left c w q rs s p h =
       elim (decLt (log2 C) w) [
         | yes l ↦ l
