@@ -19,5 +19,6 @@ pub mod FoundPath
 pub mod FoundClimb
 pub mod FoundRound
 pub mod FoundWay
+pub mod FoundPlace
 pub mod Promises
 pub mod Example
