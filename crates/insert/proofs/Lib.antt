@@ -20,5 +20,6 @@ pub mod FoundClimb
 pub mod FoundRound
 pub mod FoundWay
 pub mod FoundPlace
+pub mod FoundFind
 pub mod Promises
 pub mod Example
