@@ -21,5 +21,6 @@ pub mod FoundRound
 pub mod FoundWay
 pub mod FoundPlace
 pub mod FoundFind
+pub mod FoundNode
 pub mod Promises
 pub mod Example
