@@ -22,5 +22,7 @@ pub mod FoundWay
 pub mod FoundPlace
 pub mod FoundFind
 pub mod FoundNode
+pub mod FoundStart
+pub mod FoundEnter
 pub mod Promises
 pub mod Example

@@ -1,4 +1,5 @@
 pub mod Enter
 pub mod Fine
 pub mod Promises
+pub mod Found
 pub mod Example
