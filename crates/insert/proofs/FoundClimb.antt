@@ -65,9 +65,9 @@ module _ (f : Format) (θ key : ℕ) where
       × LinksIn t l (backWord (nodeOf t n) 0) (forwardWord (nodeOf t n) 0)
 
   -- a block written
-  pub written-here : (s t : List ℕ) (l n : ℕ) (ws : List ℕ) (back forward : ℕ) (v : Trie ℕ) → (1 ≤ n) × (n ≤ headOf t .nodesTaken)
+  pub written-here : (t : List ℕ) (l n : ℕ) (ws : List ℕ) (back forward : ℕ) (v : Trie ℕ) → (1 ≤ n) × (n ≤ headOf t .nodesTaken)
       → nodeOf t n ≡ ws → Written θ ws (suc l) back forward v → LinksIn t l back forward → Here t l n v
-  written-here s t l n ws back forward v within e w links = (
+  written-here t l n ws back forward v within e w links = (
     within,
     subst (λ bs. NodeIs θ bs (suc l) v) (sym e) (w .is),
     subst (λ b. LinksIn t l b (forwardWord (nodeOf t n) 0)) (sym (ap (λ bs. backWord bs 0) e ∙ w .back-is))
@@ -170,7 +170,7 @@ module _ (f : Format) (θ key : ℕ) where
         let t : List ℕ = grown (nodeOps θ) (wordStore f θ) s p a c in
         let more : More s t = more-others s t (omega (arith, put .taken-same)) (put .others-same) in
         let here =
-        written-here s t l (p .at) _ _ _ u (z .within .0, omega (arith, z .within .1, put .taken-same)) (put .here) w
+        written-here t l (p .at) _ _ _ u (z .within .0, omega (arith, z .within .1, put .taken-same)) (put .here) w
         (links-more s t l _ _ more (z .links)) in
         record {
           sound = (
@@ -230,7 +230,8 @@ module _ (f : Format) (θ key : ℕ) where
         here-moved t v l m up more-v
         (now .frame m (omega arith) (omega (arith, w .taken)) (off-among f θ (bits (width f) key) (headOf s .nodesTaken) path among))
         (w .upper-is) in
-        let more-s : More s v = record { nodes = omega (arith, more .nodes, more-v .nodes); pages = omega (arith, more .pages, more-v .pages) } in
+        let more-s : More s v =
+        record { nodes = omega (arith, more .nodes, more-v .nodes); pages = omega (arith, more .pages, more-v .pages) } in
         record {
           sound = (
             subst (λ n. Stands f θ key v l (chosen (p .bits) (p .at) m) (drop 1 (p .bits)) θ n (reachedBy (p ∷ path) a c)) (sym (g .longer))
@@ -243,14 +244,14 @@ module _ (f : Format) (θ key : ℕ) where
         }
 
     -- a new root
-    root-sound : (s : List ℕ) (l a c next : ℕ) → Ok f θ s → headOf s .nodesTaken < headOf s .nodeBlocks → headOf s .levels ≡ l
+    root-sound : (s : List ℕ) (l a c : ℕ) → Ok f θ s → headOf s .nodesTaken < headOf s .nodeBlocks → headOf s .levels ≡ l
         → 0 < width f → Enters s l a → Enters s l c
         → Climbs s l [] (chosen (bits (width f - 0) key) a c) (record {
           store = newRoot (nodeOps θ) (wordStore f θ) s a c;
           path = record { at = suc (headOf s .nodesTaken); bits = bits (width f) key; depth = 1 } ∷ [];
         })
     unfolding newRoot
-    root-sound s l a c next ok room level left ea ec =
+    root-sound s l a c ok room level left ea ec =
         let m : ℕ = suc (headOf s .nodesTaken) in
         let w = top-written laws (suc (headOf s .levels)) a c pos in
         let h = taken-head words s ok room in
@@ -258,7 +259,9 @@ module _ (f : Format) (θ key : ℕ) where
         words .put-is (takeNode (wordStore f θ) s) m _ (suc (headOf s .levels)) (pair a c) (h .ok) (omega arith)
         (omega (arith, h .cap-same)) (w .is) in
         let u : List ℕ = wordStore f θ .put (takeNode (wordStore f θ) s) m (top θ (suc (headOf s .levels)) a c) in
-        let g = words .head-is u m (suc (headOf u .levels)) (headOf u .nodesTaken) (p .ok) (omega (arith, p .taken-same, p .cap-same, h .taken-is, h .cap-same)) in
+        let g =
+        words .head-is u m (suc (headOf u .levels)) (headOf u .nodesTaken) (p .ok)
+        (omega (arith, p .taken-same, p .cap-same, h .taken-is, h .cap-same)) in
         let t : List ℕ = newRoot (nodeOps θ) (wordStore f θ) s a c in
         let same : others t ≡ others s = g .others-same ∙ p .others-same ∙ h .others-same in
         let taken : headOf t .nodesTaken ≡ m = g .taken-is ∙ p .taken-same ∙ h .taken-is in
@@ -266,7 +269,7 @@ module _ (f : Format) (θ key : ℕ) where
         let at : nodeOf t m ≡ top θ (suc (headOf s .levels)) a c =
         g .nodes-same m (omega arith) (omega (arith, p .cap-same, h .cap-same)) ∙ p .here in
         let here =
-        written-here s t l m _ 0 0 (pair a c) (omega arith, omega (arith, taken)) at
+        written-here t l m _ 0 0 (pair a c) (omega arith, omega (arith, taken)) at
         (subst (λ n. Written θ (top θ (suc (headOf s .levels)) a c) (suc n) 0 0 (pair a c)) level w) (links-none t l) in
         record {
           sound = (
@@ -308,10 +311,10 @@ module _ (f : Format) (θ key : ℕ) where
           levels-same = w .kept .levels-same;
           others-same = w .kept .others-same;
           lower-is =
-              written-here s t l (p .at) _ _ _ lo (z .within .0, omega (arith, z .within .1, w .kept .now)) (w .at-n) lw
+              written-here t l (p .at) _ _ _ lo (z .within .0, omega (arith, z .within .1, w .kept .now)) (w .at-n) lw
               (links-more s t l _ _ g (z .links));
           upper-is =
-              written-here s t l (suc (headOf s .nodesTaken)) _ _ _ up (omega arith, omega (arith, w .kept .now)) (w .at-m) uw
+              written-here t l (suc (headOf s .nodesTaken)) _ _ _ up (omega arith, omega (arith, w .kept .now)) (w .at-m) uw
               (links-more s t l _ _ g (z .links));
           above-same =
               path-same s t (p .at) (headOf s .nodesTaken) path (sound-among f θ key s (suc l) path (p .at) (y .1)) off (w .off);
@@ -319,7 +322,7 @@ module _ (f : Format) (θ key : ℕ) where
 
     pub climb-sound : (path : List Place) → ClimbSound path
     unfolding climb bumpCost
-    climb-sound [] s l a c next ok fits room y apart left ea ec = root-sound s l a c next ok (omega arith) (y .1) left ea ec
+    climb-sound [] s l a c next ok fits room y apart left ea ec = root-sound s l a c ok (omega arith) (y .1) left ea ec
     climb-sound (p ∷ path) s l a c next ok fits room y apart left ea ec =
         elim (decLt (p .depth) θ) [
           | yes h ↦
@@ -335,6 +338,7 @@ module _ (f : Format) (θ key : ℕ) where
               (sym (climb-full (nodeOps θ) (wordStore f θ) θ (bits (width f) key) s p a c path full))
               (above-sound s (splitNode (nodeOps θ) (wordStore f θ) s p a c) l p path a c next (q .0) (q .1) room y apart left ea ec full
               (q .2)
-              (node-cut s l p path a c next (q .0) (q .1) ok (omega (arith, bump-full θ (p .depth) (depths path) full .1)) y (apart .0) deep (q .2))
+              (node-cut s l p path a c next (q .0) (q .1) ok (omega (arith, bump-full θ (p .depth) (depths path) full .1)) y (apart .0) deep
+              (q .2))
               (climb-sound path))
         ]

@@ -20,7 +20,6 @@ use Rattle.store.specs.declared.Head.{Head}
 use Rattle.store.specs.declared.Item.{Item}
 use Rattle.store.specs.Format.{width}
 use Rattle.store.specs.Head.{headOf, headRule, nodeStart, pageAt}
-use Rattle.store.proofs.HeadLaws.{rule-is, counts-are}
 use Rattle.node.specs.Node.{backWord, forwardWord, entryOf, linkRule, pointerLow, pointerHigh, nodeRule, entryNumber}
 use Rattle.node.proofs.NodeLaws.{link-1, link-above, low-1, low-above, high-1, high-above}
 use Rattle.node.proofs.EntryNumber.{entry-index, entry-below}
@@ -37,6 +36,7 @@ use Rattle.readings.proofs.PageFirst.{page-find}
 use Rattle.represent.specs.Image.{nodeAt}
 use Rattle.represent.specs.Rep.{Sized}
 use Rattle.represent.proofs.ImageLaws.{Shown, node-shown, node-back, node-forward}
+use Rattle.represent.proofs.HeadPasses.{sized-head}
 use Rattle.represent.proofs.Passes.{node-passes}
 use Rattle.represent.proofs.PageImage.{page-passes, page-agrees}
 use Rattle.split.specs.Frame.{nodeOf}
@@ -117,9 +117,6 @@ module _ (f : Format) (key : ℕ) (t : List ℕ) (ok : Sized f t) (nodes-in : he
       (b .0, a .1 ∙ b .1 ∙ ap (λ u. descend f t h key l next u (b .0)) e)
 
 module _ (f : Format) (it : Item) (t : List ℕ) (y : Ends f it t) where
-  yes-leb : {a b : ℕ} → a ≤ b → true ≡ leb a b
-  yes-leb {a} {b} e = sym (le-leb a b e)
-
   first-in : (path : List Place) (next : ℕ) → 1 ≤ length path → Sound f (headOf t .theta) (it .key) t 0 path next
       → (1 ≤ headOf t .root) × (headOf t .root ≤ headOf t .nodesTaken)
   first-in [] next some z = absurd (omega arith)
@@ -129,12 +126,16 @@ module _ (f : Format) (it : Item) (t : List ℕ) (y : Ends f it t) where
   ends-head =
       let r = first-in (y .path) (y .page) (y .some) (y .sound) in
       let l = sound-levels f (headOf t .theta) (it .key) t 0 (y .path) (y .page) (y .sound) in
-      let taken : 1 ≤ headOf t .nodesTaken = omega (arith, r .0, r .1) in
-      let levels : 1 ≤ headOf t .levels = omega (arith, l, y .some) in
-      sym
-      (rule-is f t (headOf t) true true true true refl (sym (y .sized .sizes)) (sym (y .sized .spare)) (yes-leb (y .sized .long))
-      (counts-are f (headOf t) true true true true true true true (yes-leb taken) (yes-leb (y .nodes-in))
-      (yes-leb (y .pages-in)) (yes-leb (r .0)) (yes-leb (r .1)) (yes-leb levels) (yes-leb (y .levels-in))))
+      sized-head f t (y .sized)
+      (record {
+        taken-low = omega (arith, r .0, r .1);
+        taken = y .nodes-in;
+        filled = y .pages-in;
+        root-low = r .0;
+        root = r .1;
+        levels-low = omega (arith, l, y .some);
+        levels = y .levels-in;
+      })
 
   ends-sound : soundPage f (headOf t) (pageAt f t (headOf t) (y .page)) (it .key) (sum (depths (y .path))) ≡ true
   ends-sound =

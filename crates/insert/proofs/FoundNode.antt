@@ -39,6 +39,7 @@ use Rattle.represent.proofs.LabelLaws.{ind-other}
 use Rattle.represent.proofs.Places.{node-fits}
 use Rattle.split.specs.Frame.{nodeOf}
 use Rattle.split.proofs.Lengths.{length-nodeImage}
+use Rattle.insert.proofs.InsideEnter.{node-word}
 use Rattle.insert.proofs.FoundPath.{Enters, LinksIn, Stands}
 
 -- a label stands at a key
@@ -115,12 +116,6 @@ module _ (f : Format) (s : List ℕ) (ok : Sized f s) (fits : headOf s .nodesTak
   abbrev h : Head
   h = headOf s
 
-  pub block-word : (n i : ℕ) → (1 ≤ n) × (n ≤ h .nodesTaken) → i < nodeWords (h .theta) → word (nodeOf s n) i ≡ word s (nodeStart h n + i)
-  unfolding nodeAt
-  block-word n i within =
-      part-word s (nodeStart h n) (nodeWords (h .theta)) i
-      (node-fits h f n (length s) (within .0) (omega (arith, within .1)) (ok .long))
-
   enters-of : (l x : ℕ) → (pointerLow (suc l) ≤ x) × (x ≤ pointerHigh h (suc l)) → Enters s l x
   enters-of zero x w = omega (arith, w .1, high-1 h 1 refl)
   enters-of (suc l) x w = (
@@ -164,8 +159,8 @@ module _ (f : Format) (s : List ℕ) (ok : Sized f s) (fits : headOf s .nodesTak
       λ j q.
       let d : at + (0 + 4 + 2 * j) ≡ at + 4 + 2 * j = omega arith in
       let p : at + (0 + 5 + 2 * j) ≡ at + 5 + 2 * j = omega arith in
-      ap₂ (λ x y. (x, y)) (block-word n (0 + 4 + 2 * j) within (omega arith) ∙ ap (word s) d)
-      (block-word n (0 + 5 + 2 * j) within (omega arith) ∙ ap (word s) p) in
+      ap₂ (λ x y. (x, y)) (node-word f s 0 ok fits n (0 + 4 + 2 * j) (within .0) (within .1) (omega arith) ∙ ap (word s) d)
+      (node-word f s 0 ok fits n (0 + 5 + 2 * j) (within .0) (within .1) (omega arith) ∙ ap (word s) p) in
       let here : (ks : Key) → entryOf s at (index (height v) ks) ≡ (depth v ks, leafAt v ks) =
       λ ks. in-place (index (height v) ks) (index-lt (height v) ks) ∙ at-key (height v) v ks (0, 0) (depth-le-height v ks) in
       let tail : 2 * (2 ^ θ - 2 ^ height v) ≡ 2 * (2 ^ θ - 2 ^ depthWord s at) = ap (λ H. 2 * (2 ^ θ - 2 ^ H)) (t .1) in
@@ -173,14 +168,14 @@ module _ (f : Format) (s : List ℕ) (ok : Sized f s) (fits : headOf s .nodesTak
       let shown : Shown ws 0 θ (suc l) v =
       record {
         low = low;
-        depth = block-word n 0 within (omega arith) ∙ ap (word s) first ∙ sym (t .1);
-        level-is = block-word n 1 within (omega arith) ∙ a .level-is;
+        depth = node-word f s 0 ok fits n 0 (within .0) (within .1) (omega arith) ∙ ap (word s) first ∙ sym (t .1);
+        level-is = node-word f s 0 ok fits n 1 (within .0) (within .1) (omega arith) ∙ a .level-is;
         entry = λ j q. own-entry j q ∙ in-place j q;
         blank = every-of (2 * (2 ^ θ - 2 ^ height v)) (λ j. eqb (word ws (0 + 4 + 2 * 2 ^ height v + j)) 0)
             (λ j q.
             let g : at + (0 + 4 + 2 * 2 ^ height v + j) ≡ at + 4 + 2 * 2 ^ depthWord s at + j = omega (arith, pows) in
             eq-eqb (word ws (0 + 4 + 2 * 2 ^ height v + j)) 0
-            (block-word n (0 + 4 + 2 * 2 ^ height v + j) within (omega (arith, small)) ∙ ap (word s) g
+            (node-word f s 0 ok fits n (0 + 4 + 2 * 2 ^ height v + j) (within .0) (within .1) (omega (arith, small)) ∙ ap (word s) g
             ∙ eqb-true (word s (at + 4 + 2 * 2 ^ depthWord s at + j)) 0
             (every-at (2 * (2 ^ θ - 2 ^ depthWord s at)) (λ i. eqb (word s (at + 4 + 2 * 2 ^ depthWord s at + i)) 0) (a .rest) j
             (omega (arith, tail)))));
@@ -200,8 +195,8 @@ module _ (f : Format) (s : List ℕ) (ok : Sized f s) (fits : headOf s .nodesTak
             (subst (λ H. index (height v) (k .0) < 2 ^ H) (t .1) (index-lt (height v) (k .0)))));
         links =
             links-of l _ _
-            (subst (λ b. linkRule h (suc l) b (forwardWord ws 0) ≡ true) (sym (block-word n 2 within (omega arith)))
-            (subst (λ g. linkRule h (suc l) (backWord s at) g ≡ true) (sym (block-word n 3 within (omega arith))) (a .links)));
+            (subst (λ b. linkRule h (suc l) b (forwardWord ws 0) ≡ true) (sym (node-word f s 0 ok fits n 2 (within .0) (within .1) (omega arith)))
+            (subst (λ g. linkRule h (suc l) (backWord s at) g ≡ true) (sym (node-word f s 0 ok fits n 3 (within .0) (within .1) (omega arith))) (a .links)));
       }
 
   -- a visited node

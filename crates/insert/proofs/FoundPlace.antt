@@ -101,7 +101,7 @@ module _ (f : Format) (θ key : ℕ) (pos : 1 ≤ θ) where
       let t : List ℕ = aimAt (nodeOps θ) (wordStore f θ) s p q in
       let more : More s t = more-others s t (omega (arith, put .taken-same)) (put .others-same) in
       let here =
-      written-here f θ key s t 0 (p .at) _ _ _ u (z .within .0, omega (arith, z .within .1, put .taken-same)) (put .here) w
+      written-here f θ key t 0 (p .at) _ _ _ u (z .within .0, omega (arith, z .within .1, put .taken-same)) (put .here) w
       (links-more s t 0 _ _ more (z .links)) in (
         (
           record {

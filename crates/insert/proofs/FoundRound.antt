@@ -1,8 +1,6 @@
 -- A round keeps a sound path sound, in any words: the level-1 node grows in place, or it splits with its links and the climb above keeps
 -- the rest. The node behind it may be damaged: it is none of the path, and only its back link is written.
 --   Behind s path == the node behind the path's first one is none of the path
---   Relinked s t q == t is s with one link of node q written, if there is such a node
---   Parts s t p path lo up q == t is s with the level-1 node at p split into lo and up; q is the node behind it
 use mathlib.Core.Path.{_≡_, refl, sym, ap, _∙_, subst}
 use mathlib.Core.List.{List, [], _∷_}
 use Prim.Native.Nat.{ℕ, suc, _+_, _≤_, _<_}
@@ -32,11 +30,11 @@ use Rattle.split.proofs.WordStore.{store-laws}
 use Rattle.split.proofs.RoundLaws.{round-room, round-full}
 use Rattle.insert.specs.Fine.{Off, Among, Apart, depths, sum}
 use Rattle.insert.proofs.Turned.{turned}
-use Rattle.insert.proofs.InsideWrites.{node-head, kept-node, others-put, length-node, length-linked, grown-forward, climb-now}
-use Rattle.insert.proofs.InsideRound.{chosen-either, turned-in, relink-none, relink-some, off-among}
+use Rattle.insert.proofs.InsideWrites.{grown-forward, among-more, climb-now}
+use Rattle.insert.proofs.InsideRound.{First, chosen-either, turned-in, relinked, first-now, off-among}
 use Rattle.insert.proofs.HeldRound.{Beside, beside-off}
 use Rattle.insert.proofs.FoundPath.{Enters, More, links-more, Sound, sound-moved, sound-among}
-use Rattle.insert.proofs.FoundClimb.{more-others, Here, written-here, Climbs, reachedBy, Cut, grown-sound, above-sound, climb-sound}
+use Rattle.insert.proofs.FoundClimb.{path-same, written-here, Climbs, reachedBy, Cut, grown-sound, above-sound, climb-sound}
 
 abbrev pub Behind : List ℕ → List Place → Type 0
 Behind s [] = ⊥
@@ -46,45 +44,12 @@ module _ (f : Format) (θ key : ℕ) where
   abbrev k : Key
   k = bits (width f) key
 
-  record Relinked (s t : List ℕ) (q : ℕ) : Type 0 where
-    ok : Ok f θ t
-    head : headOf t ≡ headOf s
-    others-same : others t ≡ others s
-    off : (x : ℕ) → 1 ≤ x → (x ≡ q → ⊥) → nodeOf t x ≡ nodeOf s x
-
-  relinked : (s : List ℕ) (q m : ℕ) → Ok f θ s → q ≤ headOf s .nodeBlocks → Relinked s (relink (nodeOps θ) (wordStore f θ) s q m) q
-  relinked s q m ok high =
-      elim (ℕ-discrete q 0) [
-        | yes e ↦
-            subst (λ t. Relinked s t q) (sym (relink-none f θ k s q m e))
-            (record { ok = ok; head = refl; others-same = refl; off = λ x low ne. refl })
-        | no e ↦
-            let ws : List ℕ = linked (nodeOf s q) m (forwardWord (nodeOf s q) 0) in
-            let same : length ws ≡ nodeWords (headOf s .theta) =
-            length-linked (nodeOf s q) m (forwardWord (nodeOf s q) 0) ∙ length-node f s q (ok .sized) (omega arith) high in
-            subst (λ t. Relinked s t q) (sym (relink-some f θ k s q m e))
-            (record {
-              ok = record {
-                theta = ap (λ h. h .theta) (node-head f s q ws (ok .sized) (omega arith) high same) ∙ ok .theta;
-                sized = kept-node f s q ws (ok .sized) (omega arith) high same .sized;
-              };
-              head = node-head f s q ws (ok .sized) (omega arith) high same;
-              others-same = others-put f s q ws (ok .sized) (omega arith) high same;
-              off = λ x low ne. putNode-other f s q ws (ok .sized) (omega arith) high same x low ne;
-            })
-      ]
-
-  record Parts (s t : List ℕ) (p : Place) (path : List Place) (lo up : Trie ℕ) : Type 0 where
-    cut : Cut f θ key s t 0 p path lo up
-    lower-forward : forwardWord (nodeOf t (p .at)) 0 ≡ suc (headOf s .nodesTaken)
-    upper-forward : forwardWord (nodeOf t (suc (headOf s .nodesTaken))) 0 ≡ forwardWord (nodeOf s (p .at)) 0
-
   module _ (pos : 1 ≤ θ) where
     -- the level-1 node splits
     first-cut : (s : List ℕ) (p : Place) (path : List Place) (a c next : ℕ) (lo up : Trie ℕ) → Ok f θ s
         → headOf s .nodesTaken < headOf s .nodeBlocks → (y : Sound f θ key s 0 (p ∷ path) next) → Beside (p .at) path
         → Behind s (p ∷ path) → θ ≤ depth (y .0 .trie) (p .bits) → graft (y .0 .trie) (p .bits) (pair a c) ≡ fork lo up
-        → Parts s (splitFirst (nodeOps θ) (wordStore f θ) s p a c) p path lo up
+        → Cut f θ key s (splitFirst (nodeOps θ) (wordStore f θ) s p a c) 0 p path lo up
     unfolding splitFirst
     first-cut s p path a c next lo up ok more y off behind deep e =
         let laws = node-ops-are θ pos in
@@ -98,56 +63,47 @@ module _ (f : Format) (θ key : ℕ) where
         let s₂ : List ℕ =
         putBoth (wordStore f θ) (takeNode (wordStore f θ) s) (p .at) (linked (lower θ (nodeOf s (p .at)) (p .bits) a c) g m) m
         (linked (upper θ (nodeOf s (p .at)) (p .bits) a c) (p .at) q) in
-        let r = relinked s₂ q m (w .kept .ok) (omega (arith, w .kept .cap-same, z .links .1)) in
+        let r = relinked f θ k s₂ q m (w .kept .ok .sized) (omega (arith, w .kept .cap-same, z .links .1)) in
         let t : List ℕ = splitFirst (nodeOps θ) (wordStore f θ) s p a c in
         let taken : headOf t .nodesTaken ≡ m = ap (λ h. h .nodesTaken) (r .head) ∙ w .kept .now in
-        let same : others t ≡ others s = r .others-same ∙ w .kept .others-same in
-        let at-n = r .off (p .at) (z .within .0) (behind .0) ∙ w .at-n in
-        let at-m = r .off m (omega arith) (λ i. omega (arith, z .links .1)) ∙ w .at-m in
+        let among = sound-among f θ key s 1 path (p .at) (y .1) in
         record {
-          cut = record {
-            ok = r .ok;
-            taken = taken;
-            cap-same = ap (λ h. h .nodeBlocks) (r .head) ∙ w .kept .cap-same;
-            root-same = ap (λ h. h .root) (r .head) ∙ w .kept .root-same;
-            levels-same = ap (λ h. h .levels) (r .head) ∙ w .kept .levels-same;
-            others-same = same;
-            lower-is =
-                written-here f θ key s t 0 (p .at) _ g m lo (z .within .0, omega (arith, z .within .1, taken)) at-n lw
-                (omega (arith, taken, z .links .0), omega (arith, taken));
-            upper-is =
-                written-here f θ key s t 0 m _ (p .at) q up (omega arith, omega (arith, taken)) at-m uw
-                (omega (arith, taken, z .within .1), omega (arith, taken, z .links .1));
-            above-same =
-                all-both (λ x. ((1 ≤ x .at) × (x .at ≤ headOf s .nodesTaken)) × (p .at ≡ x .at → ⊥)) (λ x. x .at ≡ q → ⊥)
-                (λ x. nodeOf t (x .at) ≡ nodeOf s (x .at)) path
-                (λ x i ne.
-                r .off (x .at) (i .0 .0) ne ∙ w .off (x .at) (i .0 .0) (i .0 .1) (λ j. i .1 (sym j)))
-                (all-both (λ x. (1 ≤ x .at) × (x .at ≤ headOf s .nodesTaken)) (λ x. p .at ≡ x .at → ⊥)
-                (λ x. ((1 ≤ x .at) × (x .at ≤ headOf s .nodesTaken)) × (p .at ≡ x .at → ⊥)) path (λ x i j. (i, j))
-                (sound-among f θ key s 1 path (p .at) (y .1)) off)
-                (behind .1);
-          };
-          lower-forward = ap (λ bs. forwardWord bs 0) at-n ∙ lw .forward-is;
-          upper-forward = ap (λ bs. forwardWord bs 0) at-m ∙ uw .forward-is;
+          ok = record { theta = ap (λ h. h .theta) (r .head) ∙ w .kept .ok .theta; sized = r .kept .sized };
+          taken = taken;
+          cap-same = ap (λ h. h .nodeBlocks) (r .head) ∙ w .kept .cap-same;
+          root-same = ap (λ h. h .root) (r .head) ∙ w .kept .root-same;
+          levels-same = ap (λ h. h .levels) (r .head) ∙ w .kept .levels-same;
+          others-same = r .others-same ∙ w .kept .others-same;
+          lower-is =
+              written-here f θ key t 0 (p .at) _ g m lo (z .within .0, omega (arith, z .within .1, taken))
+              (r .off (p .at) (z .within .0) (behind .0) ∙ w .at-n) lw (omega (arith, taken, z .links .0), omega (arith, taken));
+          upper-is =
+              written-here f θ key t 0 m _ (p .at) q up (omega arith, omega (arith, taken))
+              (r .off m (omega arith) (λ i. omega (arith, z .links .1)) ∙ w .at-m) uw
+              (omega (arith, taken, z .within .1), omega (arith, taken, z .links .1));
+          above-same =
+              all-both (λ x. nodeOf s₂ (x .at) ≡ nodeOf s (x .at)) (λ x. (1 ≤ x .at) × (x .at ≡ q → ⊥))
+              (λ x. nodeOf t (x .at) ≡ nodeOf s (x .at)) path (λ x i j. r .off (x .at) (j .0) (j .1) ∙ i)
+              (path-same s s₂ (p .at) (headOf s .nodesTaken) path among off (w .off))
+              (all-both (λ x. (1 ≤ x .at) × (x .at ≤ headOf s .nodesTaken)) (λ x. x .at ≡ q → ⊥) (λ x. (1 ≤ x .at) × (x .at ≡ q → ⊥)) path
+              (λ x i j. (i .0, j)) among (behind .1));
         }
 
     -- after the climb above it
-    first-behind : (s t : List ℕ) (p : Place) (path : List Place) (a c next : ℕ) (lo up : Trie ℕ)
+    first-behind : (s t : List ℕ) (p : Place) (path : List Place) (next : ℕ) (lo up : Trie ℕ)
         → headOf s .nodesTaken + suc (bumpCost θ (depths path)) ≤ headOf s .nodeBlocks
-        → (y : Sound f θ key s 0 (p ∷ path) next) → Beside (p .at) path → Behind s (p ∷ path) → Parts s t p path lo up
+        → (y : Sound f θ key s 0 (p ∷ path) next) → Beside (p .at) path → Behind s (p ∷ path) → Cut f θ key s t 0 p path lo up
+        → First f θ k s t (p .at)
         → let r = climb (nodeOps θ) (wordStore f θ) θ k t path (p .at) (suc (headOf s .nodesTaken)) in
         Behind (r .store) (inHalf θ p (suc (headOf s .nodesTaken)) ∷ r .path)
-    first-behind s t p path a c next lo up room y off behind w =
+    first-behind s t p path next lo up room y off behind d w =
         let z = y .0 in
         let m : ℕ = suc (headOf s .nodesTaken) in
         let q : ℕ = forwardWord (nodeOf s (p .at)) 0 in
         let r : Climbed (List ℕ) = climb (nodeOps θ) (wordStore f θ) θ k t path (p .at) m in
         let v : List ℕ = r .store in
-        let d = w .cut in
         let among = sound-among f θ key s 1 path (p .at) (y .1) in
-        let among-m : Among m path = all-both (λ x. (1 ≤ x .at) × (x .at ≤ headOf s .nodesTaken)) (λ x. p .at ≡ x .at → ⊥)
-        (λ x. (1 ≤ x .at) × (x .at ≤ m)) path (λ x i j. (i .0, omega (arith, i .1))) among off in
+        let among-m : Among m path = among-more f θ (headOf s .nodesTaken) m path (omega arith) among in
         let now =
         climb-now f θ path k t (p .at) m (d .ok .sized) (d .ok .theta) (subst (λ n. Among n path) (sym (d .taken)) among-m)
         (omega (arith, d .taken, d .cap-same)) (omega (arith, d .taken, d .cap-same)) in
@@ -195,8 +151,9 @@ module _ (f : Format) (θ key : ℕ) where
               let t : List ℕ = splitFirst (nodeOps θ) (wordStore f θ) s p a c in
               subst (λ r. Climbs f θ key s 0 (p ∷ path) (reachedBy f θ key (p ∷ path) a c) r × Behind (r .store) (r .path))
               (sym (round-full (nodeOps θ) (wordStore f θ) θ k s p path a c full)) (
-                above-sound f θ key pos s t 0 p path a c next (q .0) (q .1) room y apart left ea ec full (q .2) (w .cut)
+                above-sound f θ key pos s t 0 p path a c next (q .0) (q .1) room y apart left ea ec full (q .2) w
                     (climb-sound f θ key pos path),
-                first-behind s t p path a c next (q .0) (q .1) (omega (arith, cost)) y (apart .0) behind w,
+                first-behind s t p path next (q .0) (q .1) (omega (arith, cost)) y (apart .0) behind w
+                    (first-now f θ k s p a c (ok .sized) (ok .theta) (z .within) (omega (arith, cost)) (z .links .1)),
               )
         ]

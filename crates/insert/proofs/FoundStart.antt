@@ -42,10 +42,10 @@ use Rattle.insert.specs.Fine.{Off, depths, sum}
 use Rattle.insert.proofs.TestLaws.{items-null, items-some}
 use Rattle.insert.proofs.PageWords.{page-image}
 use Rattle.insert.proofs.Refusals.{Passed}
-use Rattle.insert.proofs.InsideEnter.{drop-set, tested, visit-is, descend-on, descend-lost, head-sized}
+use Rattle.insert.proofs.InsideEnter.{drop-set, tested, visit-is, descend-on, descend-lost, node-word, head-sized}
 use Rattle.insert.proofs.FoundPath.{Enters, Stands, Sound}
 use Rattle.insert.proofs.FoundRound.{Behind}
-use Rattle.insert.proofs.FoundNode.{block-word, rule-stands}
+use Rattle.insert.proofs.FoundNode.{rule-stands}
 use Rattle.insert.proofs.FoundWay.{Right}
 
 or-right : (a b : Bool) → a ≡ false → (a || b) ≡ true → b ≡ true
@@ -158,16 +158,18 @@ module _ (f : Format) (s : List ℕ) (k : ℕ) (ok : Sized f s) (fits : headOf s
         elim (ℕ-discrete q 0) [
           | yes z ↦ record { another = λ i. omega arith; level = inl z }
           | no z ↦
-              let w = and-true _ _ (or-right (eqb q 0) _ (ne-eqb q 0 z) e) in
-              let v = and-true _ _ (w .0) in
-              let u = and-true _ _ (v .0) in
+              let a : Bool = leb q (h .nodesTaken) in
+              let b : Bool = not (eqb q n) in
+              let c : Bool = eqb (levelWord s (nodeStart h q)) 1 in
+              let v = and-three a b c (and-true (a && b && c) _ (or-right (eqb q 0) _ (ne-eqb q 0 z) e) .0) in
+              let level : levelWord s (nodeStart h q) ≡ 1 = eqb-true (levelWord s (nodeStart h q)) 1 (v .2) in
               record {
-                another = λ i. eqb-false q n (not-true _ (u .1)) (sym i);
+                another = λ i. eqb-false q n (not-true _ (v .1)) (sym i);
                 level =
                     inr (omega (
                       arith,
-                      block-word f s ok fits q 1 (omega arith, leb-true q (h .nodesTaken) (u .0)) (omega arith),
-                      eqb-true (levelWord s (nodeStart h q)) 1 (v .1),
+                      node-word f s k ok fits q 1 (omega arith) (leb-true q (h .nodesTaken) (v .0)) (omega arith),
+                      level,
                     ));
               }
         ]
@@ -179,7 +181,8 @@ module _ (f : Format) (s : List ℕ) (k : ℕ) (ok : Sized f s) (fits : headOf s
     start-behind (suc n) [] next p q y e = absurd (omega arith)
     start-behind (suc n) (t ∷ ts) next p q y e =
         let w = neighbour-facts (t .node) (y .0 .within .0) e in
-        subst (λ x. Off x (map step (take (suc n) (t ∷ ts)))) (sym (block-word f s ok fits (t .node) 3 (y .0 .within) (omega arith)))
+        subst (λ x. Off x (map step (take (suc n) (t ∷ ts)))) 
+        (sym (node-word f s k ok fits (t .node) 3 (y .0 .within .0) (y .0 .within .1) (omega arith)))
         (w .another, sound-off (forwardWord s (nodeStart h (t .node))) 1 (map step (take n ts)) (t .node) (w .level) (y .1))
 
 -- the key's own page

@@ -21,12 +21,12 @@ use Rattle.store.specs.declared.Format.the-variants.{Plots}
 use Rattle.store.specs.declared.Head.{Head}
 use Rattle.store.specs.declared.Item.{Item}
 use Rattle.store.specs.Format.{width}
-use Rattle.store.specs.Head.{headOf}
+use Rattle.store.specs.Head.{headOf, headRule}
 use Rattle.store.proofs.HeadLaws.{Limits, sizes-limits, Counts, counts-are, rule-is}
 use Rattle.represent.specs.Labelled.{occs}
 use Rattle.represent.specs.Image.{nodeAt}
 use Rattle.page.specs.Schema.{keyOf}
-use Rattle.represent.specs.Rep.{numbers, Nodes, Links, Rep, Holds}
+use Rattle.represent.specs.Rep.{numbers, Nodes, Links, Sized, Rep, Holds}
 use Rattle.represent.specs.Promises.{HeadPasses, LevelsAtMost, CountsAreTheTrees}
 use Rattle.represent.proofs.LabelLaws.{label-low, label-high, ind-self}
 use Rattle.tree.proofs.TrieLaws.{shape-relabel}
@@ -108,14 +108,15 @@ module _ (f : Format) (s : List ℕ) (S : List Item) (w : Holds f s S) where
 yes-leb : {a b : ℕ} → a ≤ b → true ≡ leb a b
 yes-leb {a} {b} h = sym (le-leb a b h)
 
-pub head-passes : HeadPasses
-head-passes f s S w =
-    let c = counts f s S w in
+pub sized-head : (f : Format) (s : List ℕ) → Sized f s → Counts f (headOf s) → headRule f s ≡ true
+sized-head f s ok c =
     sym
-    (rule-is f s (headOf s) true true true true refl (sym (w .rep .sized .sizes)) (sym (w .rep .sized .spare))
-    (yes-leb (w .rep .sized .long))
+    (rule-is f s (headOf s) true true true true refl (sym (ok .sizes)) (sym (ok .spare)) (yes-leb (ok .long))
     (counts-are f (headOf s) true true true true true true true (yes-leb (c .taken-low)) (yes-leb (c .taken)) (yes-leb (c .filled))
     (yes-leb (c .root-low)) (yes-leb (c .root)) (yes-leb (c .levels-low)) (yes-leb (c .levels))))
+
+pub head-passes : HeadPasses
+head-passes f s S w = sized-head f s (w .rep .sized) (counts f s S w)
 
 pub levels-at-most : LevelsAtMost
 levels-at-most f s S w = counts f s S w .levels
