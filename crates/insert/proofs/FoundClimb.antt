@@ -5,7 +5,7 @@
 --   Cut s t l p path lo up == t is s with the node at p split into lo and up, and the nodes of the path above as they were
 --   ClimbSound path   == a climb along the path keeps it
 use mathlib.Core.Path.{_≡_, refl, sym, ap, _∙_, subst}
-use mathlib.Core.Bool.{Bool, true, false}
+use mathlib.Core.Bool.{Bool}
 use mathlib.Core.List.{List, [], _∷_}
 use Prim.Native.Nat.{ℕ, zero, suc, _+_, _-_, _≤_, _<_}
 use native.Mathlib.Nat.{sub-zero}
@@ -15,7 +15,7 @@ use lib.ListN.{drop}
 use Rattle.lists.specs.Bits.{bit, bits}
 use Rattle.lists.specs.Lists.{All}
 use Rattle.lists.proofs.ListLaws.{all-both}
-use Rattle.tree.specs.Trie.{Trie, leaf, fork, Key, height, leafAt, depth, rest, graft, pair}
+use Rattle.tree.specs.Trie.{Trie, fork, Key, height, depth, rest, graft, pair}
 use Rattle.tree.specs.Carry.{bumpCost}
 use Rattle.tree.proofs.CarryLaws.{bump-full}
 use Rattle.tree.proofs.TrieLaws.{depth-pair, height-split, depth-split, leafAt-graft}
@@ -26,23 +26,23 @@ use Rattle.node.specs.Node.{backWord, forwardWord}
 use Rattle.represent.specs.Image.{NodeIs}
 use Rattle.represent.specs.Labelled.{occ}
 use Rattle.split.specs.Frame.{nodeOf}
-use Rattle.split.specs.Round.{NodeLaws, StoreLaws, Place, Climbed, chosen, deeper, inHalf, nextNode, takeNode, putBoth}
+use Rattle.split.specs.Round.{NodeLaws, StoreLaws, Place, Climbed, chosen, deeper, inHalf, takeNode}
 use Rattle.split.specs.Round.{grown, splitNode, newRoot, climb}
 use Rattle.split.specs.Insertion.{Ok, others, wordStore}
-use Rattle.split.specs.Block.{lower, upper, top, nodeOps}
+use Rattle.split.specs.Block.{top, nodeOps}
 use Rattle.split.proofs.BlockLaws.{node-ops-are}
 use Rattle.split.proofs.Blocks.{Written, top-written, grow-written, lower-written, upper-written}
 use Rattle.split.proofs.Grafts.{forked}
-use Rattle.split.proofs.Writes.{Two, taken-head, two-nodes}
+use Rattle.split.proofs.Writes.{taken-head, two-nodes}
 use Rattle.split.proofs.WordStore.{store-laws, others-pagesTaken}
 use Rattle.split.proofs.Climb.{climb-room, climb-full}
-use Rattle.insert.specs.Fine.{Off, Among, Apart, depths, sum}
+use Rattle.insert.specs.Fine.{Among, Apart, depths, sum}
 use Rattle.insert.proofs.InsideWrites.{climb-now}
 use Rattle.insert.proofs.InsideRound.{off-among}
 use Rattle.insert.proofs.HeldRound.{Beside, beside-off}
 use Rattle.insert.proofs.FoundPath.{Enters, LinksIn, More, enters-more, links-more, halfOf, half-here, half-depth, half-leaf}
-use Rattle.insert.proofs.FoundPath.{half-height, half-occ, graft-labels, pair-labels, Stands, Sound, stands-moved, sound-moved}
-use Rattle.insert.proofs.FoundPath.{sound-among, stands-deep, stands-within, stands-rest}
+use Rattle.insert.proofs.FoundPath.{half-height, half-occ, graft-labels, pair-labels, Stands, Sound, sound-moved}
+use Rattle.insert.proofs.FoundPath.{sound-among, stands-deep, stands-rest}
 
 pub links-none : (s : List ℕ) (l : ℕ) → LinksIn s l 0 0
 links-none s zero = (omega arith, omega arith)

@@ -8,7 +8,7 @@ use Rattle.store.specs.declared.Format.{Format}
 use Rattle.store.specs.declared.Item.{Item}
 use Rattle.store.specs.Head.{headOf, headRule}
 use Rattle.search.specs.Find.{findReply}
-use Rattle.insert.specs.Enter.{Way, roundsOf, startOf, planFor, enteredWords, done}
+use Rattle.insert.specs.Enter.{roundsOf, startOf, planFor, enteredWords, done}
 use Rattle.insert.specs.Found.{EnterHead, EnterFound}
 use Rattle.insert.proofs.Refusals.{Passed, ways, enter-done}
 use Rattle.insert.proofs.InsideWay.{rounds-fine}

@@ -6,10 +6,9 @@ use mathlib.Core.List.{List, [], _∷_}
 use Prim.Native.Nat.{ℕ, zero, suc, _+_, _-_, _^_, _≤_, _<_}
 use native.Mathlib.Nat.{suc-sub-suc, sub-zero}
 use native.Mathlib.Omega.{arith}
-use lib.Dec.{leb}
 use lib.ListN.{length, getD}
 use borrow.Author.Tests.{le-leb, eq-eqb}
-use Rattle.lists.specs.Bits.{bits, index}
+use Rattle.lists.specs.Bits.{index}
 use Rattle.lists.proofs.BitLaws.{drop-bits}
 use Rattle.tree.specs.Trie.{Trie, Key, height}
 use Rattle.tree.specs.Node.{flatten}
@@ -24,7 +23,7 @@ use Rattle.node.specs.Node.{backWord, forwardWord, entryOf, linkRule, pointerLo
 use Rattle.node.proofs.NodeLaws.{link-1, link-above, low-1, low-above, high-1, high-above}
 use Rattle.node.proofs.EntryNumber.{entry-index, entry-below}
 use Rattle.page.proofs.Laws.{lawful-key}
-use Rattle.page.specs.Page.{lawfulItem, pageRule, agrees}
+use Rattle.page.specs.Page.{lawfulItem}
 use Rattle.search.specs.declared.Step.{Step}
 use Rattle.search.specs.declared.Descent.{Descent}
 use Rattle.search.specs.declared.Sought.the-variants.{Record}
@@ -33,7 +32,6 @@ use Rattle.search.specs.Find.{soundPage, checked, findReply}
 use Rattle.search.proofs.DescentLaws.{visit-entry, turn-on}
 use Rattle.search.proofs.FindLaws.{sound-is, Led, find-sound, answered}
 use Rattle.readings.proofs.PageFirst.{page-find}
-use Rattle.represent.specs.Image.{nodeAt}
 use Rattle.represent.specs.Rep.{Sized}
 use Rattle.represent.proofs.ImageLaws.{Shown, node-shown, node-back, node-forward}
 use Rattle.represent.proofs.HeadPasses.{sized-head}

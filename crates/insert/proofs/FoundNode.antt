@@ -18,14 +18,14 @@ use Rattle.lists.proofs.BitLaws.{index-lt, drop-bits}
 use Rattle.lists.proofs.Parts.{part-in, length-part}
 use Rattle.lists.proofs.Tests.{and-true, every-at, every-of, getD-tab}
 use Rattle.tree.specs.Trie.{Trie, leaf, fork, Key, height, leafAt, depth}
-use Rattle.tree.specs.Node.{Entry, flatten}
+use Rattle.tree.specs.Node.{flatten}
 use Rattle.tree.proofs.TrieLaws.{depth-le-height}
 use Rattle.tree.proofs.NodePromises.{at-key}
 use Rattle.store.specs.declared.Format.{Format}
 use Rattle.store.specs.declared.Head.{Head}
 use Rattle.store.specs.Format.{width}
 use Rattle.store.specs.Head.{word, zeros, headOf, nodeWords, nodeStart}
-use Rattle.node.specs.Node.{depthWord, levelWord, backWord, forwardWord, entryDepth, entryPointer, entryOf, linkRule, pointerLow}
+use Rattle.node.specs.Node.{depthWord, backWord, forwardWord, entryDepth, entryPointer, entryOf, linkRule, pointerLow}
 use Rattle.node.specs.Node.{pointerHigh, nodeRule, entryNumber}
 use Rattle.node.proofs.NodeLaws.{link-1, link-above, low-above, high-1, high-above, node-facts}
 use Rattle.node.proofs.RunWalk.{good-facts}
@@ -34,7 +34,7 @@ use Rattle.node.proofs.Promises.{node-is-trie}
 use Rattle.represent.specs.Image.{nodeImage, nodeAt, NodeIs}
 use Rattle.represent.specs.Labelled.{occ}
 use Rattle.represent.specs.Rep.{Sized}
-use Rattle.represent.proofs.ImageLaws.{part-word, Shown, image-shown}
+use Rattle.represent.proofs.ImageLaws.{Shown, image-shown}
 use Rattle.represent.proofs.LabelLaws.{ind-other}
 use Rattle.represent.proofs.Places.{node-fits}
 use Rattle.split.specs.Frame.{nodeOf}
@@ -195,8 +195,10 @@ module _ (f : Format) (s : List ℕ) (ok : Sized f s) (fits : headOf s .nodesTak
             (subst (λ H. index (height v) (k .0) < 2 ^ H) (t .1) (index-lt (height v) (k .0)))));
         links =
             links-of l _ _
-            (subst (λ b. linkRule h (suc l) b (forwardWord ws 0) ≡ true) (sym (node-word f s 0 ok fits n 2 (within .0) (within .1) (omega arith)))
-            (subst (λ g. linkRule h (suc l) (backWord s at) g ≡ true) (sym (node-word f s 0 ok fits n 3 (within .0) (within .1) (omega arith))) (a .links)));
+            (subst (λ b. linkRule h (suc l) b (forwardWord ws 0) ≡ true)
+            (sym (node-word f s 0 ok fits n 2 (within .0) (within .1) (omega arith)))
+            (subst (λ g. linkRule h (suc l) (backWord s at) g ≡ true)
+            (sym (node-word f s 0 ok fits n 3 (within .0) (within .1) (omega arith))) (a .links)));
       }
 
   -- a visited node

@@ -7,17 +7,17 @@
 --   Stands s l n ks d used next == node n is that of level l + 1, so many bits are used before it, ks are those left there; the run at ks
 --     has the local depth d and points to next
 --   Sound s l path next == the path stands so in s from level l + 1 up to the root, and leads to the block next
-use mathlib.Core.Path.{_≡_, refl, sym, ap, _∙_, subst}
+use mathlib.Core.Path.{_≡_, sym, ap, _∙_, subst}
 use mathlib.Core.Bool.{Bool, true, false}
 use mathlib.Core.List.{List, [], _∷_}
-use Prim.Native.Nat.{ℕ, zero, suc, _+_, _-_, _≤_, _<_}
+use Prim.Native.Nat.{ℕ, zero, suc, _+_, _-_, _≤_}
 use native.Mathlib.Omega.{arith}
 use native.Mathlib.Decide.{decLe}
 use lib.ListN.{length}
 use Rattle.lists.specs.Bits.{bits}
 use Rattle.lists.specs.Lists.{All}
-use Rattle.tree.specs.Trie.{Trie, leaf, fork, Key, height, leafAt, depth, rest, graft, pair}
-use Rattle.tree.proofs.TrieLaws.{depth-le-height, height-split, depth-split, leafAt-graft, rest-bits}
+use Rattle.tree.specs.Trie.{Trie, fork, Key, height, leafAt, depth, rest, graft, pair}
+use Rattle.tree.proofs.TrieLaws.{depth-le-height, depth-split, leafAt-graft, rest-bits}
 use Rattle.store.specs.declared.Format.{Format}
 use Rattle.store.specs.Format.{width}
 use Rattle.store.specs.Head.{headOf}

@@ -4,7 +4,7 @@
 use mathlib.Core.Path.{_≡_, refl, sym, ap, _∙_, subst}
 use mathlib.Core.Bool.{Bool, true}
 use mathlib.Core.List.{List, [], _∷_}
-use Prim.Native.Nat.{ℕ, suc, _+_, _-_, _/_, _^_, _≤_, _<_}
+use Prim.Native.Nat.{ℕ, _-_, _/_, _^_, _≤_}
 use native.Mathlib.Omega.{arith}
 use native.Mathlib.Decide.{decLt, ℕ-discrete}
 use lib.Dec.{eqb}
@@ -14,7 +14,7 @@ use Rattle.lists.specs.Lists.{All}
 use Rattle.lists.specs.Keyed.{Sorted, Lacks, Prefix, insert}
 use Rattle.lists.proofs.KeyedLaws.{insert-lt, insert-ge, length-insert, all-insert, sorted-insert}
 use Rattle.lists.proofs.ListLaws.{all-map}
-use Rattle.tree.specs.Trie.{Trie, leaf, height, leafAt, depth, graft}
+use Rattle.tree.specs.Trie.{Trie, leaf, graft}
 use Rattle.tree.specs.Build.{pagesAt}
 use Rattle.tree.specs.Book.{levelBound}
 use Rattle.tree.proofs.TrieLaws.{depth-le-height, height-graft, depth-graft, leafAt-graft}
@@ -29,12 +29,11 @@ use Rattle.page.specs.Schema.{keyOf}
 use Rattle.represent.specs.Image.{pageImage}
 use Rattle.represent.specs.Rep.{Sized}
 use Rattle.represent.proofs.LabelLaws.{each-label}
-use Rattle.search.specs.declared.Sought.{Sought}
 use Rattle.search.specs.declared.Sought.the-variants.{Record}
 use Rattle.readings.specs.Listing.{firstWhere}
 use Rattle.readings.proofs.FirstLaws.{first-true, first-false}
 use Rattle.split.specs.Frame.{nodeOf, pageOf}
-use Rattle.split.specs.Round.{Place, Put, aimAt}
+use Rattle.split.specs.Round.{Place, aimAt}
 use Rattle.split.specs.Insertion.{Ok, others, wordStore, putItems, nextPage, takePage}
 use Rattle.split.specs.Block.{nodeOps}
 use Rattle.split.proofs.Blocks.{aim-written}

@@ -1,12 +1,11 @@
 -- A round keeps a sound path sound, in any words: the level-1 node grows in place, or it splits with its links and the climb above keeps
 -- the rest. The node behind it may be damaged: it is none of the path, and only its back link is written.
 --   Behind s path == the node behind the path's first one is none of the path
-use mathlib.Core.Path.{_≡_, refl, sym, ap, _∙_, subst}
+use mathlib.Core.Path.{_≡_, sym, ap, _∙_, subst}
 use mathlib.Core.List.{List, [], _∷_}
 use Prim.Native.Nat.{ℕ, suc, _+_, _≤_, _<_}
 use native.Mathlib.Omega.{arith}
-use native.Mathlib.Decide.{decLt, ℕ-discrete}
-use lib.ListN.{length}
+use native.Mathlib.Decide.{decLt}
 use Rattle.lists.specs.Bits.{bits}
 use Rattle.lists.proofs.ListLaws.{all-both}
 use Rattle.tree.specs.Trie.{Trie, fork, Key, depth, graft, pair}
@@ -14,16 +13,15 @@ use Rattle.tree.specs.Carry.{bumpCost}
 use Rattle.tree.proofs.CarryLaws.{bump-full}
 use Rattle.store.specs.declared.Format.{Format}
 use Rattle.store.specs.Format.{width}
-use Rattle.store.specs.Head.{headOf, nodeWords}
+use Rattle.store.specs.Head.{headOf}
 use Rattle.node.specs.Node.{backWord, forwardWord}
-use Rattle.split.specs.Frame.{nodeOf, putNode}
-use Rattle.split.specs.Round.{NodeLaws, Place, Climbed, chosen, deeper, inHalf, nextNode, takeNode, putBoth, grown, relink, splitFirst}
+use Rattle.split.specs.Frame.{nodeOf}
+use Rattle.split.specs.Round.{Place, Climbed, deeper, inHalf, takeNode, putBoth, splitFirst}
 use Rattle.split.specs.Round.{climb, round}
-use Rattle.split.specs.Insertion.{Ok, others, wordStore}
+use Rattle.split.specs.Insertion.{Ok, wordStore}
 use Rattle.split.specs.Block.{lower, upper, linked, nodeOps}
 use Rattle.split.proofs.BlockLaws.{node-ops-are}
-use Rattle.split.proofs.Blocks.{Written, lower-written, upper-written, linked-written}
-use Rattle.split.proofs.Frame.{putNode-other}
+use Rattle.split.proofs.Blocks.{lower-written, upper-written, linked-written}
 use Rattle.split.proofs.Grafts.{forked}
 use Rattle.split.proofs.Writes.{two-nodes}
 use Rattle.split.proofs.WordStore.{store-laws}
@@ -33,7 +31,7 @@ use Rattle.insert.proofs.Turned.{turned}
 use Rattle.insert.proofs.InsideWrites.{grown-forward, among-more, climb-now}
 use Rattle.insert.proofs.InsideRound.{First, chosen-either, turned-in, relinked, first-now, off-among}
 use Rattle.insert.proofs.HeldRound.{Beside, beside-off}
-use Rattle.insert.proofs.FoundPath.{Enters, More, links-more, Sound, sound-moved, sound-among}
+use Rattle.insert.proofs.FoundPath.{Enters, Sound, sound-among}
 use Rattle.insert.proofs.FoundClimb.{path-same, written-here, Climbs, reachedBy, Cut, grown-sound, above-sound, climb-sound}
 
 abbrev pub Behind : List ℕ → List Place → Type 0

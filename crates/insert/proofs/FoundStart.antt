@@ -22,9 +22,9 @@ use Rattle.store.specs.declared.Format.{Format}
 use Rattle.store.specs.declared.Head.{Head}
 use Rattle.store.specs.declared.Item.{Item}
 use Rattle.store.specs.Format.{width}
-use Rattle.store.specs.Head.{headOf, headRule, nodeStart, nodeWords, pageAt, pageStart, pageWords}
+use Rattle.store.specs.Head.{headOf, nodeStart, nodeWords, pageAt, pageStart, pageWords}
 use Rattle.store.proofs.HeadLaws.{head-facts, levels-within}
-use Rattle.node.specs.Node.{depthWord, levelWord, backWord, forwardWord, nodeRule, entryNumber}
+use Rattle.node.specs.Node.{depthWord, levelWord, forwardWord, nodeRule}
 use Rattle.page.specs.Page.{count, itemAt, lawfulItem, pageRule, agrees}
 use Rattle.page.specs.Schema.{keyOf}
 use Rattle.page.proofs.Laws.{lawful-key, rule-facts}
@@ -33,11 +33,11 @@ use Rattle.search.specs.declared.Visit.{Visit}
 use Rattle.search.specs.declared.Descent.{Descent}
 use Rattle.search.specs.Descent.{noStep, noSteps, entryVisit, stepOf, stepTaken, descend, descent}
 use Rattle.search.specs.Find.{soundPage}
-use Rattle.represent.specs.Image.{nodeImage, pageImage, NodeIs}
+use Rattle.represent.specs.Image.{nodeImage, pageImage}
 use Rattle.represent.specs.Rep.{Sized}
 use Rattle.split.specs.Frame.{nodeOf, pageOf}
 use Rattle.split.specs.Round.{Place}
-use Rattle.insert.specs.Enter.{Way, itemsIn, ownItems, ownPasses, neighbourOk, pathIn, wayOf, undamaged, found, startOf}
+use Rattle.insert.specs.Enter.{itemsIn, ownItems, ownPasses, neighbourOk, pathIn, wayOf, undamaged, found, startOf}
 use Rattle.insert.specs.Fine.{Off, depths, sum}
 use Rattle.insert.proofs.TestLaws.{items-null, items-some}
 use Rattle.insert.proofs.PageWords.{page-image}

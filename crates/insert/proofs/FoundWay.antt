@@ -36,15 +36,14 @@ use Rattle.represent.specs.Image.{pageImage}
 use Rattle.represent.specs.Rep.{Sized}
 use Rattle.split.specs.Frame.{nodeOf, pageOf}
 use Rattle.split.specs.Round.{Place, Climbed, chosen, round}
-use Rattle.split.specs.Insertion.{Ok, wordStore, putItems, nextPage, takePage}
+use Rattle.split.specs.Insertion.{wordStore, putItems, nextPage, takePage}
 use Rattle.split.specs.Block.{nodeOps}
 use Rattle.split.proofs.Frame.{putPagesTaken-sizes, putPagesTaken-sized, putPagesTaken-root, putPagesTaken-levels}
 use Rattle.split.proofs.PageLaws.{put-head, put-same, put-other, take-same, take-pagesTaken, side-whole}
 use Rattle.split.proofs.WordStore.{others-pages}
 use Rattle.insert.specs.Enter.{Way, Parted, parted, roundOf, roundsOf}
-use Rattle.insert.specs.Fine.{Off, Among, Fine, depths, sum}
+use Rattle.insert.specs.Fine.{Off, Fine, depths, sum}
 use Rattle.insert.proofs.Turned.{turned, turned-slack, turned-full}
-use Rattle.insert.proofs.InsideRound.{Turned}
 use Rattle.insert.proofs.InsideWay.{take-kept, Halved, bit-left, positive, page-step, positive-theta, theta-q, fits-q, room-q}
 use Rattle.insert.proofs.InsideWay.{no-rounds, turn, round-fine}
 use Rattle.insert.proofs.FoundPath.{More, Sound, sound-moved, sound-among, sound-levels}
