@@ -5,6 +5,7 @@
 --   Led s path      == they are taken ones of the words s, the first is none of the others, and the node behind it is a taken one
 --   Held θ s path   == each place of the path is at a node that the arrays of a node can hold, with the local depth that the path says
 --   Apart path      == no two places of the path are at one node
+--   Slack n path    == at each place, n bits of the key are left behind those of its run
 --   Fine f θ C k d w == d rounds of a way w stay inside its words and make room for the key k
 use mathlib.Core.Path.{_≡_}
 use mathlib.Core.List.{List, [], _∷_, map}
@@ -50,6 +51,9 @@ Held θ s path = All (λ p. Holder θ (nodeOf s (p .at)) (p .bits) (p .depth)) p
 abbrev pub Apart : List Place → Type 0
 Apart path = Pairwise (λ p q. p .at ≡ q .at → ⊥) path
 
+abbrev pub Slack : ℕ → List Place → Type 0
+Slack n = All (λ p. p .depth + n ≤ length (p .bits))
+
 pub record Fine (f : Format) (θ C k d : ℕ) (w : Way) : Type 0 where
   pub sized : Sized f (w .words)
   pub theta : headOf (w .words) .theta ≡ θ
@@ -57,6 +61,7 @@ pub record Fine (f : Format) (θ C k d : ℕ) (w : Way) : Type 0 where
   pub led : Led (w .words) (w .path)
   pub held : Held θ (w .words) (w .path)
   pub apart : Apart (w .path)
+  pub slack : Slack (width f - w .used) (w .path)
   pub nodes : headOf (w .words) .nodesTaken + bumpCosts d θ (depths (w .path)) ≤ headOf (w .words) .nodeBlocks
   -- a path has room for 32 steps
   pub short : length (w .path) ≤ 32
