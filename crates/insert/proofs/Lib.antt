@@ -15,5 +15,8 @@ pub mod InsideRound
 pub mod HeldRound
 pub mod InsideWay
 pub mod InsideEnter
+pub mod FrameRound
+pub mod FrameWay
+pub mod FrameEnter
 pub mod Promises
 pub mod Example

@@ -1,4 +1,5 @@
 pub mod Enter
 pub mod Fine
+pub mod Frame
 pub mod Promises
 pub mod Example
