@@ -1,7 +1,8 @@
 -- A climb keeps a sound path sound, in any words: a node that has room grows in place; one that splits leaves a half on the path, and the
 -- run above it is halved to the two halves; above a split root stands the new one.
 --   Here t l n v      == node n is the image of v at level l + 1, with links in range
---   Climbs s l path next r == the climb r along the path leaves a path one bit longer that leads to next, and all but nodes as it was
+--   Climbs l path next r == the climb r along the path leaves a sound path, one bit longer, that leads to next
+--   reachedBy path a c == the one of a and c that the key's first bit behind the path chooses
 --   Cut s t l p path lo up == t is s with the node at p split into lo and up, and the nodes of the path above as they were
 --   ClimbSound path   == a climb along the path keeps it
 use mathlib.Core.Path.{_≡_, refl, sym, ap, _∙_, subst}
@@ -121,10 +122,9 @@ module _ (f : Format) (θ key : ℕ) where
         (half-at t l n m v lo up b k a c used (subst (λ q. graft v q (pair a c) ≡ fork lo up) own e) (y .is .low)
         (ap (depth v) (sym own) ∙ y .depth-is ∙ full) (omega arith) (λ x o. enters-more s t l x more (y .points x o)) ea ec refl hn hm))
 
-  pub record Climbs (s : List ℕ) (l : ℕ) (path : List Place) (next : ℕ) (r : Climbed (List ℕ)) : Type 0 where
+  pub record Climbs (l : ℕ) (path : List Place) (next : ℕ) (r : Climbed (List ℕ)) : Type 0 where
     pub sound : Sound f θ key (r .store) l (r .path) next
     pub longer : sum (depths (r .path)) ≡ suc (sum (depths path))
-    pub others-same : others (r .store) ≡ others s
 
   abbrev pub reachedBy : List Place → ℕ → ℕ → ℕ
   reachedBy path a c = chosen (bits (width f - sum (depths path)) key) a c
@@ -152,13 +152,13 @@ module _ (f : Format) (θ key : ℕ) where
         (s : List ℕ) (l a c next : ℕ) → Ok f θ s → headOf s .nodesTaken ≤ headOf s .nodeBlocks
         → headOf s .nodesTaken + bumpCost θ (depths path) ≤ headOf s .nodeBlocks
         → Sound f θ key s l path next → Apart path → sum (depths path) < width f → Enters s l a → Enters s l c
-        → Climbs s l path (reachedBy path a c) (climb (nodeOps θ) (wordStore f θ) θ (bits (width f) key) s path a c)
+        → Climbs l path (reachedBy path a c) (climb (nodeOps θ) (wordStore f θ) θ (bits (width f) key) s path a c)
 
     -- a node that has room
     pub grown-sound : (s : List ℕ) (l : ℕ) (p : Place) (path : List Place) (a c next : ℕ) → Ok f θ s
         → headOf s .nodesTaken ≤ headOf s .nodeBlocks → Sound f θ key s l (p ∷ path) next → Apart (p ∷ path)
         → sum (depths (p ∷ path)) < width f → Enters s l a → Enters s l c → p .depth < θ
-        → Climbs s l (p ∷ path) (reachedBy (p ∷ path) a c)
+        → Climbs l (p ∷ path) (reachedBy (p ∷ path) a c)
         (record { store = grown (nodeOps θ) (wordStore f θ) s p a c; path = deeper p ∷ path })
     unfolding grown
     grown-sound s l p path a c next ok fits y apart left ea ec room =
@@ -192,7 +192,6 @@ module _ (f : Format) (θ key : ℕ) where
                 (y .1),
           );
           longer = omega arith;
-          others-same = put .others-same;
         }
 
     -- a node that splits, and the climb above it
@@ -200,7 +199,7 @@ module _ (f : Format) (θ key : ℕ) where
         → headOf s .nodesTaken + bumpCost θ (depths (p ∷ path)) ≤ headOf s .nodeBlocks
         → (y : Sound f θ key s l (p ∷ path) next) → Apart (p ∷ path) → sum (depths (p ∷ path)) < width f → Enters s l a → Enters s l c
         → θ ≤ p .depth → graft (y .0 .trie) (p .bits) (pair a c) ≡ fork lo up → Cut s t l p path lo up → ClimbSound path
-        → Climbs s l (p ∷ path) (reachedBy (p ∷ path) a c)
+        → Climbs l (p ∷ path) (reachedBy (p ∷ path) a c)
         (let r = climb (nodeOps θ) (wordStore f θ) θ (bits (width f) key) t path (p .at) (suc (headOf s .nodesTaken)) in
         record { store = r .store; path = inHalf θ p (suc (headOf s .nodesTaken)) ∷ r .path })
     above-sound s t l p path a c next lo up room y apart left ea ec full e w climbs =
@@ -222,7 +221,7 @@ module _ (f : Format) (θ key : ℕ) where
         let g =
         climbs t (suc l) (p .at) m (p .at) (w .ok) fits-t room-t up-t (apart .1) (omega arith)
         (z .within .0, omega (arith, z .within .1, w .taken)) (omega arith, omega (arith, w .taken)) in
-        let more-v : More t v = more-others t v (omega (arith, now .taken)) (g .others-same) in
+        let more-v : More t v = more-others t v (omega (arith, now .taken)) (now .others-same) in
         let here-n : Here v l (p .at) lo =
         here-moved t v l (p .at) lo more-v
         (now .frame (p .at) (z .within .0) (omega (arith, z .within .1, w .taken)) (beside-off (p .at) path (apart .0))) (w .lower-is) in
@@ -240,13 +239,12 @@ module _ (f : Format) (θ key : ℕ) where
             subst (λ q. Sound f θ key v (suc l) (r .path) (chosen q (p .at) m)) (sym (z .bits-are)) (g .sound),
           );
           longer = omega (arith, g .longer, deep);
-          others-same = g .others-same ∙ w .others-same;
         }
 
     -- a new root
     root-sound : (s : List ℕ) (l a c : ℕ) → Ok f θ s → headOf s .nodesTaken < headOf s .nodeBlocks → headOf s .levels ≡ l
         → 0 < width f → Enters s l a → Enters s l c
-        → Climbs s l [] (chosen (bits (width f - 0) key) a c) (record {
+        → Climbs l [] (chosen (bits (width f - 0) key) a c) (record {
           store = newRoot (nodeOps θ) (wordStore f θ) s a c;
           path = record { at = suc (headOf s .nodesTaken); bits = bits (width f) key; depth = 1 } ∷ [];
         })
@@ -287,7 +285,6 @@ module _ (f : Format) (θ key : ℕ) where
             (g .root-is, g .levels-is ∙ ap suc (p .levels-same ∙ h .levels-is ∙ level)),
           );
           longer = refl;
-          others-same = same;
         }
 
     -- a node above level 1 splits
@@ -326,7 +323,7 @@ module _ (f : Format) (θ key : ℕ) where
     climb-sound (p ∷ path) s l a c next ok fits room y apart left ea ec =
         elim (decLt (p .depth) θ) [
           | yes h ↦
-              subst (Climbs s l (p ∷ path) (reachedBy (p ∷ path) a c))
+              subst (Climbs l (p ∷ path) (reachedBy (p ∷ path) a c))
               (sym (climb-room (nodeOps θ) (wordStore f θ) θ (bits (width f) key) s p a c path h))
               (grown-sound s l p path a c next ok fits y apart left ea ec h)
           | no h ↦
@@ -334,7 +331,7 @@ module _ (f : Format) (θ key : ℕ) where
               let z = y .0 in
               let deep : θ ≤ depth (z .trie) (p .bits) = omega (arith, z .depth-is) in
               let q = forked (z .trie) (p .bits) a c in
-              subst (Climbs s l (p ∷ path) (reachedBy (p ∷ path) a c))
+              subst (Climbs l (p ∷ path) (reachedBy (p ∷ path) a c))
               (sym (climb-full (nodeOps θ) (wordStore f θ) θ (bits (width f) key) s p a c path full))
               (above-sound s (splitNode (nodeOps θ) (wordStore f θ) s p a c) l p path a c next (q .0) (q .1) room y apart left ea ec full
               (q .2)

@@ -161,8 +161,8 @@ module _ (f : Format) (θ C : ℕ) (it : Item) (lawful : lawfulItem f it ≡ tru
         image = is ∙ ap (λ c. pageImage f c rs) (sym cap);
         filled = omega (arith, length-insert keyOf it (w .items));
         fits = omega (arith, cap, small);
-        lawful = all-insert keyOf (λ x. lawfulItem f x ≡ true) it (w .items) lawful (g .lawful);
-        sorted = sorted-insert keyOf it (w .items) (y .new) (g .sorted);
+        lawful = all-insert keyOf (λ x. lawfulItem f x ≡ true) it (w .items) lawful (y .lawful);
+        sorted = sorted-insert keyOf it (w .items) (y .new) (y .sorted);
         prefix =
             subst (λ n. Prefix keyOf (width f - n) (key / 2 ^ (width f - n)) rs) (sym (g .used-is))
             (all-insert keyOf (λ x. x .key / 2 ^ (width f - w .used) ≡ key / 2 ^ (width f - w .used)) it (w .items) refl (y .prefix));

@@ -1,8 +1,8 @@
--- The key's way in the words stays a right one, on any words: after each round the path is sound and leads to the key's page, whose block
--- is the image of the records carried, lawful and ascending; and the levels stay within L. A root splits only where every run of the path
--- is at θ, so the levels times θ are bits used; and a full page with the new key leaves more than log2 C bits.
+-- The key's way in the words stays a right one, on any words: after each round the path is sound and leads to the key's page, and the
+-- levels stay within L. A root splits only where every run of the path is at θ, so the levels times θ are bits used; and a full page with
+-- the new key leaves more than log2 C bits.
 --   Rooted s t     == the words t have the root and the levels of s
---   Halves s q low high items == the page halved: root and levels stay, and each half that has a page is in it
+--   Halves s q     == the page halved: root and levels stay, and no fewer pages are in use
 --   Right f θ C it w == these facts of a way
 use mathlib.Core.Path.{_≡_, refl, sym, ap, _∙_, subst}
 use mathlib.Core.Bool.{Bool, true, false}
@@ -15,14 +15,13 @@ use native.Mathlib.Decide.{decLt}
 use lib.ListN.{length}
 use Rattle.lists.specs.Bits.{bit, bits}
 use Rattle.lists.specs.Lists.{All}
-use Rattle.lists.specs.Keyed.{Sorted, insert}
+use Rattle.lists.specs.Keyed.{insert}
 use Rattle.lists.proofs.KeyedLaws.{length-insert, all-insert, sorted-insert}
 use Rattle.lists.proofs.ListLaws.{all-map}
 use Rattle.tree.specs.Trie.{Key}
 use Rattle.tree.specs.Build.{side}
 use Rattle.tree.specs.Book.{log2, levelBound}
-use Rattle.tree.proofs.BuildLaws.{length-sides, sorted-side, all-side}
-use Rattle.tree.proofs.InsertLaws.{pagesAt-full}
+use Rattle.tree.proofs.BuildLaws.{length-sides}
 use Rattle.tree.proofs.LevelLaws.{bits-left}
 use Rattle.store.specs.declared.Format.{Format}
 use Rattle.store.specs.declared.Head.{Head}
@@ -30,25 +29,24 @@ use Rattle.store.specs.declared.Item.{Item}
 use Rattle.store.specs.Format.{width}
 use Rattle.store.specs.Head.{headOf}
 use Rattle.node.specs.Node.{forwardWord}
-use Rattle.page.specs.Page.{lawfulItem}
 use Rattle.page.specs.Schema.{keyOf}
-use Rattle.represent.specs.Image.{pageImage}
 use Rattle.represent.specs.Rep.{Sized}
-use Rattle.split.specs.Frame.{nodeOf, pageOf}
+use Rattle.split.specs.Frame.{nodeOf}
 use Rattle.split.specs.Round.{Place, Climbed, chosen, round}
 use Rattle.split.specs.Insertion.{wordStore, putItems, nextPage, takePage}
 use Rattle.split.specs.Block.{nodeOps}
 use Rattle.split.proofs.Frame.{putPagesTaken-sizes, putPagesTaken-sized, putPagesTaken-root, putPagesTaken-levels}
-use Rattle.split.proofs.PageLaws.{put-head, put-same, put-other, take-same, take-pagesTaken, side-whole}
-use Rattle.split.proofs.WordStore.{others-pages}
+use Rattle.split.proofs.PageLaws.{put-head, take-pagesTaken}
 use Rattle.insert.specs.Enter.{Way, Parted, parted, roundOf, roundsOf}
-use Rattle.insert.specs.Fine.{Off, Fine, depths, sum}
+use Rattle.insert.specs.Fine.{Off, Led, Fine, depths, sum}
+use Rattle.insert.specs.Frame.{behindIn}
 use Rattle.insert.proofs.Turned.{turned, turned-slack, turned-full}
 use Rattle.insert.proofs.InsideWay.{take-kept, Halved, bit-left, positive, page-step, positive-theta, theta-q, fits-q, room-q}
-use Rattle.insert.proofs.InsideWay.{no-rounds, turn, round-fine}
+use Rattle.insert.proofs.InsideWay.{one-page, turn, round-fine, round-full}
 use Rattle.insert.proofs.FoundPath.{More, Sound, sound-moved, sound-among, sound-levels}
 use Rattle.insert.proofs.FoundClimb.{Climbs, reachedBy}
-use Rattle.insert.proofs.FoundRound.{Behind, round-sound}
+use Rattle.insert.proofs.FrameWay.{round-off}
+use Rattle.insert.proofs.FoundRound.{round-sound}
 
 -- a level more only where every run is at θ
 turned-grows : (θ : ℕ) (k : Key) (m : ℕ) (path : List Place)
@@ -87,55 +85,41 @@ take-rooted f C s p rs ok low high full fits =
     (rooted-head (takePage s) _
     (put-head f C (takePage s) p rs (putPagesTaken-sized s (nextPage s) f ok) low (omega (arith, k .pages)) (k .capacity ∙ full) fits))
 
-record Halves (f : Format) (C : ℕ) (s : List ℕ) (q : Parted) (low high : List Item) : Type 0 where
+-- a page halved
+record Halves (s : List ℕ) (q : Parted) : Type 0 where
   rooted : Rooted s (q .words)
   grows : headOf s .pagesTaken ≤ headOf (q .words) .pagesTaken
-  left-image : 1 ≤ q .left → pageOf f (q .words) (q .left) ≡ pageImage f C low
-  right-image : 1 ≤ q .right → pageOf f (q .words) (q .right) ≡ pageImage f C high
 
-halves : (f : Format) (C : ℕ) (s : List ℕ) (p : ℕ) (low high items : List Item) → Sized f s → headOf s .capacity ≡ C → 1 ≤ p
+halves : (f : Format) (C : ℕ) (s : List ℕ) (p : ℕ) (low high : List Item) → Sized f s → headOf s .capacity ≡ C → 1 ≤ p
     → p ≤ headOf s .pagesTaken → suc (headOf s .pagesTaken) ≤ headOf s .pageBlocks → length low ≤ C → length high ≤ C
-    → pageOf f s p ≡ pageImage f C items → (low ≡ [] → high ≡ items) → (high ≡ [] → low ≡ items)
-    → Halves f C s (parted f C s p low high) low high
+    → Halves s (parted f C s p low high)
 unfolding parted
-halves f C s p [] high items ok full one within room fit₀ fit₁ is none all =
-    record {
-      rooted = rooted-head s s refl;
-      grows = omega arith;
-      left-image = λ h. absurd (omega arith);
-      right-image = λ h. is ∙ ap (pageImage f C) (sym (none refl));
-    }
-halves f C s p (x ∷ xs) [] items ok full one within room fit₀ fit₁ is none all =
-    record {
-      rooted = rooted-head s s refl;
-      grows = omega arith;
-      left-image = λ h. is ∙ ap (pageImage f C) (sym (all refl));
-      right-image = λ h. absurd (omega arith);
-    }
-halves f C s p (x ∷ xs) (y ∷ ys) items ok full one within room fit₀ fit₁ is none all =
+halves f C s p [] high ok full one within room fit₀ fit₁ = record { rooted = rooted-head s s refl; grows = omega arith }
+halves f C s p (x ∷ xs) [] ok full one within room fit₀ fit₁ = record { rooted = rooted-head s s refl; grows = omega arith }
+halves f C s p (x ∷ xs) (y ∷ ys) ok full one within room fit₀ fit₁ =
     let m : ℕ = suc (headOf s .pagesTaken) in
     let high : p ≤ headOf s .pageBlocks = omega arith in
     let t : List ℕ = putItems f C (takePage s) p (x ∷ xs) in
     let k = take-kept f C s p (x ∷ xs) ok one high full fit₀ in
-    let room₁ : m ≤ headOf t .pageBlocks = omega (arith, k .sizes-same .pages) in
-    let full₁ : headOf t .capacity ≡ C = k .sizes-same .capacity ∙ full in
-    let e = put-head f C t m (y ∷ ys) (k .sized) (omega arith) room₁ full₁ fit₁ in
+    let e =
+    put-head f C t m (y ∷ ys) (k .sized) (omega arith) (omega (arith, k .sizes-same .pages)) (k .sizes-same .capacity ∙ full) fit₁ in
     record {
       rooted = rooted-then s t _ (take-rooted f C s p (x ∷ xs) ok one high full fit₀) (rooted-head t _ e);
       grows = omega (arith, ap (λ (h : Head). h .pagesTaken) e, take-pagesTaken f C s p (x ∷ xs) ok one high full fit₀);
-      left-image = λ h.
-          put-other f C t m (y ∷ ys) (k .sized) (omega arith) room₁ full₁ fit₁ p one (λ i. omega arith)
-          ∙ take-same f C s p (x ∷ xs) ok one high full fit₀;
-      right-image = λ h. put-same f C t m (y ∷ ys) (k .sized) (omega arith) room₁ full₁ fit₁;
     }
 
 chosen-page : (c : Bool) (k : Key) (l r : ℕ) → chosen (c ∷ k) l r ≡ elim c [ true ↦ r | false ↦ l ]
 chosen-page true k l r = refl
 chosen-page false k l r = refl
 
-behind-same : (s t : List ℕ) (path : List Place) → All (λ p. nodeOf t (p .at) ≡ nodeOf s (p .at)) path → Behind s path → Behind t path
-behind-same s t [] same b = b
-behind-same s t (p ∷ path) same b = subst (λ ws. Off (forwardWord ws 0) (p ∷ path)) (sym (same .0)) b
+behind-same : (s t : List ℕ) (path : List Place) → 1 ≤ length path → All (λ p. nodeOf t (p .at) ≡ nodeOf s (p .at)) path
+    → behindIn t path ≡ behindIn s path
+behind-same s t [] some same = absurd (omega arith)
+behind-same s t (p ∷ path) some same = ap (λ ws. forwardWord ws 0) (same .0)
+
+led-some : (s : List ℕ) (path : List Place) → Led s path → 1 ≤ length path
+led-some s [] led = absurd led
+led-some s (p ∷ path) led = omega arith
 
 module _ (f : Format) (θ C : ℕ) (it : Item) where
   abbrev key : ℕ
@@ -143,11 +127,8 @@ module _ (f : Format) (θ C : ℕ) (it : Item) where
 
   pub record Right (w : Way) : Type 0 where
     pub sound : Sound f θ key (w .words) 0 (w .path) (w .page)
-    pub behind : Behind (w .words) (w .path)
+    pub behind : Off (behindIn (w .words) (w .path)) (w .path)
     pub used-is : sum (depths (w .path)) ≡ w .used
-    pub image : 1 ≤ w .page → pageOf f (w .words) (w .page) ≡ pageImage f C (w .items)
-    pub lawful : All (λ x. lawfulItem f x ≡ true) (w .items)
-    pub sorted : Sorted keyOf (w .items)
     pub levels-in : headOf (w .words) .levels ≤ levelBound (width f) θ C
 
   module _ (d : ℕ) (w : Way) (y : Fine f θ C key (suc d) w) (full : length (w .items) ≡ C) (g : Right w) where
@@ -173,7 +154,7 @@ module _ (f : Format) (θ C : ℕ) (it : Item) where
     t = r .store
 
     -- the page halved
-    step : Halved f s low high q
+    step : Halved f C s low high q
     step = page-step f θ C key d w y full
 
     sizes : length low + length high ≡ length (w .items)
@@ -182,13 +163,10 @@ module _ (f : Format) (θ C : ℕ) (it : Item) where
     some-page : 1 ≤ w .page
     some-page = y .some (omega (arith, positive f θ C key (suc d) w y))
 
-    pages : Halves f C s q low high
+    pages : Halves s q
     pages =
-        halves f C s (w .page) low high (w .items) (y .sized) (y .capacity) some-page (y .page-in)
-        (omega (arith, y .pages, pagesAt-full C (w .items) (omega arith))) (omega (arith, sizes)) (omega (arith, sizes))
-        (g .image some-page)
-        (λ e. side-whole keyOf true b (w .items) (omega (arith, sizes, ap length e)))
-        (λ e. side-whole keyOf false b (w .items) (omega (arith, sizes, ap length e)))
+        halves f C s (w .page) low high (y .sized) (y .capacity) some-page (y .page-in)
+        (omega (arith, y .pages, one-page f θ C key d w y full)) (omega (arith, sizes)) (omega (arith, sizes))
 
     more : More s (q .words)
     more = record { nodes = omega (arith, step .taken); pages = pages .grows }
@@ -201,29 +179,28 @@ module _ (f : Format) (θ C : ℕ) (it : Item) where
     left : suc b ≡ width f - w .used
     left = bit-left f θ C key (suc d) w y full
 
-    climbed : Climbs f θ key (q .words) 0 (w .path) (reachedBy f θ key (w .path) (q .left) (q .right)) r × Behind t (r .path)
+    some : 1 ≤ length (w .path)
+    some = led-some s (w .path) (y .led)
+
+    climbed : Climbs f θ key 0 (w .path) (reachedBy f θ key (w .path) (q .left) (q .right)) r
     climbed =
         round-sound f θ key (positive-theta f θ C key d w y full) (w .path) (q .words) (q .left) (q .right) (w .page)
         (record { theta = theta-q f θ C key d w y full; sized = step .kept .sized }) (fits-q f θ C key d w y full)
         (room-q f θ C key d w y full)
-        (sound-moved f θ key s (q .words) 0 (w .path) (w .page) more (pages .rooted .root) (pages .rooted .levels) same (g .sound))
-        (y .apart) (behind-same s (q .words) (w .path) same (g .behind)) (omega (arith, g .used-is, left)) (step .left-in) (step .right-in)
+        (sound-moved f θ key s (q .words) 0 (w .path) (w .page) more (pages .rooted .root) (pages .rooted .levels) same (g .sound)) some
+        (y .apart) (subst (λ n. Off n (w .path)) (sym (behind-same s (q .words) (w .path) some same)) (g .behind))
+        (omega (arith, g .used-is, left)) (step .left-in) (step .right-in)
 
     page-is : reachedBy f θ key (w .path) (q .left) (q .right) ≡ elim (bit b key) [ true ↦ q .right | false ↦ q .left ]
     page-is =
         let e : width f - sum (depths (w .path)) ≡ suc b = omega (arith, g .used-is, left) in
         ap (λ n. chosen (bits n key) (q .left) (q .right)) e ∙ chosen-page (bit b key) (bits b key) (q .left) (q .right)
 
-    half-image : (c : Bool) → 1 ≤ elim c [ true ↦ q .right | false ↦ q .left ]
-        → pageOf f t (elim c [ true ↦ q .right | false ↦ q .left ]) ≡ pageImage f C (side keyOf c b (w .items))
-    half-image true h = others-pages f (q .words) t (q .right) (climbed .0 .others-same) ∙ pages .right-image h
-    half-image false h = others-pages f (q .words) t (q .left) (climbed .0 .others-same) ∙ pages .left-image h
-
     -- a full page and the new key leave more than log2 C bits
     bits-over : log2 C < width f - w .used
     bits-over =
         bits-left keyOf C (positive f θ C key (suc d) w y) (width f - w .used) (key / 2 ^ (width f - w .used)) (insert keyOf it (w .items))
-        (sorted-insert keyOf it (w .items) (y .new) (g .sorted))
+        (sorted-insert keyOf it (w .items) (y .new) (y .sorted))
         (all-insert keyOf (λ x. x .key / 2 ^ (width f - w .used) ≡ key / 2 ^ (width f - w .used)) it (w .items) refl (y .prefix))
         (omega (arith, length-insert keyOf it (w .items)))
 
@@ -231,7 +208,7 @@ module _ (f : Format) (θ C : ℕ) (it : Item) where
     unfolding levelBound
     levels-now =
         let way = turn f θ C key d w y full .way in
-        let now = sound-levels f θ key t 0 (r .path) _ (climbed .0 .sound) in
+        let now = sound-levels f θ key t 0 (r .path) _ (climbed .sound) in
         let old = sound-levels f θ key s 0 (w .path) (w .page) (g .sound) in
         elim (turned-grows θ (bits (width f) key) (headOf (q .words) .nodesTaken) (w .path)) [
           | inl e ↦ omega (arith, now, old, ap length way, e, g .levels-in)
@@ -247,21 +224,14 @@ module _ (f : Format) (θ C : ℕ) (it : Item) where
     unfolding roundOf
     round-right =
         record {
-          sound = subst (Sound f θ key t 0 (r .path)) page-is (climbed .0 .sound);
-          behind = climbed .1;
-          used-is = omega (arith, climbed .0 .longer, g .used-is);
-          image = half-image (bit b key);
-          lawful = all-side keyOf (λ x. lawfulItem f x ≡ true) (bit b key) b (w .items) (g .lawful);
-          sorted = sorted-side keyOf (bit b key) b (w .items) (g .sorted);
+          sound = subst (Sound f θ key t 0 (r .path)) page-is (climbed .sound);
+          behind = round-off f θ C key d w y (g .behind);
+          used-is = omega (arith, climbed .longer, g .used-is);
           levels-in = levels-now;
         }
 
   pub rounds-right : (d : ℕ) (w : Way) → Fine f θ C key d w → Right w → Right (roundsOf f θ C key d w)
   rounds-right zero w y g = g
   rounds-right (suc d) w y g =
-      elim (decLt (length (w .items)) C) [
-        | yes small ↦ absurd (omega (arith, y .rounds, no-rounds C (width f - w .used) key (w .items) small))
-        | no large ↦
-            let full : length (w .items) ≡ C = omega (arith, y .fit) in
-            rounds-right d (roundOf f θ C key w) (round-fine f θ C key d w y full) (round-right d w y full g)
-      ]
+      let full = round-full f θ C key d w y in
+      rounds-right d (roundOf f θ C key w) (round-fine f θ C key d w y full) (round-right d w y full g)

@@ -12,7 +12,7 @@ use native.Mathlib.Nat.{zero-add, add-sub-of-le, mod-lt, pow-zero, mul-one}
 use native.Mathlib.Omega.{arith}
 use native.Mathlib.Decide.{decLt}
 use lib.Dec.{leb, ltb}
-use lib.ListN.{drop, set}
+use lib.ListN.{length, drop, set}
 use lib.Pow.{pow-pos, shl-lt}
 use lib.Seq.{getD-set-other}
 use borrow.Author.Tests.{le-leb, lt-ltb, le-ltb}
@@ -60,16 +60,18 @@ holder-alike θ ws vs k h a w =
       low = omega (arith, a .depth-same, w .low);
       all = λ j l. omega (arith, a .depth-same, a .entry-same j, w .all j (subst (λ d. j < 2 ^ d) (a .depth-same) l));
       here = a .entry-same (index (depthWord vs 0) k) ∙ ap (λ d. entryDepth ws 0 (index d k)) (a .depth-same) ∙ w .here;
+      left = omega (arith, a .depth-same, w .left);
     }
 
 -- a block written from entries
-block-holder : (θ H level back forward : ℕ) (e : ℕ → Entry ℕ) (k : Key) (h : ℕ) → H ≤ θ → ((j : ℕ) → j < 2 ^ H → e j .0 ≤ H)
+block-holder : (θ H level back forward : ℕ) (e : ℕ → Entry ℕ) (k : Key) (h : ℕ) → H ≤ θ → H ≤ length k
+    → ((j : ℕ) → j < 2 ^ H → e j .0 ≤ H)
     → e (index H k) .0 ≡ h → Holder θ (block θ H level back forward e) k h
 unfolding block
-block-holder θ H level back forward e k h low all here =
+block-holder θ H level back forward e k h low left all here =
     let at : (j : ℕ) → j < 2 ^ H → entryDepth (block θ H level back forward e) 0 j ≡ e j .0 =
     λ j l. ap (λ x. x .0) (block-entry θ H level back forward e j low l) in
-    record { low = low; all = λ j l. omega (arith, at j l, all j l); here = at (index H k) (index-lt H k) ∙ here }
+    record { low = low; all = λ j l. omega (arith, at j l, all j l); here = at (index H k) (index-lt H k) ∙ here; left = left }
 
 -- a run written over others
 over-either : (P : Entry ℕ → Type 0) (n i : ℕ) (g e : ℕ → Entry ℕ) (j : ℕ) → ((x : ℕ) → P (g x)) → P (e j) → P (overRun n i g e j)
@@ -101,7 +103,7 @@ run-holder θ ws k h a c w room =
     let n : ℕ = runLength ws i in
     let new : (x : ℕ) → halves n (entryDepth ws 0 i) a c x .0 ≡ suc h =
     λ x. halves-depth n (entryDepth ws 0 i) a c x ∙ ap suc (w .here) in
-    block-holder θ (depthWord ws 0) _ _ _ _ k (suc h) (w .low)
+    block-holder θ (depthWord ws 0) _ _ _ _ k (suc h) (w .low) (w .left)
     (λ j l.
     over-either (λ x. x .0 ≤ depthWord ws 0) n i (halves n (entryDepth ws 0 i) a c) (entryOf ws 0) j (λ x. omega (arith, new x))
     (w .all j l))
@@ -113,22 +115,24 @@ index-halved H k =
     let e : H + 1 ≡ suc H = omega arith in
     omega (arith, ap (λ n. index n k) e, index-add H 1 k, index-lt 1 (drop H k))
 
-double-holder : (θ : ℕ) (ws : List ℕ) (k : Key) (h : ℕ) → Holder θ ws k h → depthWord ws 0 < θ → Holder θ (double θ ws) k h
+double-holder : (θ : ℕ) (ws : List ℕ) (k : Key) (h : ℕ) → Holder θ ws k h → depthWord ws 0 < θ → depthWord ws 0 < length k
+    → Holder θ (double θ ws) k h
 unfolding double
-double-holder θ ws k h w room =
-    block-holder θ (suc (depthWord ws 0)) _ _ _ _ k h room (λ j l. omega (arith, w .all (j / 2) (omega arith)))
+double-holder θ ws k h w room left =
+    block-holder θ (suc (depthWord ws 0)) _ _ _ _ k h room left (λ j l. omega (arith, w .all (j / 2) (omega arith)))
     (ap (entryDepth ws 0) (index-halved (depthWord ws 0) k) ∙ w .here)
 
-pub grow-holder : (θ : ℕ) (ws : List ℕ) (k : Key) (h a c : ℕ) → Holder θ ws k h → h < θ → Holder θ (grow θ ws k a c) k (suc h)
+pub grow-holder : (θ : ℕ) (ws : List ℕ) (k : Key) (h a c : ℕ) → Holder θ ws k h → h < θ → h < length k
+    → Holder θ (grow θ ws k a c) k (suc h)
 unfolding grow double block
-grow-holder θ ws k h a c w room =
+grow-holder θ ws k h a c w room left =
     elim (decLt h (depthWord ws 0)) [
       | yes l ↦
           rw (lt-ltb (entryDepth ws 0 (number ws k)) (depthWord ws 0) (omega (arith, w .here)), grow) (run-holder θ ws k h a c w l)
       | no l ↦
           let deep = here-low θ ws k h w in
           rw (le-ltb (entryDepth ws 0 (number ws k)) (depthWord ws 0) (omega (arith, w .here)), grow)
-          (run-holder θ (double θ ws) k h a c (double-holder θ ws k h w (omega arith)) (omega arith))
+          (run-holder θ (double θ ws) k h a c (double-holder θ ws k h w (omega arith) (omega arith)) (omega arith))
     ]
 
 -- a half of a node of depth θ: every local depth less by one
@@ -171,10 +175,11 @@ module _ (θ : ℕ) (ws : List ℕ) (k : Key) (w : Holder θ ws k θ) (pos : 1 �
       greatest-at (2 ^ H) (λ i. fallen ws b i .0) (j * 2 ^ (H - G)) (rw (add-sub-of-le (shrunk-low b)) at (shl-lt G (H - G) l))
 
   -- the half that the key is in, by the numbers of its entries
-  half-at : (b : Bool) (j : Key) → index (depthWord ws 0) k ≡ halfStart ws b + index (pred (depthWord ws 0)) j
+  half-at : (b : Bool) (j : Key) → suc (length j) ≡ length k
+      → index (depthWord ws 0) k ≡ halfStart ws b + index (pred (depthWord ws 0)) j
       → Holder θ (half θ ws b) j (pred θ)
   unfolding half
-  half-at b j e =
+  half-at b j long e =
       let H : ℕ = pred (depthWord ws 0) in
       let G : ℕ = halfDepth ws b in
       let own : fallen ws b (index H j) .0 ≡ pred θ = ap (λ i. pred (entryDepth ws 0 i)) (sym e) ∙ ap pred (w .here) in
@@ -183,13 +188,9 @@ module _ (θ : ℕ) (ws : List ℕ) (k : Key) (w : Holder θ ws k θ) (pos : 1 �
       let none : H - G ≡ 0 = omega arith in
       let at : index G j * 2 ^ (H - G) ≡ index H j =
       ap (λ n. index G j * 2 ^ n) none ∙ ap (λ n. index G j * n) (pow-zero 2) ∙ mul-one (index G j) ∙ ap (λ n. index n j) same in
-      block-holder θ G _ _ _ _ j (pred θ) (omega (arith, shrunk-low b, full-depth)) (half-entry b) (ap (λ i. fallen ws b i .0) at ∙ own)
+      block-holder θ G _ _ _ _ j (pred θ) (omega (arith, shrunk-low b, full-depth)) (omega (arith, shrunk-low b, w .left)) (half-entry b) (ap (λ i. fallen ws b i .0) at ∙ own)
 
 -- the number of an entry, without the key's first bit
-index-none : (H : ℕ) → 1 ≤ H → index H [] ≡ 0 + index (pred H) []
-index-none zero p = absurd (omega arith)
-index-none (suc H) p = sym (zero-add (index H []))
-
 index-false : (H : ℕ) (k : Key) → 1 ≤ H → index H (false ∷ k) ≡ 0 + index (pred H) k
 index-false zero k p = absurd (omega arith)
 index-false (suc H) k p = sym (zero-add (index H k))
@@ -199,42 +200,37 @@ index-true zero k p = absurd (omega arith)
 index-true (suc H) k p = refl
 
 module _ (θ : ℕ) (ws : List ℕ) (pos : 1 ≤ θ) where
-  half-none : Holder θ ws [] θ → Holder θ (half θ ws false) [] (pred θ)
-  half-none w = half-at θ ws [] w pos false [] (index-none (depthWord ws 0) (omega (arith, full-depth θ ws [] w pos)))
-
   pub half-holder : (b : Bool) (k : Key) → Holder θ ws (b ∷ k) θ → Holder θ (half θ ws b) k (pred θ)
   half-holder false k w =
-      half-at θ ws (false ∷ k) w pos false k (index-false (depthWord ws 0) k (omega (arith, full-depth θ ws (false ∷ k) w pos)))
+      half-at θ ws (false ∷ k) w pos false k refl (index-false (depthWord ws 0) k (omega (arith, full-depth θ ws (false ∷ k) w pos)))
   half-holder true k w =
-      half-at θ ws (true ∷ k) w pos true k (index-true (depthWord ws 0) k (omega (arith, full-depth θ ws (true ∷ k) w pos)))
+      half-at θ ws (true ∷ k) w pos true k refl (index-true (depthWord ws 0) k (omega (arith, full-depth θ ws (true ∷ k) w pos)))
 
   -- the run halved in it: the key's entry is at θ again
-  again : (vs : List ℕ) (k : Key) (a c : ℕ) → Holder θ vs k (pred θ) → Holder θ (grow θ vs k a c) k θ
-  again vs k a c w =
+  again : (vs : List ℕ) (k : Key) (a c : ℕ) → Holder θ vs k (pred θ) → θ ≤ length k → Holder θ (grow θ vs k a c) k θ
+  again vs k a c w left =
       let e : suc (pred θ) ≡ θ = omega arith in
-      subst (Holder θ (grow θ vs k a c) k) e (grow-holder θ vs k (pred θ) a c w (omega arith))
+      subst (Holder θ (grow θ vs k a c) k) e (grow-holder θ vs k (pred θ) a c w (omega arith) (omega arith))
 
-  pub lower-none : (a c : ℕ) → Holder θ ws [] θ → Holder θ (lower θ ws [] a c) [] θ
+  pub lower-holder : (k : Key) (a c : ℕ) → Holder θ ws (false ∷ k) θ → θ ≤ length k → Holder θ (lower θ ws (false ∷ k) a c) k θ
   unfolding lower
-  lower-none a c w = again (half θ ws false) [] a c (half-none w)
+  lower-holder k a c w left = again (half θ ws false) k a c (half-holder false k w) left
 
-  pub lower-holder : (k : Key) (a c : ℕ) → Holder θ ws (false ∷ k) θ → Holder θ (lower θ ws (false ∷ k) a c) k θ
-  unfolding lower
-  lower-holder k a c w = again (half θ ws false) k a c (half-holder false k w)
-
-  pub upper-holder : (k : Key) (a c : ℕ) → Holder θ ws (true ∷ k) θ → Holder θ (upper θ ws (true ∷ k) a c) k θ
+  pub upper-holder : (k : Key) (a c : ℕ) → Holder θ ws (true ∷ k) θ → θ ≤ length k → Holder θ (upper θ ws (true ∷ k) a c) k θ
   unfolding upper
-  upper-holder k a c w = again (half θ ws true) k a c (half-holder true k w)
+  upper-holder k a c w left = again (half θ ws true) k a c (half-holder true k w) left
 
   -- the one of the two that the key is in, where they stand at the numbers x and y
   pub split-holder : (k : Key) (a c x y : ℕ) (at : ℕ → List ℕ) → Alike (lower θ ws k a c) (at x) → Alike (upper θ ws k a c) (at y)
-      → Holder θ ws k θ → Holder θ (at (chosen k x y)) (drop 1 k) θ
-  split-holder [] a c x y at l u w = holder-alike θ (lower θ ws [] a c) (at x) [] θ l (lower-none a c w)
-  split-holder (false ∷ k) a c x y at l u w = holder-alike θ (lower θ ws (false ∷ k) a c) (at x) k θ l (lower-holder k a c w)
-  split-holder (true ∷ k) a c x y at l u w = holder-alike θ (upper θ ws (true ∷ k) a c) (at y) k θ u (upper-holder k a c w)
+      → Holder θ ws k θ → θ < length k → Holder θ (at (chosen k x y)) (drop 1 k) θ
+  split-holder [] a c x y at l u w left = absurd (omega arith)
+  split-holder (false ∷ k) a c x y at l u w left =
+      holder-alike θ (lower θ ws (false ∷ k) a c) (at x) k θ l (lower-holder k a c w (omega arith))
+  split-holder (true ∷ k) a c x y at l u w left =
+      holder-alike θ (upper θ ws (true ∷ k) a c) (at y) k θ u (upper-holder k a c w (omega arith))
 
 -- a root with two entries
-pub top-holder : (θ level a c : ℕ) (k : Key) → 1 ≤ θ → Holder θ (top θ level a c) k 1
+pub top-holder : (θ level a c : ℕ) (k : Key) → 1 ≤ θ → 1 ≤ length k → Holder θ (top θ level a c) k 1
 unfolding top
-top-holder θ level a c k pos =
-    block-holder θ 1 level 0 0 (halves 2 0 a c) k 1 pos (λ j l. omega (arith, halves-depth 2 0 a c j)) (halves-depth 2 0 a c (index 1 k))
+top-holder θ level a c k pos left =
+    block-holder θ 1 level 0 0 (halves 2 0 a c) k 1 pos left (λ j l. omega (arith, halves-depth 2 0 a c j)) (halves-depth 2 0 a c (index 1 k))

@@ -8,6 +8,7 @@ use mathlib.Core.Path.{_≡_, sym, _∙_, subst}
 use mathlib.Core.List.{List, [], _∷_}
 use Prim.Native.Nat.{ℕ, suc, _+_, _≤_, _<_}
 use native.Mathlib.Omega.{arith}
+use lib.ListN.{length}
 use native.Mathlib.Decide.{decLt}
 use Rattle.lists.specs.Lists.{All}
 use Rattle.lists.proofs.ListLaws.{all-map, all-both}
@@ -33,7 +34,7 @@ use Rattle.insert.proofs.InsideWrites.{grown-now, grown-here, halve-now
 use Rattle.insert.proofs.InsideWrites.{climb-now}
 use Rattle.insert.proofs.InsideRound.{chosen-either, turned-in, off-among, first-now, first-lower, first-upper}
 use Rattle.insert.proofs.InsideRound.{first-other, round-turned}
-use Rattle.insert.specs.Fine.{Off, Among, Led, Held, Apart, depths}
+use Rattle.insert.specs.Fine.{Off, Among, Led, Held, Apart, Slack, depths}
 
 abbrev pub Beside : ℕ → List Place → Type 0
 Beside x = All (λ q. x ≡ q .at → ⊥)
@@ -64,12 +65,12 @@ module _ (f : Format) (θ : ℕ) where
   -- a node that has room
   grown-held : (s : List ℕ) (p : Place) (path : List Place) (a c : ℕ) → Sized f s → headOf s .theta ≡ θ
       → Among (headOf s .nodesTaken) (p ∷ path) → headOf s .nodesTaken ≤ headOf s .nodeBlocks → p .depth < θ → Held θ s (p ∷ path)
-      → Apart (p ∷ path) → Held θ (grown (nodeOps θ) (wordStore f θ) s p a c) (deeper p ∷ path)
-  grown-held s p path a c ok own among fits room held apart =
+      → Apart (p ∷ path) → Slack 1 (p ∷ path) → Held θ (grown (nodeOps θ) (wordStore f θ) s p a c) (deeper p ∷ path)
+  grown-held s p path a c ok own among fits room held apart slack =
       let t : List ℕ = grown (nodeOps θ) (wordStore f θ) s p a c in
       let z = grown-now f θ s p a c ok own (among .0) fits [] in (
         subst (λ ws. Holder θ ws (p .bits) (suc (p .depth))) (sym (grown-here f θ s p a c ok own (among .0) fits))
-            (grow-holder θ (nodeOf s (p .at)) (p .bits) (p .depth) a c (held .0) room),
+            (grow-holder θ (nodeOf s (p .at)) (p .bits) (p .depth) a c (held .0) room (omega (arith, slack .0))),
         held-beside θ (p .at) (headOf s .nodesTaken) s t path
             (λ n low high off. alike-is (nodeOf s n) (nodeOf t n) (z .frame n low high (off, tt))) (among .1) (apart .0) (held .1),
       )
@@ -84,19 +85,19 @@ module _ (f : Format) (θ : ℕ) where
 
   abbrev ClimbHeld : List Place → Type 0
   ClimbHeld path =
-      (k : Key) (s : List ℕ) (a c : ℕ) → 1 ≤ θ → Sized f s → headOf s .theta ≡ θ → Among (headOf s .nodesTaken) path
+      (k : Key) (s : List ℕ) (a c : ℕ) → 1 ≤ θ → 1 ≤ length k → Sized f s → headOf s .theta ≡ θ → Among (headOf s .nodesTaken) path
       → headOf s .nodesTaken ≤ headOf s .nodeBlocks → headOf s .nodesTaken + bumpCost θ (depths path) ≤ headOf s .nodeBlocks
-      → Held θ s path → Apart path
+      → Held θ s path → Apart path → Slack 1 path
       → Held θ (climb (nodeOps θ) (wordStore f θ) θ k s path a c .store) (climb (nodeOps θ) (wordStore f θ) θ k s path a c .path)
 
-  above-held : (s t : List ℕ) (p : Place) (path : List Place) (k : Key) (a c : ℕ) → 1 ≤ θ → headOf s .theta ≡ θ
+  above-held : (s t : List ℕ) (p : Place) (path : List Place) (k : Key) (a c : ℕ) → 1 ≤ θ → 1 ≤ length k → headOf s .theta ≡ θ
       → Among (headOf s .nodesTaken) (p ∷ path) → θ ≤ p .depth
-      → headOf s .nodesTaken + bumpCost θ (depths (p ∷ path)) ≤ headOf s .nodeBlocks → Held θ s (p ∷ path) → Apart (p ∷ path)
+      → headOf s .nodesTaken + bumpCost θ (depths (p ∷ path)) ≤ headOf s .nodeBlocks → Held θ s (p ∷ path) → Apart (p ∷ path) → Slack 1 (p ∷ path)
       → Cut s t p a c → ClimbHeld path
       → Held θ (climb (nodeOps θ) (wordStore f θ) θ k t path (p .at) (suc (headOf s .nodesTaken)) .store)
       (inHalf θ p (suc (headOf s .nodesTaken))
       ∷ climb (nodeOps θ) (wordStore f θ) θ k t path (p .at) (suc (headOf s .nodesTaken)) .path)
-  above-held s t p path k a c pos own among full room held apart w climbs =
+  above-held s t p path k a c pos some own among full room held apart slack w climbs =
       let cost = bump-full θ (p .depth) (depths path) full .1 in
       let ws : List ℕ = nodeOf s (p .at) in
       let m : ℕ = suc (headOf s .nodesTaken) in
@@ -115,28 +116,28 @@ module _ (f : Format) (θ : ℕ) where
             (alike-then (upper θ ws (p .bits) a c) (nodeOf t m) (nodeOf v m) (w .upper-is)
             (alike-is (nodeOf t m) (nodeOf v m)
             (up .frame m (omega arith) (omega (arith, w .taken)) (off-among f θ k (headOf s .nodesTaken) path (among .1)))))
-            (subst (Holder θ ws (p .bits)) e (held .0)),
-        climbs k t (p .at) m pos (w .kept .sized) own-t in-t fits-t room-t
-            (held-beside θ (p .at) (headOf s .nodesTaken) s t path (w .other-is) (among .1) (apart .0) (held .1)) (apart .1),
+            (subst (Holder θ ws (p .bits)) e (held .0)) (omega (arith, slack .0)),
+        climbs k t (p .at) m pos some (w .kept .sized) own-t in-t fits-t room-t
+            (held-beside θ (p .at) (headOf s .nodesTaken) s t path (w .other-is) (among .1) (apart .0) (held .1)) (apart .1) (slack .1),
       )
 
   pub climb-held : (path : List Place) → ClimbHeld path
   unfolding climb bumpCost
-  climb-held [] k s a c pos ok own among fits room held apart =
+  climb-held [] k s a c pos some ok own among fits room held apart slack =
       let z = root-now f θ s a c ok own (omega arith) in
-      (subst (λ ws. Holder θ ws k 1) (sym (z .1)) (top-holder θ (suc (headOf s .levels)) a c k pos), tt)
-  climb-held (p ∷ path) k s a c pos ok own among fits room held apart =
+      (subst (λ ws. Holder θ ws k 1) (sym (z .1)) (top-holder θ (suc (headOf s .levels)) a c k pos some), tt)
+  climb-held (p ∷ path) k s a c pos some ok own among fits room held apart slack =
       elim (decLt (p .depth) θ) [
         | yes h ↦
             subst (λ r. Held θ (r .store) (r .path)) (sym (climb-room (nodeOps θ) (wordStore f θ) θ k s p a c path h))
-            (grown-held s p path a c ok own among fits h held apart)
+            (grown-held s p path a c ok own among fits h held apart slack)
         | no h ↦
             let full : θ ≤ p .depth = omega arith in
             let more : headOf s .nodesTaken < headOf s .nodeBlocks = omega (arith, bump-full θ (p .depth) (depths path) full .1) in
             let z = halve-now f θ s p a c ok own (among .0) more in
             let t : List ℕ = splitNode (nodeOps θ) (wordStore f θ) s p a c in
             subst (λ r. Held θ (r .store) (r .path)) (sym (climb-full (nodeOps θ) (wordStore f θ) θ k s p a c path full))
-            (above-held s t p path k a c pos own among full room held apart
+            (above-held s t p path k a c pos some own among full room held apart slack
             (record {
               kept = z .kept;
               taken = omega (arith, z .taken);
@@ -169,25 +170,25 @@ module _ (f : Format) (θ : ℕ) where
               )
         ]
 
-    pub round-held : (path : List Place) (s : List ℕ) (a c : ℕ) → 1 ≤ θ → Sized f s → headOf s .theta ≡ θ → Led s path
+    pub round-held : (path : List Place) (s : List ℕ) (a c : ℕ) → 1 ≤ θ → 1 ≤ length key → Sized f s → headOf s .theta ≡ θ → Led s path
         → headOf s .nodesTaken ≤ headOf s .nodeBlocks
         → headOf s .nodesTaken + bumpCost θ (depths path) ≤ headOf s .nodeBlocks
-        → Held θ s path → Apart path
+        → Held θ s path → Apart path → Slack 1 path
         → Held θ (round (nodeOps θ) (wordStore f θ) θ key s path a c .store) (round (nodeOps θ) (wordStore f θ) θ key s path a c .path)
         × Apart (round (nodeOps θ) (wordStore f θ) θ key s path a c .path)
-    round-held [] s a c pos ok own led fits room held apart = absurd led
-    round-held (p ∷ path) s a c pos ok own led fits room held apart = (
+    round-held [] s a c pos some ok own led fits room held apart slack = absurd led
+    round-held (p ∷ path) s a c pos some ok own led fits room held apart slack = (
       elim (decLt (p .depth) θ) [
         | yes h ↦
             subst (λ r. Held θ (r .store) (r .path)) (sym (round-room (nodeOps θ) (wordStore f θ) θ key s p path a c h))
-            (grown-held s p path a c ok own ((led .0, led .1), led .2) fits h held apart)
+            (grown-held s p path a c ok own ((led .0, led .1), led .2) fits h held apart slack)
         | no h ↦
             let full : θ ≤ p .depth = omega arith in
             let more : headOf s .nodesTaken < headOf s .nodeBlocks = omega (arith, bump-full θ (p .depth) (depths path) full .1) in
             let w = first-now f θ key s p a c ok own (led .0, led .1) more (led .4) in
             subst (λ r. Held θ (r .store) (r .path)) (sym (round-full (nodeOps θ) (wordStore f θ) θ key s p path a c full))
-            (above-held s (splitFirst (nodeOps θ) (wordStore f θ) s p a c) p path key a c pos own ((led .0, led .1), led .2) full room
-            held apart
+            (above-held s (splitFirst (nodeOps θ) (wordStore f θ) s p a c) p path key a c pos some own ((led .0, led .1), led .2) full room
+            held apart slack
             (record {
               kept = w .kept;
               taken = w .taken;

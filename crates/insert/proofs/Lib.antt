@@ -15,6 +15,9 @@ pub mod InsideRound
 pub mod HeldRound
 pub mod InsideWay
 pub mod InsideEnter
+pub mod FrameRound
+pub mod FrameWay
+pub mod FrameEnter
 pub mod FoundPath
 pub mod FoundClimb
 pub mod FoundRound

@@ -1,5 +1,6 @@
 pub mod Enter
 pub mod Fine
+pub mod Frame
 pub mod Promises
 pub mod Found
 pub mod Example

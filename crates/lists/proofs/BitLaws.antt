@@ -1,5 +1,5 @@
 -- Bits against division: a key's bits say what it is, and its first bits, high bit first, spell its quotient by a power of two.
-use mathlib.Core.Path.{_≡_, sym, ap, _∙_}
+use mathlib.Core.Path.{_≡_, refl, sym, ap, _∙_}
 use mathlib.Core.Bool.{Bool, true, false}
 use mathlib.Core.List.{List, [], _∷_}
 use mathlib.Core.Logic.{inl, inr}
@@ -8,7 +8,7 @@ use native.Mathlib.Nat.{suc-add, zero-add, suc-sub-suc, sub-zero, sub-self, pow-
 use native.Mathlib.Nat.{div-one, div-eq-of-lt}
 use native.Mathlib.Numerals.{one-add}
 use native.Mathlib.Omega.{arith}
-use lib.ListN.{drop}
+use lib.ListN.{length, drop}
 use lib.Seq.{drop-nil}
 use lib.Pow.{pow-pos, pow-add, mod-pow-add, low}
 use borrow.Author.Tests.{eqb-true, eqb-false}
@@ -77,6 +77,10 @@ index-own H i h = index-bits H H i (omega arith) ∙ simp (sub-self, pow-zero, d
 -- of a number of W bits: a shift
 pub index-shr : (W H k : ℕ) → H ≤ W → k < 2 ^ W → index H (bits W k) ≡ k / 2 ^ (W - H)
 index-shr W H k p h = index-bits W H k p ∙ ap (λ n. n / 2 ^ (W - H)) (mod-eq-of-lt h)
+
+pub length-bits : (w k : ℕ) → length (bits w k) ≡ w
+length-bits zero k = refl
+length-bits (suc w) k = ap suc (length-bits w k)
 
 -- the bits after the first n
 pub drop-bits : (W n k : ℕ) → n ≤ W → drop n (bits W k) ≡ bits (W - n) k

@@ -11,7 +11,7 @@ use lib.Seq.{ext-getD}
 use native.Mathlib.Nat.{zero-add}
 use lib.Dec.{ltb}
 use borrow.Author.Tests.{not-true, not-false, ltb-true, lt-ltb}
-use Rattle.lists.specs.Lists.{All, every, greatest, tab}
+use Rattle.lists.specs.Lists.{All, Pairwise, every, greatest, tab}
 
 pub and-true : (a b : Bool) → (a && b) ≡ true → (a ≡ true) × (b ≡ true)
 and-true true b e = (refl, e)
@@ -162,6 +162,14 @@ pub all-tab : {A : Type 0} (P : A → Type 0) (n : ℕ) (g : ℕ → A) → ((i 
 unfolding tab
 all-tab P zero g a = tt
 all-tab P (suc n) g a = (a 0 (omega arith), all-tab P n (λ i. g (suc i)) (λ i q. a (suc i) (omega arith)))
+
+pub pairwise-tab : {A : Type 0} (P : A → A → Type 0) (n : ℕ) (g : ℕ → A) → ((i j : ℕ) → i < j → j < n → P (g i) (g j)) → Pairwise P (tab n g)
+unfolding tab
+pairwise-tab P zero g a = tt
+pairwise-tab P (suc n) g a = (
+  all-tab (P (g 0)) n (λ i. g (suc i)) (λ i q. a 0 (suc i) (omega arith) (omega arith)),
+  pairwise-tab P n (λ i. g (suc i)) (λ i j l q. a (suc i) (suc j) (omega arith) (omega arith)),
+)
 
 pub tab-append : {A : Type 0} (m n : ℕ) (f : ℕ → A) → tab (m + n) f ≡ tab m f ++ tab n (λ i. f (m + i))
 unfolding tab

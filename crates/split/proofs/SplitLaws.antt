@@ -9,7 +9,7 @@ use Prim.Native.Nat.{ℕ, suc, _+_, _-_, _^_, _≤_, _<_}
 use native.Mathlib.Omega.{arith}
 use Rattle.lists.specs.Bits.{bit, bits, index}
 use Rattle.lists.proofs.Cases.{bool-cases}
-use Rattle.lists.proofs.BitLaws.{drop-bits}
+use Rattle.lists.proofs.BitLaws.{drop-bits, length-bits}
 use Rattle.tree.specs.Trie.{Key}
 use Rattle.store.specs.declared.Format.{Format}
 use Rattle.store.specs.Format.{width}
@@ -69,13 +69,17 @@ module _ (W k used : ℕ) (l : used < W) (q : k < 2 ^ W) {i : ℕ} (e : i ≡ en
 pub grown-half : (θ : ℕ) (k : Key) (a c : ℕ) {x y ws z : List ℕ} → y ≡ grow θ x k a c → x ≡ ws → z ≡ grow θ ws k a c → y ≡ z
 grown-half θ k a c e g h = e ∙ ap (λ b. grow θ b k a c) g ∙ sym h
 
+-- the bits used before a node, with its own
+pub reached-width : (f : Format) (θ : ℕ) (ws : List ℕ) (key used : ℕ) → Reached f θ ws key used → used + depthWord ws 0 ≤ width f
+reached-width f θ ws key used r = omega (arith, r .0 .left, r .1, length-bits (width f - used) key)
+
 -- a full node of the store, split: the halves of its words are those of the block that they are read as
 module _ (f : Format) (θ : ℕ) (ws : List ℕ) (key used : ℕ) (some : 1 ≤ θ) (full : depthWord ws 0 ≡ θ) (r : Reached f θ ws key used) where
   pub splittable : (x : Node) → Loaded θ ws x
       → (x .depth ≡ θ) × (used + θ ≤ width f) × ((j : ℕ) → j < 2 ^ x .depth → getD (x .h) j 0 ≤ x .depth)
   splittable x l = (
     l .depth-is ∙ full,
-    omega (arith, r .1, full),
+    omega (arith, reached-width f θ ws key used r, full),
     λ j h.
         let q = subst (λ d. j < 2 ^ d) (l .depth-is) h in
         omega (arith, l .locals j q, l .depth-is, r .0 .all j q),

@@ -199,7 +199,12 @@ pub four-words : (θ : ℕ) → 4 ≤ nodeWords θ
 unfolding nodeWords
 four-words θ = omega arith
 
--- another back link of a node block where it stands
+-- another back link alone
+pub back-only : (ws : List ℕ) (m : ℕ) → linked ws m (forwardWord ws 0) ≡ set ws 2 m
+unfolding linked
+back-only ws m = ap (set (set ws 2 m) 3) (sym (getD-set-other ws 2 3 m 0 (λ e. omega arith))) ∙ set-getD (set ws 2 m) 3 0
+
+-- that of a node block where it stands
 module _ (s : List ℕ) (h : Head) (n m : ℕ) (inside : nodeStart h n + nodeWords (h .theta) ≤ length s) where
   abbrev ws : List ℕ
   ws = nodeAt s h n
@@ -218,11 +223,6 @@ module _ (s : List ℕ) (h : Head) (n m : ℕ) (inside : nodeStart h n + nodeWor
   unfolding nodeAt
   long-block = length-part s a w inside
 
-  back-only : linked ws m (forwardWord ws 0) ≡ set ws 2 m
-  unfolding linked
-  back-only =
-      ap (set (set ws 2 m) 3) (sym (getD-set-other ws 2 3 m 0 (λ e. omega arith))) ∙ set-getD (set ws 2 m) 3 0
-
   pub relinked : {b : ℕ} → b ≡ nodeStart h n → set s (b + 2) m ≡ replaced a w (linked ws m (forwardWord ws 0)) s
   unfolding replaced
   relinked e =
@@ -230,4 +230,4 @@ module _ (s : List ℕ) (h : Head) (n m : ℕ) (inside : nodeStart h n + nodeWor
       ap (λ x. set s (x + 2) m) e
       ∙ sym (set-mid-at a w 2 s m short)
       ∙ ap (λ l. take a s ++ (set (take w (drop a s)) 2 m ++ l)) (drop-drop w a s)
-      ∙ ap (λ l. take a s ++ (l ++ drop (a + w) s)) (ap (λ l. set l 2 m) (sym block-is-part) ∙ sym back-only)
+      ∙ ap (λ l. take a s ++ (l ++ drop (a + w) s)) (ap (λ l. set l 2 m) (sym block-is-part) ∙ sym (back-only ws m))

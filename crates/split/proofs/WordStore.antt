@@ -127,7 +127,7 @@ module _ (s : List ℕ) (root levels taken : ℕ) where
   head-cap : headOf (putHead s root levels taken) .nodeBlocks ≡ headOf s .nodeBlocks
   head-cap = putHead-sizes s root levels taken .nodes
 
-  head-others : others (putHead s root levels taken) ≡ others s
+  pub head-others : others (putHead s root levels taken) ≡ others s
   head-others =
       let k = putHead-sizes s root levels taken in
       rw (

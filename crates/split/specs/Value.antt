@@ -2,14 +2,14 @@
 --   entryIn n j  == entry j of the node n: its local depth and its pointer
 --   blockOf θ n  == the words of the node n, in a block of 2^θ entries
 --   own θ ws     == the block that a node's words ws are read as: zeros after the entries in use
---   Holder θ ws k h == ws is a node block of depth at most θ in which no local depth is above the node's, and the entry of the key k has
---     the local depth h
+--   Holder θ ws k h == ws is a node block of depth at most θ in which no local depth is above the node's, the bits k number an entry of it,
+--     and that entry has the local depth h
 --   localAt ws k    == the local depth of the entry of the key k
---   Reached f θ ws key used == ws is such a block, and a key may come to it with so many bits used
+--   Reached f θ ws key used == ws is such a block for the bits that a key has left after so many
 use mathlib.Core.Path.{_≡_}
-use Prim.Native.Nat.{ℕ, _+_, _-_, _^_, _≤_, _<_}
+use Prim.Native.Nat.{ℕ, _-_, _^_, _≤_, _<_}
 use mathlib.Core.List.{List}
-use lib.ListN.{getD}
+use lib.ListN.{length, getD}
 use Rattle.tree.specs.Node.{Entry}
 use Rattle.lists.specs.Bits.{bits, index}
 use Rattle.tree.specs.Trie.{Key}
@@ -32,12 +32,13 @@ pub record Holder (θ : ℕ) (ws : List ℕ) (k : Key) (h : ℕ) : Type 0 where
   pub low : depthWord ws 0 ≤ θ
   pub all : (j : ℕ) → j < 2 ^ depthWord ws 0 → entryDepth ws 0 j ≤ depthWord ws 0
   pub here : entryDepth ws 0 (index (depthWord ws 0) k) ≡ h
+  -- "On a path, the bits used before a node and its H together are at most 32"
+  pub left : depthWord ws 0 ≤ length k
 
 -- the local depth of the key's entry
 abbrev pub localAt : List ℕ → Key → ℕ
 localAt ws k = entryDepth ws 0 (number ws k)
 
--- "On a path, the bits used before a node and its H together are at most 32"
 abbrev pub Reached : Format → ℕ → List ℕ → ℕ → ℕ → Type 0
 Reached f θ ws key used =
-    Holder θ ws (bits (width f - used) key) (localAt ws (bits (width f - used) key)) × (used + depthWord ws 0 ≤ width f)
+    Holder θ ws (bits (width f - used) key) (localAt ws (bits (width f - used) key)) × (used ≤ width f)

@@ -5,7 +5,7 @@ use native.Mathlib.Omega.{arith}
 use Rattle.store.specs.Format.{width}
 use Rattle.represent.specs.Image.{nodeAt}
 use Rattle.split.proofs.GrowLaws.{Loaded, loaded-is, loaded-local}
-use Rattle.split.proofs.SplitLaws.{entry-at}
+use Rattle.split.proofs.SplitLaws.{entry-at, reached-width}
 use Rattle.split.proofs.open_node.Statement.{statement}
 use Rattle.split.proofs.open_node.Tie as tie
 
@@ -18,7 +18,7 @@ read c =
 
 -- the bits used, with the node's own
 short : (c : tie.After-node-at) → let a = c .before .before .args in a .used + c .node-at .result .depth ≤ width (a .f)
-short c = omega (arith, read c .depth-is, c .before .before .pre .3 .1)
+short c = omega (arith, read c .depth-is, reached-width _ _ _ _ _ (c .before .before .pre .3))
 
 node-at-requires : tie.Need-node-at-requires
 node-at-requires c κs = search needs
