@@ -102,6 +102,6 @@ module _ (f : Format) (θ key : ℕ) where
               behind (omega (arith, z .depth-is)) (q .2) in
               subst (Climbs f θ key 0 (p ∷ path) (reachedBy f θ key (p ∷ path) a c))
               (sym (round-full (nodeOps θ) (wordStore f θ) θ k s p path a c full))
-              (above-sound f θ key pos s (splitFirst (nodeOps θ) (wordStore f θ) s p a c) 0 p path a c next (q .0) (q .1) room y apart left ea
-              ec full (q .2) w (climb-sound f θ key pos path))
+              (above-sound f θ key pos s (splitFirst (nodeOps θ) (wordStore f θ) s p a c) 0 p path a c next (q .0) (q .1) room y apart left
+              ea ec full (q .2) w (climb-sound f θ key pos path))
         ]

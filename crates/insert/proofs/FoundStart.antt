@@ -22,7 +22,6 @@ use Rattle.store.specs.Head.{headOf, nodeStart}
 use Rattle.store.proofs.HeadLaws.{head-facts, levels-within}
 use Rattle.node.specs.Node.{depthWord, nodeRule}
 use Rattle.page.proofs.Laws.{lawful-key}
-use Rattle.search.specs.declared.Step.{}
 use Rattle.search.specs.declared.Visit.{Visit}
 use Rattle.search.specs.declared.Descent.{Descent}
 use Rattle.search.specs.Descent.{noStep, noSteps, entryVisit, stepOf, stepTaken, descend, descent}
