@@ -2,7 +2,7 @@
 use borrow.Author.Needs.{needs}
 use mathlib.Core.Path.{sym, ap, _∙_, subst}
 use Prim.Native.Nat.{_^_, _<_}
-use Rattle.search.specs.Find.{Reply, reply}
+use Rattle.search.specs.Find.{reply}
 use Rattle.index.proofs.found_of.Statement.{statement}
 use Rattle.index.proofs.found_of.Tie as tie
 

@@ -25,7 +25,8 @@ range-requires : tie.Need-range-requires
 range-requires c κs = search needs
 
 listed-of-requires : tie.Need-listed-of-requires
-listed-of-requires c κs = narrow (c .before .before .range .ensures .0) (range-more _ _ _ _ _) (c .before .before .before .before .widen2 .ensures .1)
+listed-of-requires c κs =
+    narrow (c .before .before .range .ensures .0) (range-more _ _ _ _ _) (c .before .before .before .before .widen2 .ensures .1)
 
 same-length : tie.Need-same-length
 same-length c = search needs
@@ -33,7 +34,8 @@ same-length c = search needs
 returns : tie.Need-returns
 returns c =
     let w = c .before .before .before .before .before in
-    replied (c .listed-of .ensures) (rw (w .before .widen .ensures .0, w .widen2 .ensures .0) at (c .before .before .before .range .ensures))
+    replied (c .listed-of .ensures)
+    (rw (w .before .widen .ensures .0, w .widen2 .ensures .0) at (c .before .before .before .range .ensures))
 
 pub range-spec : {M : Type 1} → statement M
 range-spec =
