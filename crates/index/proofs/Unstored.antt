@@ -7,10 +7,10 @@ use Rattle.lists.proofs.Cases.{by-cases}
 use Rattle.plot.specs.declared.Label.{Label}
 use Rattle.plot.specs.Plot.{lawfulDay, lawfulTerm}
 use Rattle.plot.specs.Money.{Reply, amount, balanceReply}
-use Rattle.plot.specs.Label.{lawfulLabel, pack, hasLabel, keyOfReply, LabelReply, labelOfReply}
+use Rattle.plot.specs.Label.{lawfulLabel, pack, sectionOf, rowOf, placeOf, hasLabel, keyOfReply, LabelReply, labelOfReply}
 use Rattle.plot.specs.Promises.{InTerm}
 use Rattle.plot.proofs.Laws.{day-limit, limit-day, term-facts, facts-term, amount-perpetual, amount-exact}
-use Rattle.plot.proofs.Laws.{term-refused, today-refused, balance-given, key-refused, key-given, key-limits, label-given}
+use Rattle.plot.proofs.Laws.{term-refused, today-refused, balance-given, label-limits, key-refused, key-given, key-limits, label-given}
 use Rattle.plot.proofs.Promises.{label-key-label, key-label-key}
 use Rattle.index.specs.Demands.{BalanceAnswered, KeyAnswered, LabelAnswered, BothWays, Demand4}
 
@@ -68,6 +68,9 @@ labelled : (k : ℕ) → labelOfReply k .number ≡ 0 → hasLabel k ≡ true
 unfolding labelOfReply
 labelled k e = by-cases (hasLabel k) (λ t. t) (λ t. absurd (omega (arith, rw (t, labelOfReply) at e)))
 
+abbrev parts : ℕ → Label
+parts k = record { section = sectionOf k; row = rowOf k; place = placeOf k }
+
 both-ways : BothWays
 unfolding keyOfReply labelOfReply
 both-ways = (
@@ -78,7 +81,7 @@ both-ways = (
   λ k e.
       let t = labelled k e in
       let p = key-label-key k t in
-      rw (t, labelOfReply) (rw (p .0, keyOfReply) (rw (p .1))),
+      rw (t, labelOfReply) (sym (key-given {l = parts k} (label-limits _ _ _ (p .0)) (sym (p .1)))),
 )
 
 pub demand-4 : Demand4
