@@ -1,6 +1,6 @@
 -- Balance and the label calls: their limits said with numbers, and both ways.
-use mathlib.Core.Path.{_≡_, refl, sym, ap, _∙_}
-use mathlib.Core.Bool.{true}
+use mathlib.Core.Path.{_≡_, refl, sym, ap}
+use mathlib.Core.Bool.{true, _&&_}
 use Prim.Native.Nat.{ℕ, _≤_}
 use native.Mathlib.Omega.{arith}
 use Rattle.lists.proofs.Cases.{by-cases}
@@ -9,9 +9,9 @@ use Rattle.plot.specs.Plot.{lawfulDay, lawfulTerm}
 use Rattle.plot.specs.Money.{Reply, amount, balanceReply}
 use Rattle.plot.specs.Label.{lawfulLabel, pack, sectionOf, rowOf, placeOf, hasLabel, keyOfReply, LabelReply, labelOfReply}
 use Rattle.plot.specs.Promises.{InTerm}
-use Rattle.plot.proofs.Laws.{day-limit, limit-day, term-facts, facts-term, amount-perpetual, amount-exact}
+use Rattle.plot.proofs.Laws.{day-limit, limit-day, amount-perpetual}
 use Rattle.plot.proofs.Laws.{term-refused, today-refused, balance-given, label-limits, key-refused, key-given, key-limits, label-given}
-use Rattle.plot.proofs.Promises.{label-key-label, key-label-key}
+use Rattle.plot.proofs.Promises.{term-limits, balance-exact, label-key-label, key-label-key}
 use Rattle.index.specs.Demands.{BalanceAnswered, KeyAnswered, LabelAnswered, BothWays, Demand4}
 
 module _ (price lease last today : ℕ) where
@@ -20,22 +20,20 @@ module _ (price lease last today : ℕ) where
       by-cases (lawfulTerm lease last)
       (λ t.
       by-cases (lawfulDay today)
-      (λ d. absurd (h (term-facts lease last t, day-limit today d)))
+      (λ d. absurd (h (term-limits lease last .0 t, day-limit today d)))
       (λ d. sym (today-refused price lease last today d)))
       (λ t. sym (term-refused price lease last today t))
 
   given : InTerm lease last × (today ≤ 99999)
       → balanceReply price lease last today ≡ record { number = 0; value = amount price lease last today }
-  given h = sym (balance-given price lease last today (facts-term lease last (h .0)) (limit-day today (h .1)) refl)
+  given h = sym (balance-given price lease last today (term-limits lease last .1 (h .0)) (limit-day today (h .1)) refl)
 
   never : lease ≡ 0 → balanceReply price lease last today .value ≡ 0
+  unfolding balanceReply
   never z =
-      by-cases (lawfulTerm lease last)
-      (λ t.
-      by-cases (lawfulDay today)
-      (λ d. ap (λ (a : Reply). a .value) (given (term-facts lease last t, day-limit today d)) ∙ amount-perpetual price lease last today z)
-      (λ d. sym (ap (λ (a : Reply). a .value) (today-refused price lease last today d))))
-      (λ t. sym (ap (λ (a : Reply). a .value) (term-refused price lease last today t)))
+      by-cases (lawfulTerm lease last && lawfulDay today)
+      (λ t. rw (t, balanceReply) (amount-perpetual price lease last today z))
+      (λ t. rw (t, balanceReply))
 
   balanced : BalanceAnswered price lease last today
   balanced =
@@ -43,7 +41,7 @@ module _ (price lease last today : ℕ) where
         refused = outside;
         done = λ h. ap (λ (a : Reply). a .number) (given h);
         perpetual = never;
-        rounded = λ h l. rw (given h) (amount-exact price lease last today l);
+        rounded = λ h l. rw (given h) (balance-exact price lease last today l);
       }
 
 key-answered : (l : Label) → KeyAnswered l
