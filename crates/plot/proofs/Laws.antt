@@ -2,17 +2,20 @@
 -- and keys.
 use mathlib.Core.Bool.{true, false, _&&_, and-false, and-eq-true-iff, not-eq-not}
 use mathlib.Core.Path.{_≡_, sym, subst⁻¹, _∙_}
+use mathlib.Core.Logic.{inl, inr}
 use Prim.Native.Nat.{ℕ, _+_, _*_, _/_, _^_, _≤_, _<_}
-use native.Mathlib.Nat.{le-of-lt, lt-of-le-of-lt, mul-le-mul-left, mul-lt-mul-of-pos-right, mul-comm, div-le-of-le-mul, div-zero}
+use native.Mathlib.Nat.{le-of-lt, lt-of-le-of-lt, mul-le-mul-left, mul-lt-mul-of-pos-right, mul-comm}
+use native.Mathlib.Nat.{div-le-of-le-mul, div-zero, div-mul-le-self, lt-div-mul-add}
 use native.Mathlib.Decide.{ℕ-discrete}
 use native.Mathlib.Omega.{arith}
 use lib.Dec.{leb, ltb}
 use lib.Pow.{pow-pos, pow-add}
-use borrow.Author.Tests.{leb-true, ltb-true, le-leb, lt-ltb, eq-eqb, ne-eqb}
+use borrow.Author.Tests.{leb-true, ltb-true, eqb-true, le-leb, lt-ltb, eq-eqb, ne-eqb}
 use Rattle.plot.specs.declared.Label.{Label}
 use Rattle.plot.specs.Plot.{lawfulDay, lawfulTerm}
 use Rattle.plot.specs.Money.{daysLeft, amount, balanceReply}
 use Rattle.plot.specs.Label.{lawfulLabel, pack, sectionOf, rowOf, placeOf, hasLabel, keyOfReply, labelOfReply}
+use Rattle.plot.specs.Promises.{InTerm, Limits}
 
 -- The product of two numbers of k bits has at most k + k.
 pub product-below : (k : ℕ) {a b : ℕ} → a < 2 ^ k → b < 2 ^ k → a * b < 2 ^ (k + k)
@@ -23,6 +26,32 @@ product-below k {a} {b} ha hb =
 -- x × d / l is at most x where d is at most l.
 pub share-le : (x d l : ℕ) → d ≤ l → x * d / l ≤ x
 share-le x d l h = div-le-of-le-mul l (rw (mul-comm l x) (mul-le-mul-left x h))
+
+-- The limits of lease days, a last day and today.
+module _ (day : ℕ) where
+  pub day-limit : lawfulDay day ≡ true → day ≤ 99999
+  unfolding lawfulDay
+  day-limit = leb-true day 99999
+
+  pub limit-day : day ≤ 99999 → lawfulDay day ≡ true
+  unfolding lawfulDay
+  limit-day = le-leb day 99999
+
+module _ (lease last : ℕ) where
+  pub term-facts : lawfulTerm lease last ≡ true → InTerm lease last
+  unfolding lawfulTerm
+  term-facts e =
+      elim (ℕ-discrete lease 0) [
+        | yes z ↦ inl (z, eqb-true last 0 (rw (eq-eqb lease 0 z, lawfulTerm) at e))
+        | no z ↦
+            let a = and-eq-true-iff (leb lease 36525) (lawfulDay last) .0 (rw (ne-eqb lease 0 z, lawfulTerm) at e) in
+            inr (omega arith, leb-true lease 36525 (a .0), day-limit last (a .1))
+      ]
+
+  pub facts-term : InTerm lease last → lawfulTerm lease last ≡ true
+  unfolding lawfulTerm
+  facts-term (inl a) = rw (eq-eqb lease 0 (a .0), eq-eqb last 0 (a .1), lawfulTerm)
+  facts-term (inr a) = rw (ne-eqb lease 0 (λ z. omega arith), le-leb lease 36525 (a .1), limit-day last (a .2), lawfulTerm)
 
 -- Days left: at most the lease days, and 0 from the last day on.
 module _ (lease last today : ℕ) where
@@ -48,6 +77,13 @@ module _ (price lease last today : ℕ) where
         | no h ↦ rw (ne-eqb lease 0 h, amount)
       ]
 
+  pub amount-exact : 1 ≤ lease
+      → let q = amount price lease last today in
+      (q * lease ≤ price * daysLeft lease last today) × (price * daysLeft lease last today < (q + 1) * lease)
+  amount-exact h =
+      let n : ℕ = price * daysLeft lease last today in
+      rw amount-quotient (div-mul-le-self n lease, omega (arith, lt-div-mul-add {a = n} {b = lease} h))
+
   pub amount-within : amount price lease last today ≤ price
   amount-within = rw amount-quotient (share-le price _ lease (days-within lease last today))
 
@@ -71,12 +107,6 @@ module _ (price lease last today : ℕ) where
   balance-given t d e = rw (t, d, balanceReply) (rw e)
 
 -- The limits of a label.
-pub record Limits (s r p : ℕ) : Type 0 where
-  pub first : 1 ≤ s
-  pub section : s ≤ 255
-  pub row : r ≤ 4095
-  pub place : p ≤ 4095
-
 module _ (s r p : ℕ) where
   pub label-limits : lawfulLabel s r p ≡ true → Limits s r p
   unfolding lawfulLabel

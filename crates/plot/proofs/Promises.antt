@@ -7,9 +7,13 @@ use lib.Dec.{eqb}
 use borrow.Author.Tests.{ltb-true, eqb-false, not-true}
 use Rattle.plot.specs.Plot.{isWord, lawful, lawfulTerm}
 use Rattle.plot.specs.Label.{pack, sectionOf, rowOf, placeOf}
-use Rattle.plot.specs.Promises.{DaysWithinLease, NoneLeftAtTheEnd, BalanceWithinPrice, LabelKeyLabel, KeyLabelKey, LawfulRecord}
-use Rattle.plot.proofs.Laws.{days-within, days-ended, amount-quotient, amount-within}
+use Rattle.plot.specs.Promises.{TermLimits, DaysWithinLease, NoneLeftAtTheEnd, BalanceWithinPrice, BalanceExact, LabelKeyLabel}
+use Rattle.plot.specs.Promises.{KeyLabelKey, LawfulRecord}
+use Rattle.plot.proofs.Laws.{term-facts, facts-term, days-within, days-ended, amount-quotient, amount-exact, amount-within}
 use Rattle.plot.proofs.Laws.{label-limits, limits-label, key-limits, limits-key}
+
+pub term-limits : TermLimits
+term-limits lease last = (term-facts lease last, facts-term lease last)
 
 pub days-within-lease : DaysWithinLease
 days-within-lease = days-within
@@ -21,6 +25,9 @@ none-left-at-the-end price lease last today h =
 
 pub balance-within-price : BalanceWithinPrice
 balance-within-price = amount-within
+
+pub balance-exact : BalanceExact
+balance-exact = amount-exact
 
 pub label-key-label : LabelKeyLabel
 unfolding pack sectionOf rowOf placeOf

@@ -18,11 +18,7 @@ use Rattle.page.specs.Page.{above}
 use Rattle.search.specs.declared.Sought.{Sought}
 use Rattle.search.specs.declared.Sought.the-variants.{Record, Nothing, Damaged}
 use Rattle.page.specs.Schema.{keyOf}
-use Rattle.readings.specs.Listing.{firstWhere}
-
-abbrev pub firstOf : List Item → Sought
-firstOf [] = Nothing
-firstOf (it ∷ its) = Record it
+use Rattle.readings.specs.Listing.{firstWhere, firstOf}
 
 abbrev pub orElse : Sought → Sought → Sought
 orElse (Record it) b = Record it

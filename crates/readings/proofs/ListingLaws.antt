@@ -36,11 +36,11 @@ use Rattle.scan.specs.Range.{Ranged, ended, also, rangeFrom, ranged, listed, ra
 use Rattle.scan.specs.Summary.{done, sumFrom, summed, summingReply, summaryOf}
 use Rattle.scan.proofs.RangeLaws.{from-nothing, from-passed, from-full, from-last, from-on, adds-nothing, adds-passed, adds-last, adds-on}
 use Rattle.page.specs.Schema.{keyOf}
-use Rattle.readings.specs.Listing.{firstWhere, within, firstKey, findIn, nextIn, rangedIn, rangeIn, summaryIn}
+use Rattle.readings.specs.Listing.{firstWhere, firstOf, within, firstKey, findIn, nextIn, rangedIn, rangeIn, summaryIn}
 use Rattle.readings.specs.Promises.{Sound}
 use Rattle.lists.proofs.AppendLaws.{filter-none, filter-same, append-all, pairwise-right, pairwise-before}
 use Rattle.readings.proofs.EarliestLaws.{totals-read}
-use Rattle.readings.proofs.FirstLaws.{firstOf, first-true, first-false, first-all, skip-below, first-beyond}
+use Rattle.readings.proofs.FirstLaws.{first-true, first-false, first-all, skip-below, first-beyond}
 
 pub within-sorted : (low high : ℕ) (S : List Item) → Sorted keyOf S → Sorted keyOf (within low high S)
 unfolding within

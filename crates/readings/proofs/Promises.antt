@@ -26,9 +26,9 @@ use Rattle.page.specs.Schema.{keyOf}
 use Rattle.represent.specs.Rep.{Rep, Holds}
 use Rattle.readings.specs.Listing.{firstWhere, findIn, nextIn, within, summaryIn}
 use Rattle.readings.specs.Clauses.{Clauses}
-use Rattle.readings.specs.Promises.{Sound, FindReads, NextReads, RangeReads, SummaryReads, FindZero, OwnBitsLead}
+use Rattle.readings.specs.Promises.{Sound, FindReads, NextReads, RangeReads, SummaryReads, FindZero, NextZero, OwnBitsLead}
 use Rattle.readings.specs.Promises.{Summarised, SummaryOutright, NoDamage, ClausesHold}
-use Rattle.readings.proofs.FirstLaws.{first-none, all-mem, found-own}
+use Rattle.readings.proofs.FirstLaws.{first-none, first-beyond, all-mem, found-own}
 use Rattle.readings.proofs.Records.{records, records-are}
 use Rattle.readings.proofs.ListingLaws.{NextIs, range-is, summary-is, within-sorted, within-all}
 use Rattle.readings.proofs.EarliestLaws.{earliest-read}
@@ -103,6 +103,13 @@ module _ (f : Format) (s : List ℕ) (S : List Item) where
       (first-none (λ it. eqb (it .key) 0) S
       (all-map (λ it. lawfulItem f it ≡ true) (λ it. eqb (it .key) 0 ≡ false) S
       (λ it l. ne-eqb (it .key) 0 (λ e. omega (arith, lawful-key f it l .0))) (h .lawful)))
+
+  pub next-zero : NextZero f s S
+  unfolding nextIn
+  next-zero h =
+      next-reads h 0 (pow-pos (width f))
+      ∙ ap soughtReply
+      (first-beyond true 0 S (all-map (λ it. lawfulItem f it ≡ true) (λ it. 0 < it .key) S (λ it l. lawful-key f it l .0) (h .lawful)))
 
   pub own-bits-lead : OwnBitsLead f s S
   unfolding findIn

@@ -27,11 +27,11 @@ use Rattle.search.specs.Find.{soundPage, inPage, findOf}
 use Rattle.search.specs.Next.{visitAfter, afterOwn, fromDescent, nextOf}
 use Rattle.represent.specs.Labelled.{after}
 use Rattle.represent.specs.Rep.{Stretch, numbers, Lawful, Rep}
-use Rattle.readings.specs.Listing.{firstWhere}
+use Rattle.readings.specs.Listing.{firstWhere, firstOf}
 use Rattle.represent.specs.Promises.{pathSteps}
 use Rattle.lists.proofs.AppendLaws.{append-all}
 use Rattle.represent.proofs.LabelLaws.{each-at, leafAt-relabel, after-relabel, each-after}
-use Rattle.readings.proofs.FirstLaws.{firstOf, orElse, above-true}
+use Rattle.readings.proofs.FirstLaws.{orElse, above-true}
 use Rattle.readings.proofs.Records.{recordsOf, records, keyed-after, find-own, next-own, next-right}
 use Rattle.represent.proofs.PageImage.{page-head, page-passes, page-agrees, page-all-above}
 use Rattle.represent.proofs.Passes.{nodes-pass}

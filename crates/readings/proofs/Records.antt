@@ -32,10 +32,10 @@ use Rattle.search.specs.declared.Sought.the-variants.{Record, Nothing}
 use Rattle.represent.specs.Labelled.{before, after}
 use Rattle.page.specs.Schema.{keyOf}
 use Rattle.represent.specs.Rep.{Stretch, contents, Keyed}
-use Rattle.readings.specs.Listing.{firstWhere}
+use Rattle.readings.specs.Listing.{firstWhere, firstOf}
 use Rattle.represent.proofs.LabelLaws.{labels-at}
 use Rattle.lists.proofs.AppendLaws.{all-append}
-use Rattle.readings.proofs.FirstLaws.{firstOf, orElse, orElse-nothing, first-append, first-none, skip-below, first-beyond}
+use Rattle.readings.proofs.FirstLaws.{orElse, orElse-nothing, first-append, first-none, skip-below, first-beyond}
 
 -- a key with a smaller quotient is smaller
 shr-lt-back : (w a b : ℕ) → a / 2 ^ w < b / 2 ^ w → a < b

@@ -1,5 +1,6 @@
 -- What the readings are to give, read off the ascending list S of the records held.
 --   firstWhere test S     == the first record that passes the test, or none
+--   firstOf S             == the first record, or none
 --   firstKey S            == the key of the first record, 0 if there is none
 --   within low high S     == the records with keys from low to high
 --   rangedIn S low high n == a range with room for n records
@@ -28,6 +29,10 @@ use Rattle.scan.specs.Summary.{SummaryReply, summaryRefused}
 unfoldable pub firstWhere : (Item → Bool) → List Item → Sought
 firstWhere test [] = Nothing
 firstWhere test (it ∷ its) = elim (test it) [ true ↦ Record it | false ↦ firstWhere test its ]
+
+abbrev pub firstOf : List Item → Sought
+firstOf [] = Nothing
+firstOf (it ∷ its) = Record it
 
 -- "Find gives the record or none."
 unfoldable pub findIn : List Item → ℕ → Reply

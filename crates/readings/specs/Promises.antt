@@ -3,6 +3,7 @@
 --   Summarised its today a == a is the summary of the records its: how many, their balances together, the earliest key
 --   SummaryOutright  == a summary that is not refused is that of the held records from low to high
 --   FindZero         == find with the key 0, which no record has, gives none
+--   NextZero         == next with the key 0 gives the first record, or none
 --   OwnBitsLead      == the bits of each held record's key lead to it
 --   Sound n          == the answer n is neither 3 nor 9
 --   Undamaged        == no reading of the store is refused with 3 or 9
@@ -18,12 +19,12 @@ use Rattle.store.specs.declared.Format.{Format}
 use Rattle.store.specs.declared.Item.{Item}
 use Rattle.store.specs.Format.{width}
 use Rattle.totals.specs.Promises.{worths, EarliestOf}
-use Rattle.search.specs.Find.{noItem, findReply}
+use Rattle.search.specs.Find.{noItem, soughtReply, findReply}
 use Rattle.search.specs.Next.{nextReply}
 use Rattle.scan.specs.Range.{rangeOf}
 use Rattle.scan.specs.Summary.{SummaryReply, summaryOf}
 use Rattle.represent.specs.Rep.{Holds}
-use Rattle.readings.specs.Listing.{findIn, nextIn, within, rangeIn, summaryIn}
+use Rattle.readings.specs.Listing.{firstOf, findIn, nextIn, within, rangeIn, summaryIn}
 use Rattle.readings.specs.Clauses.{Clauses}
 
 -- "count, total balance (64 bits), and the key of the earliest last day among leased records (lease days above 0, ended ones too), 0 if
@@ -59,6 +60,9 @@ module _ (f : Format) (s : List ℕ) (S : List Item) where
 
   abbrev pub FindZero : Type 0
   FindZero = Holds f s S → findReply f s 0 ≡ record { number = 1; item = noItem }
+
+  abbrev pub NextZero : Type 0
+  NextZero = Holds f s S → nextReply f s 0 ≡ soughtReply (firstOf S)
 
   abbrev pub OwnBitsLead : Type 0
   OwnBitsLead = Holds f s S → (it : Item) → List·Memᴰ it S → findReply f s (it .key) ≡ record { number = 0; item = it }

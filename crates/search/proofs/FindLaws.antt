@@ -1,17 +1,22 @@
--- Find, test by test.
-use mathlib.Core.Path.{_≡_, ap, _∙_}
+-- Find, test by test, and what it gives: a lawful record.
+--   Led f s h k d pg == the way d of a key led to a page, which the code has as pg
+--   Given f a        == the answer a gives no record or a lawful one
+use mathlib.Core.Path.{_≡_, ap, _∙_, subst}
 use mathlib.Core.Bool.{Bool, true, false, _&&_}
 use mathlib.Core.List.{List}
-use Prim.Native.Nat.{ℕ, _≤_}
+use Prim.Native.Nat.{ℕ, _≤_, _<_}
 use native.Mathlib.Omega.{arith}
 use lib.Dec.{ltb, eqb}
-use borrow.Author.Tests.{eq-eqb, ne-eqb}
+use borrow.Author.Tests.{eq-eqb, ne-eqb, ltb-true}
+use Rattle.lists.proofs.Cases.{by-cases}
+use Rattle.lists.proofs.Tests.{and-true}
 use Rattle.store.specs.declared.Format.{Format}
 use Rattle.store.specs.declared.Head.{Head}
 use Rattle.store.specs.declared.Item.{Item}
 use Rattle.store.specs.Head.{headOf, headRule, pageAt}
 use Rattle.store.proofs.HeadLaws.{head-facts, levels-within}
-use Rattle.page.specs.Page.{count, itemAt, pageRule, agrees, firstAbove}
+use Rattle.page.specs.Page.{count, itemAt, keyAt, lawfulItem, pageRule, agrees, firstAbove}
+use Rattle.page.proofs.Laws.{rule-facts}
 use Rattle.search.specs.declared.Descent.{Descent}
 use Rattle.search.specs.declared.Sought.{Sought}
 use Rattle.search.specs.declared.Sought.the-variants.{Record, Nothing, Damaged}
@@ -22,6 +27,12 @@ pub sound-is : (f : Format) (h : Head) (pg : List ℕ) (k used : ℕ) (a b : Boo
     → (a && b) ≡ soundPage f h pg k used
 unfolding soundPage
 sound-is f h pg k used a b p q = rw (p, q)
+
+pub sound-lawful : (f : Format) (h : Head) (pg : List ℕ) (k used i : ℕ) → soundPage f h pg k used ≡ true → i < count pg
+    → lawfulItem f (itemAt f pg i) ≡ true
+unfolding soundPage
+sound-lawful f h pg k used i e l =
+    rule-facts f (h .capacity) pg (and-true (pageRule f (h .capacity) pg) (agrees f pg k used) e .0) .order .lawful i l
 
 -- the record, where a test holds
 abbrev pub kept : Bool → Item → Sought
@@ -60,6 +71,37 @@ module _ {f : Format} {s : List ℕ} {h : Head} {k : ℕ} {d : Descent} {pg : Li
   unfolding findOf
   find-sound p q =
       rw (rw (l .way) at (l .ok), ne-eqb _ _ (rw (l .way) at (l .some)), rw (l .page, l .way) at p, findOf) (rw (l .page, l .way) at q)
+
+-- a record that is given is lawful
+abbrev Given : Format → Sought → Type 0
+Given f (Record it) = lawfulItem f it ≡ true
+Given f Nothing = Unit {0}
+Given f Damaged = Unit {0}
+
+in-page-given : (f : Format) (pg : List ℕ) (k : ℕ) → ((i : ℕ) → i < count pg → lawfulItem f (itemAt f pg i) ≡ true)
+    → Given f (inPage f pg k)
+unfolding inPage
+in-page-given f pg k lawful =
+    by-cases (ltb (firstAbove f pg false k) (count pg))
+    (λ l.
+    by-cases (eqb (keyAt f pg (firstAbove f pg false k)) k)
+    (λ e. rw (l, e, inPage) (lawful _ (ltb-true _ _ l)))
+    (λ e. rw (l, e, inPage) tt))
+    (λ l. rw (l, inPage) tt)
+
+pub find-lawful : (f : Format) (s : List ℕ) (h : Head) (k : ℕ) (it : Item) → findOf f s h k ≡ Record it → lawfulItem f it ≡ true
+unfolding findOf
+find-lawful f s h k it e =
+    subst (Given f) e
+    (by-cases (descent f s h k .ok)
+    (λ o.
+    by-cases (eqb (descent f s h k .page) 0)
+    (λ z. rw (o, z, findOf) tt)
+    (λ z.
+    by-cases (soundPage f h (pageAt f s h (descent f s h k .page)) k (descent f s h k .used))
+    (λ p. rw (o, z, p, findOf) (in-page-given f _ k (λ i l. sound-lawful f h _ k _ i p l)))
+    (λ p. rw (o, z, p, findOf) tt)))
+    (λ o. rw (o, findOf) tt))
 
 -- a reply by the head rule
 pub broken : (f : Format) (s : List ℕ) (a : Sought) → headRule f s ≡ false

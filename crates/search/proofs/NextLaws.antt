@@ -1,7 +1,7 @@
--- The way on from a key's own page, test by test, and what it gives: a record with a key above the given one.
+-- The way on from a key's own page, test by test, and what it gives: a lawful record with a key above the given one.
 --   Walked s b H start i == the walk over the entries of a node from entry start on stands at entry i
 --   Deep s h x           == the hop x leads to a node of a lawful depth, if to any
---   Above a, HopAbove x  == the answer a, or the hop x, gives no record or one with a key above k
+--   Given a, HopGiven x  == the answer a, or the hop x, gives no record or a lawful one with a key above k
 use mathlib.Core.Path.{_≡_, refl, sym, ap, _∙_, subst}
 use mathlib.Core.Bool.{Bool, true, false, _&&_}
 use mathlib.Core.List.{List}
@@ -19,8 +19,8 @@ use Rattle.store.specs.declared.Item.{Item}
 use Rattle.store.specs.Head.{nodeStart, pageAt}
 use Rattle.node.specs.Node.{depthWord, backWord, forwardWord, entryDepth, entryPointer, nodeRule}
 use Rattle.node.proofs.NodeLaws.{node-facts}
-use Rattle.page.specs.Page.{count, itemAt, keyAt, pageRule, above, firstAbove}
-use Rattle.page.proofs.Laws.{all-above, first-facts}
+use Rattle.page.specs.Page.{count, itemAt, keyAt, lawfulItem, pageRule, above, firstAbove}
+use Rattle.page.proofs.Laws.{rule-facts, all-above, first-facts}
 use Rattle.search.specs.declared.Descent.{Descent}
 use Rattle.search.specs.declared.Step.{Step}
 use Rattle.search.specs.declared.Sought.{Sought}
@@ -30,6 +30,7 @@ use Rattle.search.specs.declared.Hop.the-variants.{Ends, On}
 use Rattle.search.specs.Descent.{descent}
 use Rattle.search.specs.Find.{soundPage}
 use Rattle.search.specs.Next.{firstPointer, runAfter, visitAfter, linked, onward, hop, follow, afterOwn, fromDescent, nextOf}
+use Rattle.search.proofs.FindLaws.{sound-lawful}
 
 -- where the next run starts, from numbers that the code has
 pub run-after-is :
@@ -246,59 +247,69 @@ module _ (f : Format) (s : List ℕ) (h : Head) (strict : Bool) (k : ℕ) where
   unfolding afterOwn
   own-is t eb ed es ea = rw (es, ed, eb) at ea
 
-  -- every record that is given has a key above
-  abbrev Above : Sought → Type 0
-  Above (Record it) = above strict k (it .key) ≡ true
-  Above Nothing = Unit {0}
-  Above Damaged = Unit {0}
+  -- every record that is given is lawful and has a key above
+  abbrev Given : Sought → Type 0
+  Given (Record it) = (above strict k (it .key) ≡ true) × (lawfulItem f it ≡ true)
+  Given Nothing = Unit {0}
+  Given Damaged = Unit {0}
 
-  abbrev HopAbove : Hop → Type 0
-  HopAbove (Ends a) = Above a
-  HopAbove (On m) = Unit {0}
+  abbrev HopGiven : Hop → Type 0
+  HopGiven (Ends a) = Given a
+  HopGiven (On m) = Unit {0}
 
-  visit-above : (p : ℕ) → Above (visitAfter f s h strict k p)
-  visit-above p =
+  visit-given : (p : ℕ) → Given (visitAfter f s h strict k p)
+  visit-given p =
       by-cases (pageRule f (h .capacity) (pageAt f s h p))
       (λ t.
       by-cases (above strict k (keyAt f (pageAt f s h p) 0))
-      (λ a. subst Above (visit-gives f s h strict k p refl t refl a) a)
-      (λ a. subst Above (visit-below f s h strict k p refl t refl a) tt))
-      (λ t. subst Above (visit-broken f s h strict k p refl t) tt)
+      (λ a.
+      let r = rule-facts f (h .capacity) (pageAt f s h p) t in
+      subst Given (visit-gives f s h strict k p refl t refl a) (a, r .order .lawful 0 (r .some)))
+      (λ a. subst Given (visit-below f s h strict k p refl t refl a) tt))
+      (λ t. subst Given (visit-broken f s h strict k p refl t) tt)
 
-  hop-above : (n i left : ℕ) → HopAbove (hop f s h strict k n i left)
-  hop-above n i left =
-      hop-rule HopAbove h s n left f strict k i visit-above (onward-rule HopAbove h s n left tt tt (λ t. tt))
+  hop-given : (n i left : ℕ) → HopGiven (hop f s h strict k n i left)
+  hop-given n i left =
+      hop-rule HopGiven h s n left f strict k i visit-given (onward-rule HopGiven h s n left tt tt (λ t. tt))
 
-  follow-step : (left : ℕ) → ((m : ℕ) → Above (follow f s h strict k left m 0)) → (n i : ℕ) (x : Hop)
-      → hop f s h strict k n i left ≡ x → HopAbove x → Above (follow f s h strict k (suc left) n i)
-  follow-step left rest n i (Ends a) e q = subst Above (sym (follow-ends left n i a e)) q
-  follow-step left rest n i (On m) e q = subst Above (sym (follow-on left n i m e)) (rest m)
+  follow-step : (left : ℕ) → ((m : ℕ) → Given (follow f s h strict k left m 0)) → (n i : ℕ) (x : Hop)
+      → hop f s h strict k n i left ≡ x → HopGiven x → Given (follow f s h strict k (suc left) n i)
+  follow-step left rest n i (Ends a) e q = subst Given (sym (follow-ends left n i a e)) q
+  follow-step left rest n i (On m) e q = subst Given (sym (follow-on left n i m e)) (rest m)
 
-  follow-above : (turns n i : ℕ) → Above (follow f s h strict k turns n i)
-  follow-above zero n i = subst Above (sym (follow-spent n i)) tt
-  follow-above (suc left) n i = follow-step left (λ m. follow-above left m 0) n i (hop f s h strict k n i left) refl (hop-above n i left)
+  follow-given : (turns n i : ℕ) → Given (follow f s h strict k turns n i)
+  follow-given zero n i = subst Given (sym (follow-spent n i)) tt
+  follow-given (suc left) n i = follow-step left (λ m. follow-given left m 0) n i (hop f s h strict k n i left) refl (hop-given n i left)
 
-  own-above : (t : Step) → Above (afterOwn f s h strict k t)
+  own-given : (t : Step) → Given (afterOwn f s h strict k t)
   unfolding afterOwn
-  own-above t = follow-above _ _ _
+  own-given t = follow-given _ _ _
 
-  descent-above : (d : Descent) → Above (fromDescent f s h strict k d)
+  descent-given : (d : Descent) → Given (fromDescent f s h strict k d)
   unfolding fromDescent
-  descent-above d =
+  descent-given d =
       let pg : List ℕ = pageAt f s h (d .page) in
       by-cases (d .ok)
       (λ o.
       by-cases (eqb (d .page) 0)
-      (λ z. rw (o, z, fromDescent) (own-above _))
+      (λ z. rw (o, z, fromDescent) (own-given _))
       (λ z.
       by-cases (soundPage f h (pageAt f s h (d .page)) k (d .used))
       (λ p.
       by-cases (ltb (firstAbove f (pageAt f s h (d .page)) strict k) (count (pageAt f s h (d .page))))
-      (λ l. rw (o, z, p, l, fromDescent) (first-facts f pg strict k .found (ltb-true _ _ l)))
-      (λ l. rw (o, z, p, l, fromDescent) (own-above _)))
+      (λ l.
+      rw (o, z, p, l, fromDescent)
+      (first-facts f pg strict k .found (ltb-true _ _ l), sound-lawful f h pg k (d .used) _ p (ltb-true _ _ l)))
+      (λ l. rw (o, z, p, l, fromDescent) (own-given _)))
       (λ p. rw (o, z, p, fromDescent) tt)))
       (λ o. rw (o, fromDescent) tt)
 
-  pub next-above : (it : Item) → nextOf f s h strict k ≡ Record it → above strict k (it .key) ≡ true
+  next-given : (it : Item) → nextOf f s h strict k ≡ Record it → Given (Record it)
   unfolding nextOf
-  next-above it e = subst Above e (descent-above (descent f s h k))
+  next-given it e = subst Given e (descent-given (descent f s h k))
+
+  pub next-above : (it : Item) → nextOf f s h strict k ≡ Record it → above strict k (it .key) ≡ true
+  next-above it e = next-given it e .0
+
+  pub next-lawful : (it : Item) → nextOf f s h strict k ≡ Record it → lawfulItem f it ≡ true
+  next-lawful it e = next-given it e .1

@@ -1,0 +1,50 @@
+-- Each arm is given which case the answer is.
+use borrow.Author.Needs.{needs}
+use mathlib.Core.Path.{sym, ap, subst}
+use Prim.Native.Nat.{_^_, _<_}
+use Rattle.scan.specs.Range.{rangeReply}
+use Rattle.index.proofs.listed_of.Statement.{statement}
+use Rattle.index.proofs.listed_of.Tie as tie
+
+enum-known-answer : tie.Need-enum-known-answer
+enum-known-answer c = search needs
+
+cast-t5 : tie.Need-cast-t5
+cast-t5 c =
+    let low = subst (λ a. rangeReply a .more < 2 ^ 32) (c .before .answer .given .1) (c .before .before .before .pre) in
+    search needs
+
+enum-told : tie.Need-enum-told
+enum-told c = search needs
+
+enum-told-2 : tie.Need-enum-told-2
+enum-told-2 c = search needs
+
+enum-told-3 : tie.Need-enum-told-3
+enum-told-3 c = search needs
+
+returns : tie.Need-returns
+returns c = sym (ap rangeReply (c .before .answer .given .1))
+
+returns-2 : tie.Need-returns-2
+returns-2 c = sym (ap rangeReply (c .enum-told .given .1))
+
+returns-3 : tie.Need-returns-3
+returns-3 c = sym (ap rangeReply (c .enum-told2 .given .1))
+
+returns-4 : tie.Need-returns-4
+returns-4 c = sym (ap rangeReply (c .enum-told3 .given .1))
+
+pub listed-of-spec : {M : Type 1} → statement M
+listed-of-spec =
+    tie.close
+    (tie.spec
+    enum-known-answer
+    cast-t5
+    enum-told
+    enum-told-2
+    enum-told-3
+    returns
+    returns-2
+    returns-3
+    returns-4)
