@@ -1,4 +1,5 @@
--- The promises of specs/Found.antt: where every test is passed the way found is a right one, the rounds keep it right, and the put ends it.
+-- After a done enter find gives its record: where every test is passed the way found is a right one, the rounds keep it right, and the put
+-- ends it.
 use mathlib.Core.Path.{_≡_, sym, ap, _∙_, subst}
 use mathlib.Core.Bool.{true}
 use mathlib.Core.List.{List}
@@ -9,7 +10,7 @@ use Rattle.store.specs.declared.Item.{Item}
 use Rattle.store.specs.Head.{headOf, headRule}
 use Rattle.search.specs.Find.{findReply}
 use Rattle.insert.specs.Enter.{roundsOf, startOf, planFor, enteredWords, done}
-use Rattle.insert.specs.Found.{EnterHead, EnterFound}
+use Rattle.insert.specs.Promises.{EnterFound}
 use Rattle.insert.proofs.Refusals.{Passed, ways, enter-done}
 use Rattle.insert.proofs.InsideWay.{rounds-fine}
 use Rattle.insert.proofs.InsideEnter.{passed-fine}
@@ -41,6 +42,3 @@ enter-found f s it zero-is =
           (sym (enter-done f s it p))
           (ends-head f it (enteredWords f s it) y, ends-found f it (enteredWords f s it) y (p .lawful))
     ]
-
-pub enter-head : EnterHead
-enter-head f s it zero-is = enter-found f s it zero-is .0

@@ -2,5 +2,4 @@ pub mod Enter
 pub mod Fine
 pub mod Frame
 pub mod Promises
-pub mod Found
 pub mod Example
