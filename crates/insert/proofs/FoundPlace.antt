@@ -47,7 +47,8 @@ use Rattle.insert.proofs.HeldRound.{Beside}
 use Rattle.insert.proofs.InsideWay.{items-kept, items-nodes, take-kept, take-nodes, take-taken, positive, room-at-last, null-items}
 use Rattle.insert.proofs.FoundPath.{Enters, More, enters-more, links-more, graft-labels, Sound, sound-moved, sound-among}
 use Rattle.insert.proofs.FoundClimb.{more-others, path-same, written-here}
-use Rattle.insert.proofs.FoundWay.{Rooted, rooted-head, rooted-then, take-rooted, Right}
+use Rattle.insert.proofs.FrameWay.{Rooted, rooted-head, rooted-then, take-rooted}
+use Rattle.insert.proofs.FoundWay.{Right}
 
 -- the record inserted is the first with its key
 insert-found : (it : Item) (xs : List Item) → Lacks keyOf (it .key) xs

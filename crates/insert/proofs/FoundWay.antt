@@ -1,8 +1,6 @@
 -- The key's way in the words stays a right one, on any words: after each round the path is sound and leads to the key's page, and the
 -- levels stay within L. A root splits only where every run of the path is at θ, so the levels times θ are bits used; and a full page with
 -- the new key leaves more than log2 C bits.
---   Rooted s t     == the words t have the root and the levels of s
---   Halves s q     == the page halved: root and levels stay, and no fewer pages are in use
 --   Right f θ C it w == these facts of a way
 use mathlib.Core.Path.{_≡_, refl, sym, ap, _∙_, subst}
 use mathlib.Core.Bool.{Bool, true, false}
@@ -21,31 +19,25 @@ use Rattle.lists.proofs.ListLaws.{all-map}
 use Rattle.tree.specs.Trie.{Key}
 use Rattle.tree.specs.Build.{side}
 use Rattle.tree.specs.Book.{log2, levelBound}
-use Rattle.tree.proofs.BuildLaws.{length-sides}
 use Rattle.tree.proofs.LevelLaws.{bits-left}
 use Rattle.store.specs.declared.Format.{Format}
-use Rattle.store.specs.declared.Head.{Head}
 use Rattle.store.specs.declared.Item.{Item}
 use Rattle.store.specs.Format.{width}
 use Rattle.store.specs.Head.{headOf}
-use Rattle.node.specs.Node.{forwardWord}
 use Rattle.page.specs.Schema.{keyOf}
-use Rattle.represent.specs.Rep.{Sized}
 use Rattle.split.specs.Frame.{nodeOf}
 use Rattle.split.specs.Round.{Place, Climbed, chosen, round}
-use Rattle.split.specs.Insertion.{wordStore, putItems, nextPage, takePage}
+use Rattle.split.specs.Insertion.{wordStore}
 use Rattle.split.specs.Block.{nodeOps}
-use Rattle.split.proofs.Frame.{putPagesTaken-sizes, putPagesTaken-sized, putPagesTaken-root, putPagesTaken-levels}
-use Rattle.split.proofs.PageLaws.{put-head, take-pagesTaken}
 use Rattle.insert.specs.Enter.{Way, Parted, parted, roundOf, roundsOf}
 use Rattle.insert.specs.Fine.{Off, Led, Fine, depths, sum}
 use Rattle.insert.specs.Frame.{behindIn}
 use Rattle.insert.proofs.Turned.{turned, turned-slack, turned-full}
-use Rattle.insert.proofs.InsideWay.{take-kept, Halved, bit-left, positive, page-step, positive-theta, theta-q, fits-q, room-q}
-use Rattle.insert.proofs.InsideWay.{one-page, turn, round-fine, round-full}
+use Rattle.insert.proofs.InsideWay.{Halved, bit-left, positive, page-step, positive-theta, theta-q, fits-q, room-q}
+use Rattle.insert.proofs.InsideWay.{turn, round-fine, round-full}
 use Rattle.insert.proofs.FoundPath.{More, Sound, sound-moved, sound-among, sound-levels}
 use Rattle.insert.proofs.FoundClimb.{Climbs, reachedBy}
-use Rattle.insert.proofs.FrameWay.{round-off}
+use Rattle.insert.proofs.FrameWay.{Paged, halves, stays, round-off}
 use Rattle.insert.proofs.FoundRound.{round-sound}
 
 -- a level more only where every run is at θ
@@ -65,57 +57,9 @@ turned-grows θ k m (p ∷ path) =
           ]
     ]
 
--- the root and the levels, where pages are written
-pub record Rooted (s t : List ℕ) : Type 0 where
-  pub root : headOf t .root ≡ headOf s .root
-  pub levels : headOf t .levels ≡ headOf s .levels
-
-pub rooted-head : (s t : List ℕ) → headOf t ≡ headOf s → Rooted s t
-rooted-head s t e = record { root = ap (λ h. h .root) e; levels = ap (λ h. h .levels) e }
-
-pub rooted-then : (s t v : List ℕ) → Rooted s t → Rooted t v → Rooted s v
-rooted-then s t v a b = record { root = b .root ∙ a .root; levels = b .levels ∙ a .levels }
-
-pub take-rooted : (f : Format) (C : ℕ) (s : List ℕ) (p : ℕ) (rs : List Item) → Sized f s → 1 ≤ p → p ≤ headOf s .pageBlocks
-    → headOf s .capacity ≡ C → length rs ≤ C → Rooted s (putItems f C (takePage s) p rs)
-take-rooted f C s p rs ok low high full fits =
-    let k = putPagesTaken-sizes s (nextPage s) in
-    rooted-then s (takePage s) _
-    (record { root = putPagesTaken-root s (nextPage s); levels = putPagesTaken-levels s (nextPage s) })
-    (rooted-head (takePage s) _
-    (put-head f C (takePage s) p rs (putPagesTaken-sized s (nextPage s) f ok) low (omega (arith, k .pages)) (k .capacity ∙ full) fits))
-
--- a page halved
-record Halves (s : List ℕ) (q : Parted) : Type 0 where
-  rooted : Rooted s (q .words)
-  grows : headOf s .pagesTaken ≤ headOf (q .words) .pagesTaken
-
-halves : (f : Format) (C : ℕ) (s : List ℕ) (p : ℕ) (low high : List Item) → Sized f s → headOf s .capacity ≡ C → 1 ≤ p
-    → p ≤ headOf s .pagesTaken → suc (headOf s .pagesTaken) ≤ headOf s .pageBlocks → length low ≤ C → length high ≤ C
-    → Halves s (parted f C s p low high)
-unfolding parted
-halves f C s p [] high ok full one within room fit₀ fit₁ = record { rooted = rooted-head s s refl; grows = omega arith }
-halves f C s p (x ∷ xs) [] ok full one within room fit₀ fit₁ = record { rooted = rooted-head s s refl; grows = omega arith }
-halves f C s p (x ∷ xs) (y ∷ ys) ok full one within room fit₀ fit₁ =
-    let m : ℕ = suc (headOf s .pagesTaken) in
-    let high : p ≤ headOf s .pageBlocks = omega arith in
-    let t : List ℕ = putItems f C (takePage s) p (x ∷ xs) in
-    let k = take-kept f C s p (x ∷ xs) ok one high full fit₀ in
-    let e =
-    put-head f C t m (y ∷ ys) (k .sized) (omega arith) (omega (arith, k .sizes-same .pages)) (k .sizes-same .capacity ∙ full) fit₁ in
-    record {
-      rooted = rooted-then s t _ (take-rooted f C s p (x ∷ xs) ok one high full fit₀) (rooted-head t _ e);
-      grows = omega (arith, ap (λ (h : Head). h .pagesTaken) e, take-pagesTaken f C s p (x ∷ xs) ok one high full fit₀);
-    }
-
 chosen-page : (c : Bool) (k : Key) (l r : ℕ) → chosen (c ∷ k) l r ≡ elim c [ true ↦ r | false ↦ l ]
 chosen-page true k l r = refl
 chosen-page false k l r = refl
-
-behind-same : (s t : List ℕ) (path : List Place) → 1 ≤ length path → All (λ p. nodeOf t (p .at) ≡ nodeOf s (p .at)) path
-    → behindIn t path ≡ behindIn s path
-behind-same s t [] some same = absurd (omega arith)
-behind-same s t (p ∷ path) some same = ap (λ ws. forwardWord ws 0) (same .0)
 
 led-some : (s : List ℕ) (path : List Place) → Led s path → 1 ≤ length path
 led-some s [] led = absurd led
@@ -157,19 +101,11 @@ module _ (f : Format) (θ C : ℕ) (it : Item) where
     step : Halved f C s low high q
     step = page-step f θ C key d w y full
 
-    sizes : length low + length high ≡ length (w .items)
-    sizes = length-sides keyOf b (w .items)
-
-    some-page : 1 ≤ w .page
-    some-page = y .some (omega (arith, positive f θ C key (suc d) w y))
-
-    pages : Halves s q
-    pages =
-        halves f C s (w .page) low high (y .sized) (y .capacity) some-page (y .page-in)
-        (omega (arith, y .pages, one-page f θ C key d w y full)) (omega (arith, sizes)) (omega (arith, sizes))
+    pages : Paged f s (q .words) (w .page)
+    pages = halves f θ C key d w y (g .behind) .paged
 
     more : More s (q .words)
-    more = record { nodes = omega (arith, step .taken); pages = pages .grows }
+    more = record { nodes = omega (arith, step .taken); pages = pages .low }
 
     same : All (λ p. nodeOf (q .words) (p .at) ≡ nodeOf s (p .at)) (w .path)
     same =
@@ -188,7 +124,7 @@ module _ (f : Format) (θ C : ℕ) (it : Item) where
         (record { theta = theta-q f θ C key d w y full; sized = step .kept .sized }) (fits-q f θ C key d w y full)
         (room-q f θ C key d w y full)
         (sound-moved f θ key s (q .words) 0 (w .path) (w .page) more (pages .rooted .root) (pages .rooted .levels) same (g .sound)) some
-        (y .apart) (subst (λ n. Off n (w .path)) (sym (behind-same s (q .words) (w .path) some same)) (g .behind))
+        (y .apart) (subst (λ n. Off n (w .path)) (sym (stays f θ C key d w y (g .behind))) (g .behind))
         (omega (arith, g .used-is, left)) (step .left-in) (step .right-in)
 
     page-is : reachedBy f θ key (w .path) (q .left) (q .right) ≡ elim (bit b key) [ true ↦ q .right | false ↦ q .left ]

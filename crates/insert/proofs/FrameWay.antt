@@ -1,5 +1,6 @@
 -- What the rounds of a way and the put write, on any words. Each is a step on pages and then one on nodes. What a later one writes, the
 -- first may write, or it is new: so all together write only where the first may.
+--   Rooted s t       == the words t have the root and the levels of s
 --   Paged f s t page == t is s with only this page and new ones written
 --   Parts f s p q    == q is the page p of s halved: nothing else is written, and each half is null, p or new
 --   From w t         == t is the words of the way w, written only at its path, its page, the node behind, and new blocks
@@ -28,6 +29,7 @@ use Rattle.split.specs.Frame.{nodeOf, pageOf}
 use Rattle.split.specs.Round.{Place, round, aimAt, Climbed}
 use Rattle.split.specs.Insertion.{SameSizes, wordStore, putItems, nextPage, takePage}
 use Rattle.split.specs.Block.{aim, nodeOps}
+use Rattle.split.proofs.Frame.{putPagesTaken-sizes, putPagesTaken-sized, putPagesTaken-root, putPagesTaken-levels}
 use Rattle.split.proofs.Kept.{Kept, same-head}
 use Rattle.split.proofs.PageLaws.{put-head, put-other, take-pagesTaken, take-other}
 use Rattle.split.proofs.WordStore.{others-pages, others-pagesTaken}
@@ -60,12 +62,33 @@ beside : (x a n : ℕ) → (x ≤ a) ⊎ (n < x) → n ≡ suc a → x ≡ suc a
 beside x a n (inl h) e i = omega arith
 beside x a n (inr h) e i = omega arith
 
+-- the root and the levels, where pages are written
+pub record Rooted (s t : List ℕ) : Type 0 where
+  pub root : headOf t .root ≡ headOf s .root
+  pub levels : headOf t .levels ≡ headOf s .levels
+
+pub rooted-head : (s t : List ℕ) → headOf t ≡ headOf s → Rooted s t
+rooted-head s t e = record { root = ap (λ h. h .root) e; levels = ap (λ h. h .levels) e }
+
+pub rooted-then : (s t v : List ℕ) → Rooted s t → Rooted t v → Rooted s v
+rooted-then s t v a b = record { root = b .root ∙ a .root; levels = b .levels ∙ a .levels }
+
+pub take-rooted : (f : Format) (C : ℕ) (s : List ℕ) (p : ℕ) (rs : List Item) → Sized f s → 1 ≤ p → p ≤ headOf s .pageBlocks
+    → headOf s .capacity ≡ C → length rs ≤ C → Rooted s (putItems f C (takePage s) p rs)
+take-rooted f C s p rs ok low high full fits =
+    let k = putPagesTaken-sizes s (nextPage s) in
+    rooted-then s (takePage s) _
+    (record { root = putPagesTaken-root s (nextPage s); levels = putPagesTaken-levels s (nextPage s) })
+    (rooted-head (takePage s) _
+    (put-head f C (takePage s) p rs (putPagesTaken-sized s (nextPage s) f ok) low (omega (arith, k .pages)) (k .capacity ∙ full) fits))
+
 -- pages written
-record Paged (f : Format) (s t : List ℕ) (page : ℕ) : Type 0 where
+pub record Paged (f : Format) (s t : List ℕ) (page : ℕ) : Type 0 where
   sizes : SameSizes (headOf s) (headOf t)
+  pub rooted : Rooted s t
   taken : headOf t .nodesTaken ≡ headOf s .nodesTaken
   nodes : (x : ℕ) → 1 ≤ x → x ≤ headOf s .nodeBlocks → nodeOf t x ≡ nodeOf s x
-  low : headOf s .pagesTaken ≤ headOf t .pagesTaken
+  pub low : headOf s .pagesTaken ≤ headOf t .pagesTaken
   high : headOf t .pagesTaken ≤ headOf s .pageBlocks
   pages : (p : ℕ) → 1 ≤ p → (p ≤ headOf s .pagesTaken) ⊎ (headOf t .pagesTaken < p) → (p ≡ page → ⊥) → pageOf f t p ≡ pageOf f s p
 
@@ -73,6 +96,7 @@ paged-none : (f : Format) (s : List ℕ) (page : ℕ) → headOf s .pagesTaken �
 paged-none f s page fits =
     record {
       sizes = same-head (headOf s) (headOf s) refl;
+      rooted = rooted-head s s refl;
       taken = refl;
       nodes = λ x l h. refl;
       low = omega arith;
@@ -85,9 +109,11 @@ module _ (f : Format) (C : ℕ) (s : List ℕ) (rs : List Item) (ok : Sized f s)
   items-paged : (p : ℕ) → 1 ≤ p → p ≤ headOf s .pageBlocks → headOf s .pagesTaken ≤ headOf s .pageBlocks
       → Paged f s (putItems f C s p rs) p
   items-paged p low high room =
-      let e = ap (λ h. h .pagesTaken) (put-head f C s p rs ok low high full fits) in
+      let head = put-head f C s p rs ok low high full fits in
+      let e = ap (λ h. h .pagesTaken) head in
       record {
         sizes = items-kept f C s p rs ok low high full fits .sizes-same;
+        rooted = rooted-head s _ head;
         taken = items-taken f C s p rs ok low high full fits;
         nodes = items-nodes f C s p rs ok low high full fits;
         low = omega (arith, e);
@@ -101,6 +127,7 @@ module _ (f : Format) (C : ℕ) (s : List ℕ) (rs : List Item) (ok : Sized f s)
       let e = take-pagesTaken f C s m rs ok (omega arith) room full fits in
       record {
         sizes = take-kept f C s m rs ok (omega arith) room full fits .sizes-same;
+        rooted = take-rooted f C s m rs ok (omega arith) room full fits;
         taken = take-taken f C s m rs ok (omega arith) room full fits;
         nodes = take-nodes f C s m rs ok (omega arith) room full fits;
         low = omega (arith, e);
@@ -109,8 +136,8 @@ module _ (f : Format) (C : ℕ) (s : List ℕ) (rs : List Item) (ok : Sized f s)
       }
 
 -- a page halved
-record Parts (f : Format) (s : List ℕ) (p : ℕ) (q : Parted) : Type 0 where
-  paged : Paged f s (q .words) p
+pub record Parts (f : Format) (s : List ℕ) (p : ℕ) (q : Parted) : Type 0 where
+  pub paged : Paged f s (q .words) p
   left-old : (x : ℕ) → 1 ≤ x → x ≤ headOf s .pagesTaken → (x ≡ p → ⊥) → x ≡ q .left → ⊥
   right-old : (x : ℕ) → 1 ≤ x → x ≤ headOf s .pagesTaken → (x ≡ p → ⊥) → x ≡ q .right → ⊥
 
@@ -138,16 +165,20 @@ parts f C s p (x ∷ xs) (y ∷ ys) ok full one within room sum z =
     let t : List ℕ = putItems f C (takePage s) p (x ∷ xs) in
     let k : Kept f s t = take-kept f C s p (x ∷ xs) ok one high full fits₀ in
     let e : headOf (putItems f C t m (y ∷ ys)) .pagesTaken ≡ m = omega (arith, z .count) in
+    let room₁ : m ≤ headOf t .pageBlocks = omega (arith, k .sizes-same .pages) in
+    let full₁ : headOf t .capacity ≡ C = k .sizes-same .capacity ∙ full in
     record {
       paged = record {
         sizes = z .kept .sizes-same;
+        rooted =
+            rooted-then s t _ (take-rooted f C s p (x ∷ xs) ok one high full fits₀)
+            (rooted-head t _ (put-head f C t m (y ∷ ys) (k .sized) (omega arith) room₁ full₁ (omega arith)));
         taken = z .taken;
         nodes = z .nodes;
         low = omega (arith, e);
         high = omega (arith, e);
         pages = λ n l d far.
-            put-other f C t m (y ∷ ys) (k .sized) (omega arith) (omega (arith, k .sizes-same .pages)) (k .sizes-same .capacity ∙ full)
-            (omega arith) n l (beside n _ _ d e)
+            put-other f C t m (y ∷ ys) (k .sized) (omega arith) room₁ full₁ (omega arith) n l (beside n _ _ d e)
             ∙ take-other f C s p (x ∷ xs) ok one high full fits₀ n l far;
       };
       left-old = λ n l h far i. far i;
@@ -262,13 +293,13 @@ module _ (f : Format) (θ C k : ℕ) where
     abbrev r : Climbed (List ℕ)
     r = round (nodeOps θ) (wordStore f θ) θ (bits (width f) k) t (w .path) (parted-now .left) (parted-now .right)
 
-    halves : Parts f s (w .page) parted-now
+    pub halves : Parts f s (w .page) parted-now
     halves =
         parts f C s (w .page) (side keyOf false b (w .items)) (side keyOf true b (w .items)) (y .sized) (y .capacity)
         (y .some (omega (arith, full, positive f θ C k (suc d) w y))) (y .page-in) (omega (arith, y .pages, one-page f θ C k d w y full))
         (omega (arith, full, length-sides keyOf b (w .items))) (page-step f θ C k d w y full)
 
-    stays : behindIn t (w .path) ≡ behindIn s (w .path)
+    pub stays : behindIn t (w .path) ≡ behindIn s (w .path)
     stays = behind-stays f s t (w .path) (w .page) (omega (arith, y .nodes)) (y .led) (halves .paged)
 
     turns : Noded t (r .store) (w .path) (behindIn t (w .path)) × Onward t (r .store) (w .path) (r .path)
