@@ -3,15 +3,16 @@
 --   checks f c s == the tests of the call c on the words s, each with the number that refuses it
 --   Done c n     == the number of an answer where no test fails: 0; of find and next also 1, "none"
 use mathlib.Core.Path.{_≡_}
-use mathlib.Core.Bool.{Bool, true, false}
+use mathlib.Core.Bool.{Bool, true, false, _&&_, not}
 use mathlib.Core.List.{List, [], _∷_}
 use mathlib.Core.Logic.{_⊎_}
 use Prim.Native.Nat.{ℕ, _/_}
 use lib.Dec.{leb}
 use lib.ListN.{length}
+use Rattle.lists.specs.Keyed.{contains}
 use Rattle.plot.specs.Plot.{lawfulDay}
 use Rattle.store.specs.declared.Format.{Format}
-use Rattle.store.specs.Head.{headOf, headRule, lawfulSizes, size}
+use Rattle.store.specs.Head.{headOf, headRule, lawfulSizes, size, nodesLeft, pagesLeft}
 use Rattle.store.specs.Tests.{Test}
 use Rattle.store.specs.Format.{words}
 use Rattle.search.specs.declared.Sought.{Sought}
@@ -20,7 +21,9 @@ use Rattle.search.specs.Find.{findOf}
 use Rattle.search.specs.Next.{nextOf}
 use Rattle.scan.specs.Range.{ranged}
 use Rattle.scan.specs.Summary.{summed}
-use Rattle.insert.specs.Enter.{enterTests}
+use Rattle.page.specs.Page.{lawfulItem}
+use Rattle.page.specs.Schema.{unlawful, keyOf}
+use Rattle.insert.specs.Enter.{undamaged, found, startOf, planFor}
 use Rattle.index.specs.Calls.{Call, setUp, enter, find, next, range, summary}
 
 abbrev pub sound : Sought → Bool
@@ -28,10 +31,16 @@ sound (Record it) = true
 sound Nothing = true
 sound Damaged = false
 
--- Enter's tests stand beside its definition: 3, 6, 9, 8, 10.
+-- (`unlawful f` is 6 for plots; `found`, `startOf` and `planFor` are what enter's descent finds and what it plans from that)
 abbrev pub checks : Format → Call → List ℕ → List Test
 checks f (setUp θ C N P) s = (4, lawfulSizes θ C N P) ∷ (5, leb (size f θ C N P) (length s)) ∷ []
-checks f (enter it) s = enterTests f s it
+checks f (enter it) s =
+    (3, headRule f s)
+    ∷ (unlawful f, lawfulItem f it)
+    ∷ (9, undamaged f s (headOf s) (it .key) (found f s it))
+    ∷ (8, not (contains keyOf (it .key) (startOf f s it .items)))
+    ∷ (10, leb (planFor f s it .nodes) (nodesLeft (headOf s)) && leb (planFor f s it .pages) (pagesLeft (headOf s)))
+    ∷ []
 checks f (find k) s = (3, headRule f s) ∷ (9, sound (findOf f s (headOf s) k)) ∷ []
 checks f (next k) s = (3, headRule f s) ∷ (9, sound (nextOf f s (headOf s) true k)) ∷ []
 checks f (range low high out) s =

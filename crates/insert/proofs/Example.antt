@@ -1,5 +1,8 @@
--- The broken sample store, by one computation.
-use mathlib.Core.Path.{refl}
+-- The broken sample store, by one computation; and the untaken page, by its last word.
+use mathlib.Core.Path.{refl, ap}
+use mathlib.Core.Logic.{inr}
+use native.Mathlib.Omega.{arith}
+use lib.ListN.{getD}
 use Rattle.plot.specs.Plot.{lawful, isWord, lawfulTerm, lawfulDay}
 use Rattle.lists.specs.Bits.{bit}
 use Rattle.lists.specs.Lists.{replaced, part, tab, every, greatest}
@@ -22,7 +25,7 @@ use Rattle.split.specs.Block.{kept, block, overRun, halves, halveRun, double, g
 use Rattle.insert.specs.Enter.{itemsIn, ownItems, ownPasses, neighbourOk, pathIn, parted, roundOf, placed, roundsFor, planOf, done}
 use Rattle.store.specs.Tests.{failing}
 use Rattle.insert.specs.Enter.{wayOf, undamaged, enteredWords, enterOf}
-use Rattle.insert.specs.Example.{NeighbourTested}
+use Rattle.insert.specs.Example.{NeighbourTested, ClearedBreaks}
 
 pub neighbour-tested : NeighbourTested
 unfolding stored lawful isWord lawfulTerm lawfulDay bit replaced part tab every greatest contains insert rounds pagesAt bump bumpCost
@@ -34,3 +37,8 @@ unfolding stored lawful isWord lawfulTerm lawfulDay bit replaced part tab every 
     round kept block overRun halves halveRun double grow unlawful itemsIn ownItems ownPasses neighbourOk pathIn parted roundOf placed
     roundsFor planOf done failing wayOf undamaged enteredWords enterOf
 neighbour-tested = (refl, refl)
+
+pub cleared-breaks : ClearedBreaks
+unfolding stored headOf nodeWords pageStart pageWords pageAt part words
+cleared-breaks path page behind far z =
+    omega (arith, ap (λ ws. getD ws 4 0) (z .page-same 4 (omega arith) (omega arith) (inr (omega arith)) far))

@@ -13,3 +13,4 @@ pub mod HeadPasses
 pub mod DescentVisits
 pub mod Example
 pub mod Promises
+pub mod Broken

@@ -163,8 +163,8 @@ module _ (f : Format) (θ C N P : ℕ) (z : List ℕ) (law : lawfulSizes θ C N 
           pages-fit = omega arith;
           directory = directory;
           pages = pages;
-          free-nodes = free-node;
-          free-pages = free-page;
+          free-nodes = λ n low high. free-node n low (omega arith);
+          free-pages = λ p low high. free-page p low (omega arith);
         };
         tree = sym (build-le keyOf C (width f) [] (omega arith));
         sorted = tt;
