@@ -1,5 +1,5 @@
 -- The number of an answer is that of the first test that fails: each definition makes its tests in that order.
-use mathlib.Core.Path.{_≡_, refl, sym, ap, _∙_, subst}
+use mathlib.Core.Path.{_≡_, refl, sym, ap, _∙_}
 use mathlib.Core.Bool.{Bool, true, false, true≢false}
 use mathlib.Core.List.{List, [], _∷_}
 use mathlib.Core.Logic.{_⊎_, inl, inr}
@@ -23,7 +23,7 @@ use Rattle.search.specs.declared.Sought.the-variants.{Record, Nothing, Damaged}
 use Rattle.search.specs.Find.{checked, findOf, findReply}
 use Rattle.search.specs.Next.{nextOf, nextReply}
 use Rattle.scan.specs.Range.{ranged, listed, rangeOf}
-use Rattle.scan.specs.Summary.{summed, summingReply, summaryOf}
+use Rattle.scan.specs.Summary.{summed, summaryOf}
 use Rattle.insert.specs.Enter.{enterTests, done}
 use Rattle.insert.proofs.Refusals.{enter-zero, enter-refused}
 use Rattle.index.specs.Calls.{Call, setUp, enter, find, next, range, summary, run, numberOf}

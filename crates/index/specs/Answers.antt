@@ -1,14 +1,18 @@
 -- The answers of the operations over plots: document 01's number and values for each case. Set-up's answer is crate store's, and those of
 -- balance and of the label calls are crate plot's, with their `reply`, `keyReply` and `labelReply`.
 --   reply a        == of find and next
+--   enterReply a   == of enter
 --   rangeReply a   == of range
 --   summaryReply a == of summary
 use Rattle.page.specs.Schema.{itemOf}
+use Rattle.tree.specs.Book.{refused}
 use Rattle.search.specs.Find.{Reply, noItem}
 use Rattle.scan.specs.Range.{RangeReply, rangeRefused}
 use Rattle.scan.specs.Summary.{SummaryReply, summaryRefused}
 use Rattle.index.specs.declared.FindAnswer.{FindAnswer}
 use Rattle.index.specs.declared.FindAnswer.the-variants.{Found, NotFound, HeadBroken, DamageMet}
+use Rattle.index.specs.declared.EnterAnswer.{EnterAnswer}
+use Rattle.index.specs.declared.EnterAnswer.the-variants.{Entered, EnterHeadBroken, RecordOutside, EnterDamaged, KeyHeld, NoBlocks}
 use Rattle.index.specs.declared.RangeAnswer.{RangeAnswer}
 use Rattle.index.specs.declared.RangeAnswer.the-variants.{Listed, RangeHeadBroken, LowAboveHigh, RangeDamaged}
 use Rattle.index.specs.declared.SummaryAnswer.{SummaryAnswer}
@@ -22,6 +26,16 @@ reply NotFound = record { number = 1; item = noItem }
 reply HeadBroken = record { number = 3; item = noItem }
 reply DamageMet = record { number = 9; item = noItem }
 
+-- "Enter gives key, levels, nodes taken, pages taken."; "record or today outside its limits: 6"; "key already held: 8"; "entry needs more
+-- blocks than remain: 10"
+abbrev pub enterReply : EnterAnswer → Rattle.tree.specs.Book.Reply
+enterReply (Entered k l n p) = record { number = 0; key = k; levels = l; nodes = n; pages = p }
+enterReply EnterHeadBroken = refused 3
+enterReply RecordOutside = refused 6
+enterReply EnterDamaged = refused 9
+enterReply KeyHeld = refused 8
+enterReply NoBlocks = refused 10
+
 -- "low above high: 7"
 abbrev pub rangeReply : RangeAnswer → RangeReply
 rangeReply (Listed n k) = record { number = 0; count = n; more = k }
@@ -29,7 +43,6 @@ rangeReply RangeHeadBroken = rangeRefused 3
 rangeReply LowAboveHigh = rangeRefused 7
 rangeReply RangeDamaged = rangeRefused 9
 
--- "record or today outside its limits: 6"
 abbrev pub summaryReply : SummaryAnswer → SummaryReply
 summaryReply (Summed n t k) = record { number = 0; count = n; total = t; key = k }
 summaryReply SummaryHeadBroken = summaryRefused 3

@@ -27,8 +27,7 @@ use Rattle.node.specs.Node.{backWord, forwardWord}
 use Rattle.represent.specs.Image.{NodeIs}
 use Rattle.represent.specs.Labelled.{occ}
 use Rattle.split.specs.Frame.{nodeOf}
-use Rattle.split.specs.Round.{NodeLaws, StoreLaws, Place, Climbed, chosen, deeper, inHalf, takeNode}
-use Rattle.split.specs.Round.{grown, splitNode, newRoot, climb}
+use Rattle.split.specs.Round.{NodeLaws, StoreLaws, Place, Climbed, chosen, deeper, inHalf, takeNode, grown, splitNode, newRoot, climb}
 use Rattle.split.specs.Insertion.{Ok, others, wordStore}
 use Rattle.split.specs.Block.{top, nodeOps}
 use Rattle.split.proofs.BlockLaws.{node-ops-are}

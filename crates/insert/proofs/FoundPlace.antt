@@ -196,7 +196,7 @@ module _ (f : Format) (θ C : ℕ) (it : Item) (lawful : lawfulItem f it ≡ tru
   unfolding pagesAt insert
   null-ends null p path e =
       let m : ℕ = nextPage s in
-      let none : w .items ≡ [] = null-items f θ C key it w y null in
+      let none : w .items ≡ [] = null-items f θ C key 0 w y null in
       let one : length (it ∷ []) ≤ C = positive f θ C key 0 w y in
       let room : m ≤ headOf s .pageBlocks = omega (arith, y .pages, ap (pagesAt C) none) in
       let u : List ℕ = putItems f C (takePage s) m (it ∷ []) in

@@ -16,8 +16,7 @@ use Rattle.store.specs.Format.{width}
 use Rattle.store.specs.Head.{headOf}
 use Rattle.node.specs.Node.{backWord, forwardWord}
 use Rattle.split.specs.Frame.{nodeOf}
-use Rattle.split.specs.Round.{Place, takeNode, putBoth, splitFirst}
-use Rattle.split.specs.Round.{round}
+use Rattle.split.specs.Round.{Place, takeNode, putBoth, splitFirst, round}
 use Rattle.split.specs.Insertion.{Ok, wordStore}
 use Rattle.split.specs.Block.{lower, upper, linked, nodeOps}
 use Rattle.split.proofs.BlockLaws.{node-ops-are}

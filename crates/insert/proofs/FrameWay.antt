@@ -141,7 +141,7 @@ pub record Parts (f : Format) (s : List ℕ) (p : ℕ) (q : Parted) : Type 0 whe
   left-old : (x : ℕ) → 1 ≤ x → x ≤ headOf s .pagesTaken → (x ≡ p → ⊥) → x ≡ q .left → ⊥
   right-old : (x : ℕ) → 1 ≤ x → x ≤ headOf s .pagesTaken → (x ≡ p → ⊥) → x ≡ q .right → ⊥
 
-parts : (f : Format) (C : ℕ) (s : List ℕ) (p : ℕ) (low high : List Item) → Sized f s → headOf s .capacity ≡ C → 1 ≤ p
+pub parts : (f : Format) (C : ℕ) (s : List ℕ) (p : ℕ) (low high : List Item) → Sized f s → headOf s .capacity ≡ C → 1 ≤ p
     → p ≤ headOf s .pagesTaken
     → suc (headOf s .pagesTaken) ≤ headOf s .pageBlocks → length low + length high ≡ C → Halved f C s low high (parted f C s p low high)
     → Parts f s p (parted f C s p low high)
@@ -352,7 +352,7 @@ module _ (f : Format) (θ C k : ℕ) where
     null-framed e (p ∷ path) led off =
         let s : List ℕ = w .words in
         let m : ℕ = nextPage s in
-        let room : m ≤ headOf s .pageBlocks = omega (arith, y .pages, ap (pagesAt C) (null-items f θ C k it w y e)) in
+        let room : m ≤ headOf s .pageBlocks = omega (arith, y .pages, ap (pagesAt C) (null-items f θ C k 0 w y e)) in
         let one : length (it ∷ []) ≤ C = positive f θ C k 0 w y in
         let t : List ℕ = putItems f C (takePage s) m (it ∷ []) in
         let kept : Kept f s t = take-kept f C s m (it ∷ []) (y .sized) (omega arith) room (y .capacity) one in

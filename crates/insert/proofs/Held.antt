@@ -17,14 +17,12 @@ use lib.Pow.{pow-pos, shl-lt}
 use lib.Seq.{getD-set-other}
 use borrow.Author.Tests.{le-leb, lt-ltb, le-ltb}
 use Rattle.lists.specs.Bits.{index}
-use Rattle.lists.specs.Lists.{All, Pairwise}
 use Rattle.lists.proofs.BitLaws.{index-lt, index-add}
 use Rattle.lists.proofs.Tests.{greatest-le, greatest-at}
 use Rattle.tree.specs.Trie.{Key}
 use Rattle.tree.specs.Node.{Entry}
 use Rattle.node.specs.Node.{depthWord, entryDepth, entryOf}
-use Rattle.split.specs.Frame.{nodeOf}
-use Rattle.split.specs.Round.{Place, chosen}
+use Rattle.split.specs.Round.{chosen}
 use Rattle.split.specs.Value.{Holder}
 use Rattle.split.proofs.GrowLaws.{here-low}
 use Rattle.split.specs.Block.{block, overRun, halves, number, runLength, halveRun, double, grow, halfStart, fallen, halfDepth, half}
@@ -162,11 +160,6 @@ module _ (θ : ℕ) (ws : List ℕ) (k : Key) (w : Holder θ ws k θ) (pos : 1 �
   shrunk-low : (b : Bool) → halfDepth ws b ≤ pred (depthWord ws 0)
   shrunk-low b = greatest-le (2 ^ pred (depthWord ws 0)) (λ j. fallen ws b j .0) (pred (depthWord ws 0)) (fallen-low b)
 
-  -- both halves have room for a bit more
-  pub half-low : (b : Bool) → depthWord (half θ ws b) 0 < θ
-  unfolding half block
-  half-low b = omega (arith, shrunk-low b, full-depth)
-
   half-entry : (b : Bool) (j : ℕ) → j < 2 ^ halfDepth ws b
       → fallen ws b (j * 2 ^ (pred (depthWord ws 0) - halfDepth ws b)) .0 ≤ halfDepth ws b
   half-entry b j l =
@@ -188,7 +181,8 @@ module _ (θ : ℕ) (ws : List ℕ) (k : Key) (w : Holder θ ws k θ) (pos : 1 �
       let none : H - G ≡ 0 = omega arith in
       let at : index G j * 2 ^ (H - G) ≡ index H j =
       ap (λ n. index G j * 2 ^ n) none ∙ ap (λ n. index G j * n) (pow-zero 2) ∙ mul-one (index G j) ∙ ap (λ n. index n j) same in
-      block-holder θ G _ _ _ _ j (pred θ) (omega (arith, shrunk-low b, full-depth)) (omega (arith, shrunk-low b, w .left)) (half-entry b) (ap (λ i. fallen ws b i .0) at ∙ own)
+      block-holder θ G _ _ _ _ j (pred θ) (omega (arith, shrunk-low b, full-depth)) (omega (arith, shrunk-low b, w .left)) (half-entry b)
+      (ap (λ i. fallen ws b i .0) at ∙ own)
 
 -- the number of an entry, without the key's first bit
 index-false : (H : ℕ) (k : Key) → 1 ≤ H → index H (false ∷ k) ≡ 0 + index (pred H) k
@@ -233,4 +227,5 @@ module _ (θ : ℕ) (ws : List ℕ) (pos : 1 ≤ θ) where
 pub top-holder : (θ level a c : ℕ) (k : Key) → 1 ≤ θ → 1 ≤ length k → Holder θ (top θ level a c) k 1
 unfolding top
 top-holder θ level a c k pos left =
-    block-holder θ 1 level 0 0 (halves 2 0 a c) k 1 pos left (λ j l. omega (arith, halves-depth 2 0 a c j)) (halves-depth 2 0 a c (index 1 k))
+    block-holder θ 1 level 0 0 (halves 2 0 a c) k 1 pos left (λ j l. omega (arith, halves-depth 2 0 a c j))
+    (halves-depth 2 0 a c (index 1 k))

@@ -17,6 +17,7 @@ use Rattle.tree.specs.Carry.{bumpCost}
 use Rattle.tree.proofs.CarryLaws.{bump-full}
 use Rattle.store.specs.declared.Format.{Format}
 use Rattle.store.specs.Head.{headOf}
+use Rattle.node.specs.Node.{forwardWord}
 use Rattle.represent.specs.Rep.{Sized}
 use Rattle.split.specs.Frame.{nodeOf}
 use Rattle.split.specs.Round.{Place, grown, splitNode, splitFirst, climb, round, deeper, inHalf}
@@ -28,10 +29,8 @@ use Rattle.split.proofs.RoundLaws.{round-room, round-full}
 use Rattle.insert.proofs.Turned.{turned, turned-slack, turned-full}
 use Rattle.split.specs.Value.{Holder}
 use Rattle.split.proofs.GrowLaws.{here-low}
-use Rattle.insert.proofs.Held.{Alike, alike-is, alike-then, holder-alike, grow-holder, split-holder}
-use Rattle.insert.proofs.Held.{top-holder}
-use Rattle.insert.proofs.InsideWrites.{grown-now, grown-here, halve-now, halve-lower, halve-upper, root-now, among-more}
-use Rattle.insert.proofs.InsideWrites.{climb-now}
+use Rattle.insert.proofs.Held.{Alike, alike-is, alike-then, holder-alike, grow-holder, split-holder, top-holder}
+use Rattle.insert.proofs.InsideWrites.{grown-now, grown-here, halve-now, halve-lower, halve-upper, root-now, among-more, climb-now}
 use Rattle.insert.proofs.InsideRound.{chosen-either, turned-in, off-among, first-now, first-lower, first-upper}
 use Rattle.insert.proofs.InsideRound.{first-other, round-turned}
 use Rattle.insert.specs.Fine.{Off, Among, Led, Held, Apart, Slack, depths}
@@ -53,7 +52,7 @@ held-alike θ P s t path same =
     (λ p. Holder θ (nodeOf t (p .at)) (p .bits) (p .depth)) path
     (λ p q. holder-alike θ (nodeOf s (p .at)) (nodeOf t (p .at)) (p .bits) (p .depth) (same (p .at) q))
 
-held-beside : (θ x m : ℕ) (s t : List ℕ) (path : List Place)
+pub held-beside : (θ x m : ℕ) (s t : List ℕ) (path : List Place)
     → ((n : ℕ) → 1 ≤ n → n ≤ m → (x ≡ n → ⊥) → Alike (nodeOf s n) (nodeOf t n)) → Among m path → Beside x path → Held θ s path
     → Held θ t path
 held-beside θ x m s t path same among off =
@@ -76,12 +75,39 @@ module _ (f : Format) (θ : ℕ) where
       )
 
   -- a node that splits, and the climb above it
-  record Cut (s t : List ℕ) (p : Place) (a c : ℕ) : Type 0 where
-    kept : Kept f s t
-    taken : headOf t .nodesTaken ≡ suc (headOf s .nodesTaken)
+  pub record Cut (s t : List ℕ) (p : Place) (a c : ℕ) : Type 0 where
+    pub kept : Kept f s t
+    pub taken : headOf t .nodesTaken ≡ suc (headOf s .nodesTaken)
     lower-is : Alike (lower θ (nodeOf s (p .at)) (p .bits) a c) (nodeOf t (p .at))
     upper-is : Alike (upper θ (nodeOf s (p .at)) (p .bits) a c) (nodeOf t (suc (headOf s .nodesTaken)))
-    other-is : (x : ℕ) → 1 ≤ x → x ≤ headOf s .nodesTaken → (p .at ≡ x → ⊥) → Alike (nodeOf s x) (nodeOf t x)
+    pub other-is : (x : ℕ) → 1 ≤ x → x ≤ headOf s .nodesTaken → (p .at ≡ x → ⊥) → Alike (nodeOf s x) (nodeOf t x)
+
+  pub split-cut : (s : List ℕ) (p : Place) (a c : ℕ) → Sized f s → headOf s .theta ≡ θ → (1 ≤ p .at) × (p .at ≤ headOf s .nodesTaken)
+      → headOf s .nodesTaken < headOf s .nodeBlocks → Cut s (splitNode (nodeOps θ) (wordStore f θ) s p a c) p a c
+  split-cut s p a c ok own within more =
+      let z = halve-now f θ s p a c ok own within more in
+      let t : List ℕ = splitNode (nodeOps θ) (wordStore f θ) s p a c in
+      record {
+        kept = z .kept;
+        taken = omega (arith, z .taken);
+        lower-is = alike-is _ (nodeOf t (p .at)) (halve-lower f θ s p a c ok own within more);
+        upper-is = alike-is _ (nodeOf t (suc (headOf s .nodesTaken))) (halve-upper f θ s p a c ok own within more);
+        other-is = λ x low high off. alike-is (nodeOf s x) (nodeOf t x) (z .frame x low high (off, tt));
+      }
+
+  pub first-cut : (key : Key) (s : List ℕ) (p : Place) (a c : ℕ) → Sized f s → headOf s .theta ≡ θ
+      → (1 ≤ p .at) × (p .at ≤ headOf s .nodesTaken)
+      → headOf s .nodesTaken < headOf s .nodeBlocks → forwardWord (nodeOf s (p .at)) 0 ≤ headOf s .nodesTaken
+      → Cut s (splitFirst (nodeOps θ) (wordStore f θ) s p a c) p a c
+  first-cut key s p a c ok own within more behind =
+      let w = first-now f θ key s p a c ok own within more behind in
+      record {
+        kept = w .kept;
+        taken = w .taken;
+        lower-is = first-lower f θ key s p a c ok own within more behind;
+        upper-is = first-upper f θ key s p a c ok own within more behind;
+        other-is = first-other f θ key s p a c ok own within more behind;
+      }
 
   abbrev ClimbHeld : List Place → Type 0
   ClimbHeld path =
@@ -92,7 +118,8 @@ module _ (f : Format) (θ : ℕ) where
 
   above-held : (s t : List ℕ) (p : Place) (path : List Place) (k : Key) (a c : ℕ) → 1 ≤ θ → 1 ≤ length k → headOf s .theta ≡ θ
       → Among (headOf s .nodesTaken) (p ∷ path) → θ ≤ p .depth
-      → headOf s .nodesTaken + bumpCost θ (depths (p ∷ path)) ≤ headOf s .nodeBlocks → Held θ s (p ∷ path) → Apart (p ∷ path) → Slack 1 (p ∷ path)
+      → headOf s .nodesTaken + bumpCost θ (depths (p ∷ path)) ≤ headOf s .nodeBlocks → Held θ s (p ∷ path) → Apart (p ∷ path)
+      → Slack 1 (p ∷ path)
       → Cut s t p a c → ClimbHeld path
       → Held θ (climb (nodeOps θ) (wordStore f θ) θ k t path (p .at) (suc (headOf s .nodesTaken)) .store)
       (inHalf θ p (suc (headOf s .nodesTaken))
@@ -134,17 +161,9 @@ module _ (f : Format) (θ : ℕ) where
         | no h ↦
             let full : θ ≤ p .depth = omega arith in
             let more : headOf s .nodesTaken < headOf s .nodeBlocks = omega (arith, bump-full θ (p .depth) (depths path) full .1) in
-            let z = halve-now f θ s p a c ok own (among .0) more in
             let t : List ℕ = splitNode (nodeOps θ) (wordStore f θ) s p a c in
             subst (λ r. Held θ (r .store) (r .path)) (sym (climb-full (nodeOps θ) (wordStore f θ) θ k s p a c path full))
-            (above-held s t p path k a c pos some own among full room held apart slack
-            (record {
-              kept = z .kept;
-              taken = omega (arith, z .taken);
-              lower-is = alike-is _ (nodeOf t (p .at)) (halve-lower f θ s p a c ok own (among .0) more);
-              upper-is = alike-is _ (nodeOf t (suc (headOf s .nodesTaken))) (halve-upper f θ s p a c ok own (among .0) more);
-              other-is = λ x low high off. alike-is (nodeOf s x) (nodeOf t x) (z .frame x low high (off, tt));
-            })
+            (above-held s t p path k a c pos some own among full room held apart slack (split-cut s p a c ok own (among .0) more)
             (climb-held path))
       ]
 
@@ -185,17 +204,9 @@ module _ (f : Format) (θ : ℕ) where
         | no h ↦
             let full : θ ≤ p .depth = omega arith in
             let more : headOf s .nodesTaken < headOf s .nodeBlocks = omega (arith, bump-full θ (p .depth) (depths path) full .1) in
-            let w = first-now f θ key s p a c ok own (led .0, led .1) more (led .4) in
             subst (λ r. Held θ (r .store) (r .path)) (sym (round-full (nodeOps θ) (wordStore f θ) θ key s p path a c full))
             (above-held s (splitFirst (nodeOps θ) (wordStore f θ) s p a c) p path key a c pos some own ((led .0, led .1), led .2) full room
-            held apart slack
-            (record {
-              kept = w .kept;
-              taken = w .taken;
-              lower-is = first-lower f θ key s p a c ok own (led .0, led .1) more (led .4);
-              upper-is = first-upper f θ key s p a c ok own (led .0, led .1) more (led .4);
-              other-is = first-other f θ key s p a c ok own (led .0, led .1) more (led .4);
-            })
+            held apart slack (first-cut key s p a c ok own (led .0, led .1) more (led .4))
             (climb-held path))
       ],
       subst Apart (sym (round-turned f θ key (p ∷ path) s a c ok own led fits room .way))

@@ -15,6 +15,7 @@ pub mod InsideRound
 pub mod HeldRound
 pub mod InsideWay
 pub mod InsideEnter
+pub mod EnterCode
 pub mod FrameRound
 pub mod FrameWay
 pub mod FrameEnter
@@ -29,3 +30,13 @@ pub mod FoundStart
 pub mod FoundEnter
 pub mod Promises
 pub mod Example
+pub mod PageCode
+pub mod CarryPath
+pub mod PlaceCode
+pub mod StepCode
+pub mod SplitCode
+pub mod RootCode
+pub mod FirstCode
+pub mod ClimbCode
+pub mod RoundCode
+pub mod TurnCode

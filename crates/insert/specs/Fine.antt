@@ -6,28 +6,38 @@
 --   Held θ s path   == each place of the path is at a node that the arrays of a node can hold, with the local depth that the path says
 --   Apart path      == no two places of the path are at one node
 --   Slack n path    == at each place, n bits of the key are left behind those of its run
+--   climbed, rounded f s k path a c == a climb, and a round, on the words s
+--   Ready f s p     == the node at the place p may be written
+--   Climbable f s path == the nodes of the path may be, and there are node blocks for it
+--   Carries s h ts  == h is the head of the words s, and ts are 32 steps, of which its levels use some
+--   Partable f s p b == page p may be halved on bit b
 --   Fine f θ C k d w == d rounds of a way w stay inside its words and make room for the key k
 use mathlib.Core.Path.{_≡_}
 use mathlib.Core.Bool.{true}
 use mathlib.Core.List.{List, [], _∷_, map}
-use Prim.Native.Nat.{ℕ, _+_, _-_, _/_, _^_, _≤_}
+use Prim.Native.Nat.{ℕ, suc, _+_, _-_, _/_, _^_, _≤_, _<_}
 use lib.ListN.{length}
+use Rattle.lists.specs.Bits.{bits}
 use Rattle.lists.specs.Lists.{All, Pairwise}
 use Rattle.lists.specs.Keyed.{Sorted, Lacks, Prefix}
 use Rattle.tree.specs.Build.{pagesAt}
-use Rattle.tree.specs.Carry.{bumpCosts}
+use Rattle.tree.specs.Carry.{bumpCost, bumpCosts}
 use Rattle.store.specs.declared.Format.{Format}
+use Rattle.store.specs.declared.Head.{Head}
+use Rattle.search.specs.declared.Step.{Step}
 use Rattle.store.specs.Format.{width}
-use Rattle.store.specs.Head.{headOf}
+use Rattle.store.specs.Head.{headOf, InUse}
 use Rattle.node.specs.Node.{forwardWord}
 use Rattle.page.specs.Page.{lawfulItem}
 use Rattle.page.specs.Schema.{keyOf}
 use Rattle.represent.specs.Image.{pageImage}
 use Rattle.represent.specs.Rep.{Sized}
 use Rattle.split.specs.Frame.{nodeOf, pageOf}
-use Rattle.split.specs.Round.{Place}
+use Rattle.split.specs.Round.{Place, Climbed, climb, round}
+use Rattle.split.specs.Insertion.{wordStore}
+use Rattle.split.specs.Block.{nodeOps}
 use Rattle.split.specs.Value.{Holder}
-use Rattle.insert.specs.Enter.{Way, roundsFor}
+use Rattle.insert.specs.Enter.{Way, itemsIn, roundsFor}
 
 abbrev pub depths : List Place → List ℕ
 depths = map (λ p. p .depth)
@@ -57,6 +67,50 @@ Apart path = Pairwise (λ p q. p .at ≡ q .at → ⊥) path
 abbrev pub Slack : ℕ → List Place → Type 0
 Slack n = All (λ p. p .depth + n ≤ length (p .bits))
 
+module _ (f : Format) (s : List ℕ) (k : ℕ) (path : List Place) (a c : ℕ) where
+  abbrev θ : ℕ
+  θ = headOf s .theta
+
+  abbrev pub climbed : Climbed (List ℕ)
+  climbed = climb (nodeOps θ) (wordStore f θ) θ (bits (width f) k) s path a c
+
+  abbrev pub rounded : Climbed (List ℕ)
+  rounded = round (nodeOps θ) (wordStore f θ) θ (bits (width f) k) s path a c
+
+pub record Ready (f : Format) (s : List ℕ) (p : Place) : Type 0 where
+  pub sized : Sized f s
+  pub in-use : InUse (headOf s) (p .at)
+  pub fits : headOf s .nodesTaken ≤ headOf s .nodeBlocks
+  pub holder : Holder (headOf s .theta) (nodeOf s (p .at)) (p .bits) (p .depth)
+  pub left : p .depth < length (p .bits)
+
+pub record Climbable (f : Format) (s : List ℕ) (path : List Place) : Type 0 where
+  pub sized : Sized f s
+  pub among : Among (headOf s .nodesTaken) path
+  pub room : headOf s .nodesTaken + bumpCost (headOf s .theta) (depths path) ≤ headOf s .nodeBlocks
+  pub held : Held (headOf s .theta) s path
+  pub apart : Apart path
+  pub slack : Slack 1 path
+
+pub record Partable (f : Format) (s : List ℕ) (p b : ℕ) : Type 0 where
+  pub sized : Sized f s
+  pub low : 1 ≤ p
+  pub high : p ≤ headOf s .pagesTaken
+  pub room : headOf s .pagesTaken < headOf s .pageBlocks
+  pub narrow : b < width f
+  pub prefix-bits : ℕ
+  pub image : pageOf f s p ≡ pageImage f (headOf s .capacity) (itemsIn f (pageOf f s p))
+  pub fit : length (itemsIn f (pageOf f s p)) ≤ headOf s .capacity
+  pub lawful : All (λ it. lawfulItem f it ≡ true) (itemsIn f (pageOf f s p))
+  pub sorted : Sorted keyOf (itemsIn f (pageOf f s p))
+  pub prefix : Prefix keyOf (suc b) prefix-bits (itemsIn f (pageOf f s p))
+
+pub record Carries (s : List ℕ) (h : Head) (ts : List Step) : Type 0 where
+  pub head-is : h ≡ headOf s
+  pub long : length ts ≡ 32
+  pub low : 1 ≤ h .levels
+  pub high : h .levels ≤ 32
+
 pub record Fine (f : Format) (θ C k d : ℕ) (w : Way) : Type 0 where
   pub sized : Sized f (w .words)
   pub theta : headOf (w .words) .theta ≡ θ
@@ -80,3 +134,8 @@ pub record Fine (f : Format) (θ C k d : ℕ) (w : Way) : Type 0 where
   pub rounds : roundsFor C (width f - w .used) k (w .items) ≡ d
   pub new : Lacks keyOf k (w .items)
   pub prefix : Prefix keyOf (width f - w .used) (k / 2 ^ (width f - w .used)) (w .items)
+
+-- a round more can be made
+pub record Turnable (f : Format) (k : ℕ) (w : Way) : Type 0 where
+  pub more : ℕ
+  pub fine : Fine f (headOf (w .words) .theta) (headOf (w .words) .capacity) k (suc more) w

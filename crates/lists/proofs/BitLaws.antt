@@ -5,14 +5,13 @@ use mathlib.Core.List.{List, [], _∷_}
 use mathlib.Core.Logic.{inl, inr}
 use Prim.Native.Nat.{ℕ, zero, suc, _+_, _-_, _*_, _/_, _%_, _^_, _≤_, _<_}
 use native.Mathlib.Nat.{suc-add, zero-add, suc-sub-suc, sub-zero, sub-self, pow-zero, mod-lt, mod-eq-of-lt, mul-add-div-right, mul-assoc}
-use native.Mathlib.Nat.{div-one, div-eq-of-lt}
+use native.Mathlib.Nat.{div-one, div-eq-of-lt, add-sub-of-le}
 use native.Mathlib.Numerals.{one-add}
 use native.Mathlib.Omega.{arith}
 use lib.ListN.{length, drop}
 use lib.Seq.{drop-nil}
 use lib.Pow.{pow-pos, pow-add, mod-pow-add, low}
 use borrow.Author.Tests.{eqb-true, eqb-false}
-use native.Mathlib.Nat.{add-sub-of-le}
 use Rattle.lists.specs.Bits.{bit, bits, index}
 use Rattle.lists.proofs.Cases.{bool-cases}
 use Rattle.lists.proofs.Powers.{half, pow-split}

@@ -1,13 +1,13 @@
 -- What holds of every element passes to filters, sublists and permutations.
 use mathlib.Core.Path.{_≡_, refl, sym, ap, _∙_, subst}
 use mathlib.Core.Bool.{Bool, true, false, not, true≢false, false≢true}
-use mathlib.Core.List.{List, [], _∷_, Sublistᴰ, List·Permᴰ}
+use mathlib.Core.List.{List, [], _∷_, _++_, map, Sublistᴰ, List·Permᴰ}
 use mathlib.Core.List.{Sublistᴰ·slnil, Sublistᴰ·cons, Sublistᴰ·cons-cons, List·Permᴰ·nil, List·Permᴰ·cons, List·Permᴰ·swap}
 use mathlib.Core.List.{List·Permᴰ·trans}
 use mathlib.Core.Logic.{inl, inr}
-use Prim.Native.Nat.{_+_, _≤_, _<_}
+use Prim.Native.Nat.{ℕ, zero, suc, _+_, _≤_, _<_}
 use native.Mathlib.Omega.{arith}
-use lib.ListN.{length}
+use lib.ListN.{length, set}
 use Rattle.lists.specs.Lists.{All, Pairwise, filter, all}
 use Rattle.lists.proofs.Cases.{bool-cases}
 
@@ -116,3 +116,14 @@ module _ {A : Type 0} where
           | inl e ↦ rw (filter-true f x xs e) (all-filter f (P x) xs (a .0), pairwise-filter f xs (a .1))
           | inr e ↦ rw (filter-false f x xs e) (pairwise-filter f xs (a .1))
         ]
+
+-- a map of a list put together, and of one with another element
+module _ {A B : Type 0} (g : A → B) where
+  pub map-append : (xs ys : List A) → map g (xs ++ ys) ≡ map g xs ++ map g ys
+  map-append [] ys = refl
+  map-append (x ∷ xs) ys = ap (λ zs. g x ∷ zs) (map-append xs ys)
+
+  pub map-set : (xs : List A) (i : ℕ) (y : A) → map g (set xs i y) ≡ set (map g xs) i (g y)
+  map-set [] i y = refl
+  map-set (x ∷ xs) zero y = refl
+  map-set (x ∷ xs) (suc i) y = ap (λ zs. g x ∷ zs) (map-set xs i y)

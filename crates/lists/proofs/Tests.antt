@@ -163,7 +163,8 @@ unfolding tab
 all-tab P zero g a = tt
 all-tab P (suc n) g a = (a 0 (omega arith), all-tab P n (λ i. g (suc i)) (λ i q. a (suc i) (omega arith)))
 
-pub pairwise-tab : {A : Type 0} (P : A → A → Type 0) (n : ℕ) (g : ℕ → A) → ((i j : ℕ) → i < j → j < n → P (g i) (g j)) → Pairwise P (tab n g)
+pub pairwise-tab : {A : Type 0} (P : A → A → Type 0) (n : ℕ) (g : ℕ → A) → ((i j : ℕ) → i < j → j < n → P (g i) (g j))
+    → Pairwise P (tab n g)
 unfolding tab
 pairwise-tab P zero g a = tt
 pairwise-tab P (suc n) g a = (

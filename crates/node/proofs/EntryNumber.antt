@@ -10,15 +10,17 @@ use Rattle.lists.specs.Bits.{bits, index}
 use Rattle.lists.proofs.BitLaws.{index-bits, drop-bits}
 use Rattle.node.specs.Node.{entryNumber}
 
-pub entry-index : (W k used H : ℕ) → used + H ≤ W → k < 2 ^ W → entryNumber W k used H ≡ index H (drop used (bits W k))
+-- by the bits that are left: at H = 0 nothing is asked of the used ones
+pub entry-left : (W k used H : ℕ) → H ≤ W - used → entryNumber W k used H ≡ index H (bits (W - used) k)
 unfolding entryNumber
-entry-index W k used H p q =
-    let fits : H ≤ W - used = omega arith in
+entry-left W k used H fits =
     sym
-    (ap (index H) (drop-bits W used k (omega arith))
-    ∙ index-bits (W - used) H k fits
+    (index-bits (W - used) H k fits
     ∙ ap (λ n. k % 2 ^ n / 2 ^ (W - used - H)) (sym (add-sub-of-le fits))
     ∙ field k H (W - used - H))
+
+pub entry-index : (W k used H : ℕ) → used + H ≤ W → k < 2 ^ W → entryNumber W k used H ≡ index H (drop used (bits W k))
+entry-index W k used H p q = entry-left W k used H (omega arith) ∙ ap (index H) (sym (drop-bits W used k (omega arith)))
 
 pub entry-below : (W k used H : ℕ) → entryNumber W k used H < 2 ^ H
 unfolding entryNumber

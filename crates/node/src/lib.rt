@@ -2,7 +2,7 @@
 use store::Format;
 use store::Head;
 ghost use mathlib.Core.Path.{_≡_};
-ghost use Prim.Native.Nat.{_+_, _≤_, _<_, _^_, max};
+ghost use Prim.Native.Nat.{_+_, _-_, _≤_, _<_, _^_, max};
 ghost use Rattle.store.specs.Format.{width};
 ghost use Rattle.node.specs.Node.{entryOf, sameRun, goodRuns, linkRule, pointerLow, pointerHigh, runTest, nodeRule, entryNumber};
 
@@ -150,7 +150,7 @@ pub fn node_ok(store: &[u32], head: Head, at: usize, level: u32) -> bool
 
 // The entry that a key takes in a node: the next `depth` bits after the used ones.
 pub fn entry_number(f: Format, key: u64, used: u32, depth: u32) -> usize
-    requires { ⌜ (used + depth ≤ width f) × (depth ≤ 6) ⌝ }
+    requires { ⌜ (depth ≤ width f - used) × (depth ≤ 6) ⌝ }
     ensures { λ r. ⌜ (r ≡ entryNumber (width f) key used depth) × (r < 2 ^ depth) × (r < 64) ⌝ }
 {
     if depth == 0 {

@@ -109,7 +109,7 @@ pub fn write_item(part: &mut [u32], f: Format, item: Item)
 }
 
 // Whether a record may be held.
-fn lawful_item(f: Format, item: Item) -> bool
+pub fn lawful_item(f: Format, item: Item) -> bool
     requires { ⌜ item .key < 2 ^ width f ⌝ }
     ensures { λ r. ⌜ r ≡ lawfulItem f item ⌝ }
 {

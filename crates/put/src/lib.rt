@@ -56,7 +56,7 @@ pub fn write_first(part: &mut [u32], f: Format, capacity: u32, item: Item)
 }
 
 // Whether a bit of a key is set; bit 0 is the lowest.
-fn bit_set(key: u64, bit: u32) -> bool
+pub fn bit_set(key: u64, bit: u32) -> bool
     requires { ⌜ bit < 64 ⌝ }
     ensures { λ r. ⌜ r ≡ bitOf bit key ⌝ }
 {

@@ -14,8 +14,7 @@ use Rattle.plot.specs.Plot.{lawful, isWord, lawfulTerm, lawfulDay}
 use Rattle.store.specs.declared.Format.the-variants.{Plots}
 use Rattle.store.specs.Format.{width, words}
 use Rattle.store.specs.Head.{headOf, zeros, lawfulSizes, size, nodeWords, nodeStart, pageStart, pageWords, pageAt}
-use Rattle.page.specs.Page.{lawfulItem}
-use Rattle.page.specs.Page.{itemWords, flat}
+use Rattle.page.specs.Page.{lawfulItem, itemWords, flat}
 use Rattle.represent.specs.Labelled.{ind, occ, occs}
 use Rattle.represent.specs.Image.{nodeImage, pageImage, nodeAt}
 use Rattle.represent.specs.Rep.{Unlinked, numbers}

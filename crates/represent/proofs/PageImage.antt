@@ -17,10 +17,9 @@ use Rattle.store.specs.declared.Format.the-variants.{Plots}
 use Rattle.store.specs.declared.Item.{Item}
 use Rattle.store.specs.Format.{width, words}
 use Rattle.store.specs.Head.{word}
-use Rattle.page.specs.Page.{count, itemAt, keyAt, lawfulItem, pageRule, agrees, above}
+use Rattle.page.specs.Page.{count, itemAt, keyAt, lawfulItem, pageRule, agrees, above, itemWords, flat}
 use Rattle.page.proofs.Laws.{lawful-key, facts-rule, facts-agrees}
 use Rattle.search.specs.Find.{noItem}
-use Rattle.page.specs.Page.{itemWords, flat}
 use Rattle.page.proofs.Flat.{length-flat}
 use Rattle.represent.specs.Image.{pageImage}
 use Rattle.page.specs.Schema.{keyOf}

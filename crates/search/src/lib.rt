@@ -112,7 +112,7 @@ fn lost_way() -> Descent
 }
 
 // The way of a key from the root down to its page.
-fn descend(store: &[u32], f: Format, head: Head, key: u64) -> Descent
+pub fn descend(store: &[u32], f: Format, head: Head, key: u64) -> Descent
     requires { ⌜ (head .theta ≤ 6) × (head .levels ≤ 32) ⌝ }
     ensures { λ r. ⌜ (r ≡ descent f (now (store .entry)) head key) × (r .used ≤ width f) ⌝ }
 {

@@ -18,12 +18,11 @@ use Rattle.split.proofs.CarriedLaws.{carried-slack, carried-full}
 use Rattle.split.proofs.Blocks.{Written, top-written}
 use Rattle.split.proofs.Writes.{put-kept, taken-head, taken-kept}
 use Rattle.split.proofs.Level.{is-moved, unlinked-same, unlinked-moved, written-unlinked, Plain, plain-cons, Ready, ready-low}
-use Rattle.split.proofs.Level.{ready-high, here-in, key-low}
+use Rattle.split.proofs.Level.{ready-high, here-in, key-low, ready-deep, ready-tall}
 use Rattle.split.proofs.Splits.{Split, parts, Parted, parted, parted-split}
 use Rattle.split.proofs.Rise.{ClimbKeeps, grown-climbed, grown-links, lower-here, upper-here, rise}
 use Rattle.tree.proofs.TrieLaws.{depth-split}
 use Rattle.split.proofs.Paths.{slack-path, full-path}
-use Rattle.split.proofs.Level.{ready-deep, ready-tall}
 
 module _ (I : NodeOps) (O : StoreOps) (θ : ℕ) (k : Key) (s : O .S) (p : Place) (a c : ℕ) where
   pub climb-room : (path : List Place) → p .depth < θ

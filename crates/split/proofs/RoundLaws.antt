@@ -20,12 +20,11 @@ use Rattle.represent.proofs.Chain.{count-labels, linked-frame}
 use Rattle.split.proofs.CarriedLaws.{carried-slack, carried-full, carried-levels, carried-one, carried-old}
 use Rattle.represent.proofs.LabelLaws.{one-numbered}
 use Rattle.split.proofs.Blocks.{aim-written}
-use Rattle.split.proofs.Level.{moved-links, links-frame, Ready, Climbed, here, rewritten, rewritten-links}
+use Rattle.split.proofs.Level.{moved-links, links-frame, Ready, Climbed, here, rewritten, rewritten-links, ready-deep, ready-tall}
 use Rattle.split.proofs.Rise.{grown-climbed, grown-links, rise}
 use Rattle.split.proofs.Climb.{climb-keeps}
 use Rattle.split.proofs.FirstSplit.{first-split, first-linked}
 use Rattle.split.proofs.Paths.{slack-path, full-path}
-use Rattle.split.proofs.Level.{ready-deep, ready-tall}
 
 module _ (I : NodeOps) (O : StoreOps) (θ : ℕ) (k : Key) (s : O .S) (p : Place) (path : List Place) (a c : ℕ) where
   pub round-room : p .depth < θ → round I O θ k s (p ∷ path) a c ≡ record { store = grown I O s p a c; path = deeper p ∷ path }

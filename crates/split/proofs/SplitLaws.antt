@@ -9,22 +9,22 @@ use Prim.Native.Nat.{ℕ, suc, _+_, _-_, _^_, _≤_, _<_}
 use native.Mathlib.Omega.{arith}
 use Rattle.lists.specs.Bits.{bit, bits, index}
 use Rattle.lists.proofs.Cases.{bool-cases}
-use Rattle.lists.proofs.BitLaws.{drop-bits, length-bits}
+use Rattle.lists.proofs.BitLaws.{length-bits}
 use Rattle.tree.specs.Trie.{Key}
 use Rattle.store.specs.declared.Format.{Format}
 use Rattle.store.specs.Format.{width}
 use Rattle.node.specs.Node.{depthWord, backWord, forwardWord, entryDepth, entryNumber}
-use Rattle.node.proofs.EntryNumber.{entry-index}
+use Rattle.node.proofs.EntryNumber.{entry-left}
 use Rattle.split.specs.Block.{block, number, halveRun, double, grow, half, lower, upper}
 use Rattle.split.specs.declared.Node.{Node}
 use Rattle.split.specs.Value.{blockOf, own, Reached}
 use Rattle.split.proofs.GrowLaws.{Loaded, own-half, link-words}
 
 -- the entry that a key takes, by the bits that are left
-pub entry-at : (W k used H : ℕ) {i : ℕ} → used + H ≤ W → k < 2 ^ W → i ≡ entryNumber W k used H → index H (bits (W - used) k) ≡ i
-entry-at W k used H l q e = sym (e ∙ entry-index W k used H l q ∙ ap (index H) (drop-bits W used k (omega arith)))
+pub entry-at : (W k used H : ℕ) {i : ℕ} → H ≤ W - used → i ≡ entryNumber W k used H → index H (bits (W - used) k) ≡ i
+entry-at W k used H l e = sym (e ∙ entry-left W k used H l)
 
-module _ (W k used : ℕ) (l : used < W) (q : k < 2 ^ W) {i : ℕ} (e : i ≡ entryNumber W k used 1) where
+module _ (W k used : ℕ) (l : used < W) {i : ℕ} (e : i ≡ entryNumber W k used 1) where
   abbrev rest : Key
   rest = bits (W - (used + 1)) k
 
@@ -32,7 +32,7 @@ module _ (W k used : ℕ) (l : used < W) (q : k < 2 ^ W) {i : ℕ} (e : i ≡ en
   next-bit = let g : W - used ≡ suc (W - (used + 1)) = omega arith in rw g refl
 
   bit-at : index 1 (bit (W - (used + 1)) k ∷ rest) ≡ i
-  bit-at = ap (index 1) (sym next-bit) ∙ entry-at W k used 1 (omega arith) q e
+  bit-at = ap (index 1) (sym next-bit) ∙ entry-at W k used 1 (omega arith) e
 
   clear : i ≡ 0 → bits (W - used) k ≡ false ∷ rest
   clear z =
@@ -69,9 +69,9 @@ module _ (W k used : ℕ) (l : used < W) (q : k < 2 ^ W) {i : ℕ} (e : i ≡ en
 pub grown-half : (θ : ℕ) (k : Key) (a c : ℕ) {x y ws z : List ℕ} → y ≡ grow θ x k a c → x ≡ ws → z ≡ grow θ ws k a c → y ≡ z
 grown-half θ k a c e g h = e ∙ ap (λ b. grow θ b k a c) g ∙ sym h
 
--- the bits used before a node, with its own
-pub reached-width : (f : Format) (θ : ℕ) (ws : List ℕ) (key used : ℕ) → Reached f θ ws key used → used + depthWord ws 0 ≤ width f
-reached-width f θ ws key used r = omega (arith, r .0 .left, r .1, length-bits (width f - used) key)
+-- a node takes no more bits than are left
+pub reached-width : (f : Format) (θ : ℕ) (ws : List ℕ) (key used : ℕ) → Reached f θ ws key used → depthWord ws 0 ≤ width f - used
+reached-width f θ ws key used r = omega (arith, r .left, length-bits (width f - used) key)
 
 -- a full node of the store, split: the halves of its words are those of the block that they are read as
 module _ (f : Format) (θ : ℕ) (ws : List ℕ) (key used : ℕ) (some : 1 ≤ θ) (full : depthWord ws 0 ≡ θ) (r : Reached f θ ws key used) where
@@ -79,14 +79,14 @@ module _ (f : Format) (θ : ℕ) (ws : List ℕ) (key used : ℕ) (some : 1 ≤ 
       → (x .depth ≡ θ) × (used + θ ≤ width f) × ((j : ℕ) → j < 2 ^ x .depth → getD (x .h) j 0 ≤ x .depth)
   splittable x l = (
     l .depth-is ∙ full,
-    omega (arith, reached-width f θ ws key used r, full),
+    omega (arith, reached-width f θ ws key used r, full, some),
     λ j h.
         let q = subst (λ d. j < 2 ^ d) (l .depth-is) h in
-        omega (arith, l .locals j q, l .depth-is, r .0 .all j q),
+        omega (arith, l .locals j q, l .depth-is, r .all j q),
   )
 
   same : (b : Bool) → half θ (own θ ws) b ≡ half θ ws b
-  same b = own-half θ ws (r .0 .low) (omega arith) (r .0 .all) b
+  same b = own-half θ ws (r .low) (omega arith) (r .all) b
 
   own-lower : (k : Key) (a c : ℕ) → lower θ (own θ ws) k a c ≡ lower θ ws k a c
   unfolding lower

@@ -25,8 +25,7 @@ use Rattle.represent.specs.Rep.{Stretch, numbers, Directory, Pages, Rep, Sized}
 use Rattle.split.specs.Round.{NodeOps, StoreOps, Rounded, pathOf, round, carried}
 use Rattle.split.specs.Frame.{nodeOf, pageOf, putPagesTaken}
 use Rattle.split.specs.Insertion.{SameSizes, Ok, wordStore, stretchAt, leftAt, prefixAt, halfAt, replacedAt, Fit, putItems}
-use Rattle.split.specs.Insertion.{nextPage, takePage}
-use Rattle.split.specs.Insertion.{Stepped, Turned, Roomy, UpperKeeps, LowerKeeps, BothKeep, PutKeeps, TakeKeeps}
+use Rattle.split.specs.Insertion.{nextPage, takePage, Stepped, Turned, Roomy, UpperKeeps, LowerKeeps, BothKeep, PutKeeps, TakeKeeps}
 use Rattle.represent.proofs.LabelLaws.{label-low, label-high, leafAt-relabel, relabel-graft}
 use Rattle.split.proofs.Level.{moved-links, nodes-frame, links-frame}
 use Rattle.split.proofs.Frame.{putPage-nodes, putPage-beyond}

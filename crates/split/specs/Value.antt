@@ -40,5 +40,4 @@ abbrev pub localAt : List ℕ → Key → ℕ
 localAt ws k = entryDepth ws 0 (number ws k)
 
 abbrev pub Reached : Format → ℕ → List ℕ → ℕ → ℕ → Type 0
-Reached f θ ws key used =
-    Holder θ ws (bits (width f - used) key) (localAt ws (bits (width f - used) key)) × (used ≤ width f)
+Reached f θ ws key used = Holder θ ws (bits (width f - used) key) (localAt ws (bits (width f - used) key))

@@ -277,7 +277,7 @@ pub fn node_start(head: Head, n: u32) -> usize
 }
 
 // The first word of a page block.
-fn page_start(f: Format, head: Head, p: u32) -> usize
+pub fn page_start(f: Format, head: Head, p: u32) -> usize
     requires { ⌜ (head .theta ≤ 6) × (head .capacity ≤ 64) ⌝ }
     ensures { λ r. ⌜ (r ≡ pageStart f head p) × (r < 2 ^ 42) ⌝ }
 {

@@ -62,7 +62,7 @@ pages-graft (fork l r) (true ∷ k) c = omega (arith, pages-graft r k c)
 
 -- pages that one record more takes
 module _ {R : Type 0} (C : ℕ) where
-  pagesAt-room : (ls : List R) → 1 ≤ length ls → length ls < C → pagesAt C ls ≡ 0
+  pub pagesAt-room : (ls : List R) → 1 ≤ length ls → length ls < C → pagesAt C ls ≡ 0
   unfolding pagesAt
   pagesAt-room [] h l = absurd (omega arith)
   pagesAt-room (x ∷ xs) h l = rw (lt-ltb (length (x ∷ xs)) C l, pagesAt)

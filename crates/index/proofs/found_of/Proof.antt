@@ -37,13 +37,4 @@ returns-4 c = sym (ap reply (c .enum-told3 .given .1))
 pub found-of-spec : {M : Type 1} → statement M
 found-of-spec =
     tie.close
-    (tie.spec
-    enum-known-answer
-    record-of-requires
-    enum-told
-    enum-told-2
-    enum-told-3
-    returns
-    returns-2
-    returns-3
-    returns-4)
+    (tie.spec enum-known-answer record-of-requires enum-told enum-told-2 enum-told-3 returns returns-2 returns-3 returns-4)

@@ -38,13 +38,4 @@ returns-4 c = sym (ap rangeReply (c .enum-told3 .given .1))
 pub listed-of-spec : {M : Type 1} → statement M
 listed-of-spec =
     tie.close
-    (tie.spec
-    enum-known-answer
-    cast-t5
-    enum-told
-    enum-told-2
-    enum-told-3
-    returns
-    returns-2
-    returns-3
-    returns-4)
+    (tie.spec enum-known-answer cast-t5 enum-told enum-told-2 enum-told-3 returns returns-2 returns-3 returns-4)

@@ -40,10 +40,4 @@ returns c =
 pub range-spec : {M : Type 1} → statement M
 range-spec =
     tie.close
-    (tie.spec
-    widen-requires
-    widen-requires-2
-    range-requires
-    listed-of-requires
-    same-length
-    returns)
+    (tie.spec widen-requires widen-requires-2 range-requires listed-of-requires same-length returns)

@@ -44,15 +44,4 @@ returns-5 c = sym (ap summaryReply (c .enum-told4 .given .1))
 pub summed-of-spec : {M : Type 1} → statement M
 summed-of-spec =
     tie.close
-    (tie.spec
-    enum-known-answer
-    cast-t6
-    enum-told
-    enum-told-2
-    enum-told-3
-    enum-told-4
-    returns
-    returns-2
-    returns-3
-    returns-4
-    returns-5)
+    (tie.spec enum-known-answer cast-t6 enum-told enum-told-2 enum-told-3 enum-told-4 returns returns-2 returns-3 returns-4 returns-5)

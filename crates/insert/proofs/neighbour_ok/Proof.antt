@@ -97,17 +97,5 @@ returns-5 c =
 pub neighbour-ok-spec : {M : Type 1} → statement M
 neighbour-ok-spec =
     tie.close
-    (tie.spec
-    node-start-requires
-    add-word
-    word-requires
-    returns
-    returns-2
-    returns-3
-    node-start-requires-2
-    add-word-2
-    word-requires-2
-    returns-4
-    add-word-3
-    word-requires-3
-    returns-5)
+    (tie.spec node-start-requires add-word word-requires returns returns-2 returns-3 node-start-requires-2 add-word-2 word-requires-2
+    returns-4 add-word-3 word-requires-3 returns-5)

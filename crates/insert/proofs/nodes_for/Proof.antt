@@ -80,19 +80,5 @@ returns c =
 pub nodes-for-spec : {M : Type 1} → statement M
 nodes-for-spec =
     tie.close
-    (tie.spec
-    Inv-loop
-    μ-loop
-    to-index-requires
-    loop-holds
-    mul-less
-    element-copy-out-less
-    less-requires
-    less-requires-2
-    add-nodes
-    add-i
-    loop-less
-    loop-again
-    root-nodes-requires
-    add-result
-    returns)
+    (tie.spec Inv-loop μ-loop to-index-requires loop-holds mul-less element-copy-out-less less-requires less-requires-2 add-nodes add-i
+    loop-less loop-again root-nodes-requires add-result returns)

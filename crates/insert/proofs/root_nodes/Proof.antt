@@ -48,13 +48,4 @@ returns c =
 pub root-nodes-spec : {M : Type 1} → statement M
 root-nodes-spec =
     tie.close
-    (tie.spec
-    Inv-loop
-    μ-loop
-    loop-holds
-    less-requires
-    add-nodes
-    add-nodes-2
-    loop-less
-    loop-again
-    returns)
+    (tie.spec Inv-loop μ-loop loop-holds less-requires add-nodes add-nodes-2 loop-less loop-again returns)

@@ -73,16 +73,5 @@ returns-2 c =
 pub rounds-for-spec : {M : Type 1} → statement M
 rounds-for-spec =
     tie.close
-    (tie.spec
-    Inv-loop
-    μ-loop
-    width-of-requires
-    loop-holds
-    add-u
-    keys-agree-requires
-    sub-result
-    returns
-    loop-less
-    loop-again
-    sub-result-2
+    (tie.spec Inv-loop μ-loop width-of-requires loop-holds add-u keys-agree-requires sub-result returns loop-less loop-again sub-result-2
     returns-2)

@@ -34,10 +34,4 @@ returns c =
 pub field-spec : {M : Type 1} → statement M
 field-spec =
     tie.close
-    (tie.spec
-    add-number-in
-    sub-number-in
-    part-number-in-start
-    part-number-in-end
-    number-in-requires
-    returns)
+    (tie.spec add-number-in sub-number-in part-number-in-start part-number-in-end number-in-requires returns)

@@ -38,12 +38,4 @@ returns-4 c =
 pub number-in-spec : {M : Type 1} → statement M
 number-in-spec =
     tie.close
-    (tie.spec
-    blanks-requires
-    returns
-    shared-slice-read-if2
-    add-if3
-    returns-2
-    returns-3
-    spelled-requires
-    returns-4)
+    (tie.spec blanks-requires returns shared-slice-read-if2 add-if3 returns-2 returns-3 spelled-requires returns-4)

@@ -102,27 +102,6 @@ returns-7 c =
 pub parse-spec : {M : Type 1} → statement M
 parse-spec =
     tie.close
-    (tie.spec
-    returns
-    field-requires
-    enum-known-kind
-    enum-told
-    returns-2
-    field-requires-2
-    enum-known-a
-    enum-told-2
-    returns-3
-    field-requires-3
-    enum-known-b
-    enum-told-3
-    returns-4
-    field-requires-4
-    enum-known-c
-    enum-told-4
-    returns-5
-    field-requires-5
-    enum-known-d
-    enum-told-5
-    returns-6
-    request-of-requires
-    returns-7)
+    (tie.spec returns field-requires enum-known-kind enum-told returns-2 field-requires-2 enum-known-a enum-told-2 returns-3
+    field-requires-3 enum-known-b enum-told-3 returns-4 field-requires-4 enum-known-c enum-told-4 returns-5 field-requires-5 enum-known-d
+    enum-told-5 returns-6 request-of-requires returns-7)

@@ -81,20 +81,5 @@ returns c =
 pub put-spec : {M : Type 1} → statement M
 put-spec =
     tie.close
-    (tie.spec
-    Inv-loop
-    μ-loop
-    sub-k
-    cast-out
-    add-out
-    add-out-2
-    slice-write-out
-    loop-holds
-    sub-k-2
-    shown-requires
-    add-out-3
-    slice-write-out-2
-    loop-less
-    loop-again
-    same-length
-    returns)
+    (tie.spec Inv-loop μ-loop sub-k cast-out add-out add-out-2 slice-write-out loop-holds sub-k-2 shown-requires add-out-3
+    slice-write-out-2 loop-less loop-again same-length returns)

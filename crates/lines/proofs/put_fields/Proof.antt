@@ -32,10 +32,4 @@ returns c =
 pub put-fields-spec : {M : Type 1} → statement M
 put-fields-spec =
     tie.close
-    (tie.spec
-    put-two-requires
-    put-two-requires-2
-    put-two-requires-3
-    slice-write-out
-    same-length
-    returns)
+    (tie.spec put-two-requires put-two-requires-2 put-two-requires-3 slice-write-out same-length returns)

@@ -38,11 +38,4 @@ returns c =
 pub put-summary-spec : {M : Type 1} → statement M
 put-summary-spec =
     tie.close
-    (tie.spec
-    put-two-requires
-    put-requires
-    put-requires-2
-    put-requires-3
-    slice-write-out
-    same-length
-    returns)
+    (tie.spec put-two-requires put-requires put-requires-2 put-requires-3 slice-write-out same-length returns)

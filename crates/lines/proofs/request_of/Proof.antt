@@ -64,20 +64,5 @@ returns-8 c = sym (wrong-kind _ _ _ _ _ (omega arith))
 pub request-of-spec : {M : Type 1} → statement M
 request-of-spec =
     tie.close
-    (tie.spec
-    zeros-requires
-    unless-used-requires
-    zeros-requires-2
-    unless-used-requires-2
-    zeros-requires-3
-    unless-used-requires-3
-    zeros-requires-4
-    unless-used-requires-4
-    returns
-    returns-2
-    returns-3
-    returns-4
-    returns-5
-    returns-6
-    returns-7
-    returns-8)
+    (tie.spec zeros-requires unless-used-requires zeros-requires-2 unless-used-requires-2 zeros-requires-3 unless-used-requires-3
+    zeros-requires-4 unless-used-requires-4 returns returns-2 returns-3 returns-4 returns-5 returns-6 returns-7 returns-8)

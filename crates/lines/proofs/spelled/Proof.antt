@@ -73,19 +73,5 @@ returns-4 c =
 pub spelled-spec : {M : Type 1} → statement M
 spelled-spec =
     tie.close
-    (tie.spec
-    Inv-loop
-    μ-loop
-    loop-holds
-    shared-slice-read-b
-    returns
-    returns-2
-    mul-n
-    cast-n
-    add-n
-    add-i
-    loop-less
-    loop-again
-    returns-3
-    cast-t13
-    returns-4)
+    (tie.spec Inv-loop μ-loop loop-holds shared-slice-read-b returns returns-2 mul-n cast-n add-n add-i loop-less loop-again returns-3
+    cast-t13 returns-4)

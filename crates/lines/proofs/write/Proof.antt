@@ -147,41 +147,8 @@ returns-10 c =
 pub write-spec : {M : Type 1} → statement M
 write-spec =
     tie.close
-    (tie.spec
-    returns
-    enum-known-reply
-    put-fields-requires
-    enum-known-reply-2
-    put-fields-requires-2
-    enum-known-reply-3
-    put-fields-requires-3
-    enum-known-reply-4
-    put-fields-requires-4
-    enum-known-reply-5
-    put-fields-requires-5
-    enum-known-reply-6
-    put-fields-requires-6
-    enum-known-reply-7
-    put-summary-requires
-    enum-known-reply-8
-    put-fields-requires-7
-    enum-told
-    put-fields-requires-8
-    same-length
-    returns-2
-    same-length-2
-    returns-3
-    same-length-3
-    returns-4
-    same-length-4
-    returns-5
-    same-length-5
-    returns-6
-    same-length-6
-    returns-7
-    same-length-7
-    returns-8
-    same-length-8
-    returns-9
-    same-length-9
-    returns-10)
+    (tie.spec returns enum-known-reply put-fields-requires enum-known-reply-2 put-fields-requires-2 enum-known-reply-3
+    put-fields-requires-3 enum-known-reply-4 put-fields-requires-4 enum-known-reply-5 put-fields-requires-5 enum-known-reply-6
+    put-fields-requires-6 enum-known-reply-7 put-summary-requires enum-known-reply-8 put-fields-requires-7 enum-told put-fields-requires-8
+    same-length returns-2 same-length-2 returns-3 same-length-3 returns-4 same-length-4 returns-5 same-length-5 returns-6 same-length-6
+    returns-7 same-length-7 returns-8 same-length-8 returns-9 same-length-9 returns-10)

@@ -114,28 +114,6 @@ returns-5 c =
 pub node-ok-spec : {M : Type 1} → statement M
 node-ok-spec =
     tie.close
-    (tie.spec
-    word-requires
-    returns
-    add-word
-    word-requires-2
-    returns-2
-    add-word-2
-    word-requires-3
-    add-word-3
-    word-requires-4
-    links-ok-requires
-    returns-3
-    pointer-low-requires
-    pointer-high-requires
-    runs-ok-requires
-    returns-4
-    pow2-requires
-    pow2-requires-2
-    add-all-zero
-    mul-all-zero
-    add-all-zero-2
-    sub-all-zero
-    mul-all-zero-2
-    all-zero-requires
-    returns-5)
+    (tie.spec word-requires returns add-word word-requires-2 returns-2 add-word-2 word-requires-3 add-word-3 word-requires-4
+    links-ok-requires returns-3 pointer-low-requires pointer-high-requires runs-ok-requires returns-4 pow2-requires pow2-requires-2
+    add-all-zero mul-all-zero add-all-zero-2 sub-all-zero mul-all-zero-2 all-zero-requires returns-5)

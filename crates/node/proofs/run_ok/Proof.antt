@@ -69,20 +69,5 @@ returns-5 c =
 pub run-ok-spec : {M : Type 1} → statement M
 run-ok-spec =
     tie.close
-    (tie.spec
-    add-word
-    mul-word
-    add-word-2
-    word-requires
-    returns
-    pow2-requires
-    rem-if2
-    returns-2
-    add-word-3
-    mul-word-2
-    add-word-4
-    word-requires-2
-    returns-3
-    returns-4
-    same-run-requires
-    returns-5)
+    (tie.spec add-word mul-word add-word-2 word-requires returns pow2-requires rem-if2 returns-2 add-word-3 mul-word-2 add-word-4
+    word-requires-2 returns-3 returns-4 same-run-requires returns-5)

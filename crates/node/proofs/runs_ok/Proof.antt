@@ -85,21 +85,5 @@ returns-2 c =
 pub runs-ok-spec : {M : Type 1} → statement M
 runs-ok-spec =
     tie.close
-    (tie.spec
-    Inv-loop
-    μ-loop
-    pow2-requires
-    loop-holds
-    run-ok-requires
-    returns
-    add-word
-    mul-word
-    add-word-2
-    word-requires
-    larger-requires
-    sub-pow2
-    pow2-requires-2
-    add-i
-    loop-less
-    loop-again
-    returns-2)
+    (tie.spec Inv-loop μ-loop pow2-requires loop-holds run-ok-requires returns add-word mul-word add-word-2 word-requires larger-requires
+    sub-pow2 pow2-requires-2 add-i loop-less loop-again returns-2)

@@ -116,31 +116,6 @@ returns-3 c =
 pub same-run-spec : {M : Type 1} → statement M
 same-run-spec =
     tie.close
-    (tie.spec
-    Inv-loop
-    μ-loop
-    add-word
-    mul-word
-    add-word-2
-    word-requires
-    add-word-3
-    mul-word-2
-    add-word-4
-    word-requires-2
-    loop-holds
-    add-word-5
-    add-word-6
-    mul-word-3
-    add-word-7
-    word-requires-3
-    returns
-    add-word-8
-    add-word-9
-    mul-word-4
-    add-word-10
-    word-requires-4
-    returns-2
-    add-j
-    loop-less
-    loop-again
-    returns-3)
+    (tie.spec Inv-loop μ-loop add-word mul-word add-word-2 word-requires add-word-3 mul-word-2 add-word-4 word-requires-2 loop-holds
+    add-word-5 add-word-6 mul-word-3 add-word-7 word-requires-3 returns add-word-8 add-word-9 mul-word-4 add-word-10 word-requires-4
+    returns-2 add-j loop-less loop-again returns-3)

@@ -76,15 +76,5 @@ returns-2 c = (
 pub first-above-spec : {M : Type 1} → statement M
 first-above-spec =
     tie.close
-    (tie.spec
-    Inv-loop
-    μ-loop
-    count-of-requires
-    loop-holds
-    read-one-requires
-    is-above-requires
-    returns
-    add-i
-    loop-less
-    loop-again
+    (tie.spec Inv-loop μ-loop count-of-requires loop-holds read-one-requires is-above-requires returns add-i loop-less loop-again
     returns-2)

@@ -64,8 +64,7 @@ use Rattle.page.specs.declared.Read.{Read}
 use Rattle.page.proofs.Order.{Reached, starts, within, next, ends, less-left}
 use Rattle.page.proofs.Walks.{ReadType, read-laws, B, Q, readerVal, readVal, itemVal, formatVal, sliceOf, Own, Tok, hears-plain}
 use Rattle.page.proofs.Walks.{reader-told, read-told, item-is, rest-is, format-typed, item-typed, reader-typed, read-typed}
-use Rattle.page.proofs.Calls.{Open, to-open, goes-open, after-open}
-use Rattle.page.proofs.Calls.{Advance, to-advance, goes-advance, Advanced, after-advance}
+use Rattle.page.proofs.Calls.{Open, to-open, goes-open, after-open, Advance, to-advance, goes-advance, Advanced, after-advance}
 use Rattle.page.proofs.Progress as P
 use Rattle.page.proofs.Progress.Laws as P′
 use Rattle.page.proofs.Read.Laws as R′

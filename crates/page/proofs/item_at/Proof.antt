@@ -73,18 +73,5 @@ returns c =
 pub item-at-spec : {M : Type 1} → statement M
 item-at-spec =
     tie.close
-    (tie.spec
-    mul-word
-    add-word
-    word-requires
-    widen-requires
-    mul-word-2
-    add-word-2
-    word-requires-2
-    mul-word-3
-    add-word-3
-    word-requires-3
-    mul-word-4
-    add-word-4
-    word-requires-4
-    returns)
+    (tie.spec mul-word add-word word-requires widen-requires mul-word-2 add-word-2 word-requires-2 mul-word-3 add-word-3 word-requires-3
+    mul-word-4 add-word-4 word-requires-4 returns)

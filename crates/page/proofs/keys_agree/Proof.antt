@@ -98,18 +98,5 @@ returns-2 c =
 pub keys-agree-spec : {M : Type 1} → statement M
 keys-agree-spec =
     tie.close
-    (tie.spec
-    Inv-loop
-    μ-loop
-    count-of-requires
-    width-of-requires
-    sub-low
-    prefix-requires
-    loop-holds
-    read-one-requires
-    prefix-requires-2
-    returns
-    add-i
-    loop-less
-    loop-again
-    returns-2)
+    (tie.spec Inv-loop μ-loop count-of-requires width-of-requires sub-low prefix-requires loop-holds read-one-requires prefix-requires-2
+    returns add-i loop-less loop-again returns-2)

@@ -93,16 +93,5 @@ returns-4 c =
 pub page-ok-spec : {M : Type 1} → statement M
 page-ok-spec =
     tie.close
-    (tie.spec
-    count-of-requires
-    to-index-requires
-    returns
-    returns-2
-    in-order-requires
-    returns-3
-    words-of-requires
-    mul-all-zero
-    add-all-zero
-    mul-all-zero-2
-    all-zero-requires
-    returns-4)
+    (tie.spec count-of-requires to-index-requires returns returns-2 in-order-requires returns-3 words-of-requires mul-all-zero add-all-zero
+    mul-all-zero-2 all-zero-requires returns-4)

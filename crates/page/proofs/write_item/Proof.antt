@@ -30,11 +30,4 @@ returns c = written _ _ _ _ (c .low-word .ensures) (c .before .before .pre)
 pub write-item-spec : {M : Type 1} → statement M
 write-item-spec =
     tie.close
-    (tie.spec
-    low-word-requires
-    slice-write-part
-    slice-write-part-2
-    slice-write-part-3
-    slice-write-part-4
-    same-length
-    returns)
+    (tie.spec low-word-requires slice-write-part slice-write-part-2 slice-write-part-3 slice-write-part-4 same-length returns)

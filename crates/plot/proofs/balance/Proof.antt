@@ -60,14 +60,5 @@ cast-t11 c =
 pub balance-spec : {M : Type 1} → statement M
 balance-spec =
     tie.close
-    (tie.spec
-    lawful-term-requires
-    returns
-    lawful-day-requires
-    returns-2
-    returns-3
-    days-left-requires
-    wide-product-requires
-    div-t10
-    cast-t11
-    returns-4)
+    (tie.spec lawful-term-requires returns lawful-day-requires returns-2 returns-3 days-left-requires wide-product-requires div-t10
+    cast-t11 returns-4)

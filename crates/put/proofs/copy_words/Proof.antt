@@ -67,18 +67,5 @@ returns c =
 pub copy-words-spec : {M : Type 1} → statement M
 copy-words-spec =
     tie.close
-    (tie.spec
-    Inv-loop
-    μ-loop
-    loop-holds
-    add-store
-    mul-store
-    slice-read-store
-    add-store-2
-    mul-store-2
-    slice-write-store
-    add-j
-    loop-less
-    loop-again
-    same-length
-    returns)
+    (tie.spec Inv-loop μ-loop loop-holds add-store mul-store slice-read-store add-store-2 mul-store-2 slice-write-store add-j loop-less
+    loop-again same-length returns)

@@ -66,16 +66,5 @@ returns c =
 pub cut-page-spec : {M : Type 1} → statement M
 cut-page-spec =
     tie.close
-    (tie.spec
-    cast-part
-    slice-write-part
-    words-of-requires
-    mul-rest
-    add-rest
-    mul-clear
-    sub-clear
-    part-clear-start
-    part-clear-end
-    clear-requires
-    same-length
-    returns)
+    (tie.spec cast-part slice-write-part words-of-requires mul-rest add-rest mul-clear sub-clear part-clear-start part-clear-end
+    clear-requires same-length returns)

@@ -124,29 +124,7 @@ returns c rs is =
 pub halve-page-spec : {M : Type 1} → statement M
 halve-page-spec =
     tie.close
-    (tie.spec
-    words-of-requires
-    word-requires
-    to-index-requires
-    page-words-requires
-    sub-high
-    add-copy-words
-    mul-copy-words
-    add-copy-words-2
-    add-copy-words-3
-    mul-copy-words-2
-    copy-words-requires
-    add-from-end
-    mul-cut-page
-    sub-cut-page
-    part-cut-page-start
-    part-cut-page-end
-    cut-page-requires
-    add-to-end
-    mul-cut-page-2
-    sub-cut-page-2
-    part-cut-page-start-2
-    part-cut-page-end-2
-    cut-page-requires-2
-    same-length
+    (tie.spec words-of-requires word-requires to-index-requires page-words-requires sub-high add-copy-words mul-copy-words add-copy-words-2
+    add-copy-words-3 mul-copy-words-2 copy-words-requires add-from-end mul-cut-page sub-cut-page part-cut-page-start part-cut-page-end
+    cut-page-requires add-to-end mul-cut-page-2 sub-cut-page-2 part-cut-page-start-2 part-cut-page-end-2 cut-page-requires-2 same-length
     returns)

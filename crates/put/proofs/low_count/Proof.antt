@@ -66,15 +66,4 @@ returns-2 c = (
 pub low-count-spec : {M : Type 1} → statement M
 low-count-spec =
     tie.close
-    (tie.spec
-    Inv-loop
-    μ-loop
-    count-of-requires
-    loop-holds
-    read-one-requires
-    bit-set-requires
-    returns
-    add-i
-    loop-less
-    loop-again
-    returns-2)
+    (tie.spec Inv-loop μ-loop count-of-requires loop-holds read-one-requires bit-set-requires returns add-i loop-less loop-again returns-2)

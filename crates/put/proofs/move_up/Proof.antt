@@ -68,19 +68,5 @@ returns c =
 pub move-up-spec : {M : Type 1} → statement M
 move-up-spec =
     tie.close
-    (tie.spec
-    Inv-loop
-    μ-loop
-    loop-holds
-    sub-j
-    add-part
-    mul-part
-    slice-read-part
-    add-part-2
-    add-part-3
-    mul-part-2
-    slice-write-part
-    loop-less
-    loop-again
-    same-length
-    returns)
+    (tie.spec Inv-loop μ-loop loop-holds sub-j add-part mul-part slice-read-part add-part-2 add-part-3 mul-part-2 slice-write-part
+    loop-less loop-again same-length returns)

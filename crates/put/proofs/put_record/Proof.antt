@@ -125,22 +125,6 @@ returns c rs is lawful =
 pub put-record-spec : {M : Type 1} → statement M
 put-record-spec =
     tie.close
-    (tie.spec
-    count-of-requires
-    first-above-requires
-    words-of-requires
-    mul-at
-    add-at
-    sub-move-up
-    mul-move-up
-    move-up-requires
-    mul-write-item
-    sub-write-item
-    part-write-item-start
-    part-write-item-end
-    write-item-requires
-    add-part
-    cast-part
-    slice-write-part
-    same-length
-    returns)
+    (tie.spec count-of-requires first-above-requires words-of-requires mul-at add-at sub-move-up mul-move-up move-up-requires
+    mul-write-item sub-write-item part-write-item-start part-write-item-end write-item-requires add-part cast-part slice-write-part
+    same-length returns)

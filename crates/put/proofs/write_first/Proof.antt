@@ -59,12 +59,5 @@ returns c =
 pub write-first-spec : {M : Type 1} → statement M
 write-first-spec =
     tie.close
-    (tie.spec
-    clear-requires
-    slice-write-part
-    sub-write-item
-    part-write-item-start
-    part-write-item-end
-    write-item-requires
-    same-length
+    (tie.spec clear-requires slice-write-part sub-write-item part-write-item-start part-write-item-end write-item-requires same-length
     returns)

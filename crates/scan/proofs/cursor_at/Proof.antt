@@ -42,14 +42,5 @@ returns-4 c = sym (ap (cursorAt _) (c .before .before .before .a .given .1) ∙ 
 pub cursor-at-spec : {M : Type 1} → statement M
 cursor-at-spec =
     tie.close
-    (tie.spec
-    enum-told
-    past-last-requires
-    returns
-    enum-told-2
-    past-last-requires-2
-    returns-2
-    enum-known-a
-    past-last-requires-3
-    returns-3
+    (tie.spec enum-told past-last-requires returns enum-told-2 past-last-requires-2 returns-2 enum-known-a past-last-requires-3 returns-3
     returns-4)

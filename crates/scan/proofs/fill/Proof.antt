@@ -162,27 +162,6 @@ returns-3 c =
 pub fill-spec : {M : Type 1} → statement M
 fill-spec =
     tie.close
-    (tie.spec
-    Inv-loop
-    μ-loop
-    words-of-requires
-    loop-holds
-    next-under-requires
-    enum-known-a
-    mul-write-item
-    sub-write-item
-    part-write-item-start
-    part-write-item-end
-    write-item-requires
-    add-at
-    add-i
-    loop-less
-    loop-again
-    enum-told
-    same-length
-    returns
-    enum-told-2
-    same-length-2
-    returns-2
-    same-length-3
-    returns-3)
+    (tie.spec Inv-loop μ-loop words-of-requires loop-holds next-under-requires enum-known-a mul-write-item sub-write-item
+    part-write-item-start part-write-item-end write-item-requires add-at add-i loop-less loop-again enum-told same-length returns
+    enum-told-2 same-length-2 returns-2 same-length-3 returns-3)

@@ -86,15 +86,5 @@ returns-4 c =
 pub range-spec : {M : Type 1} → statement M
 range-spec =
     tie.close
-    (tie.spec
-    head-ok-requires
-    returns
-    returns-2
-    head-of-requires
-    words-of-requires
-    div-room
-    list-requires
-    returns-3
-    fill-requires
-    same-length
-    returns-4)
+    (tie.spec head-ok-requires returns returns-2 head-of-requires words-of-requires div-room list-requires returns-3 fill-requires
+    same-length returns-4)

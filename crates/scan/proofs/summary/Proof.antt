@@ -75,15 +75,5 @@ returns-5 c =
 pub summary-spec : {M : Type 1} → statement M
 summary-spec =
     tie.close
-    (tie.spec
-    head-ok-requires
-    returns
-    returns-2
-    lawful-day-requires
-    returns-3
-    head-of-requires
-    widen-requires
-    widen-requires-2
-    sum-requires
-    returns-4
-    returns-5)
+    (tie.spec head-ok-requires returns returns-2 lawful-day-requires returns-3 head-of-requires widen-requires widen-requires-2
+    sum-requires returns-4 returns-5)

@@ -77,19 +77,5 @@ returns-2 c = (turn-out _ _ _ _ _ _ _ _ (omega arith) _ (c .before .loop .inv .2
 pub descend-spec : {M : Type 1} → statement M
 descend-spec =
     tie.close
-    (tie.spec
-    Inv-loop
-    μ-loop
-    to-index-requires
-    loop-holds
-    cast-visit-node
-    visit-node-requires
-    lost-way-requires
-    returns
-    sub-level
-    mul-steps
-    array-set-from-steps
-    add-used
-    loop-less
-    loop-again
-    returns-2)
+    (tie.spec Inv-loop μ-loop to-index-requires loop-holds cast-visit-node visit-node-requires lost-way-requires returns sub-level
+    mul-steps array-set-from-steps add-used loop-less loop-again returns-2)

@@ -76,23 +76,5 @@ returns-2 c = walked-end _ _ _ (c .before .loop .inv .2) (omega (arith, c .befor
 pub first-pointer-spec : {M : Type 1} → statement M
 first-pointer-spec =
     tie.close
-    (tie.spec
-    Inv-loop
-    μ-loop
-    pow2-requires
-    loop-holds
-    add-word
-    mul-word
-    add-word-2
-    word-requires
-    returns
-    add-word-3
-    mul-word-2
-    add-word-4
-    word-requires-2
-    less-requires
-    pow2-requires-2
-    add-i
-    loop-less
-    loop-again
-    returns-2)
+    (tie.spec Inv-loop μ-loop pow2-requires loop-holds add-word mul-word add-word-2 word-requires returns add-word-3 mul-word-2 add-word-4
+    word-requires-2 less-requires pow2-requires-2 add-i loop-less loop-again returns-2)

@@ -61,16 +61,5 @@ returns-2 c = let e : 0 ≡ c .before .loop .turns = omega arith in sym (follow-
 pub follow-from-spec : {M : Type 1} → statement M
 follow-from-spec =
     tie.close
-    (tie.spec
-    Inv-loop
-    μ-loop
-    add-turns
-    loop-holds
-    sub-turns
-    hop-from-requires
-    enum-known-hop
-    returns
-    enum-known-hop-2
-    loop-less
-    loop-again
+    (tie.spec Inv-loop μ-loop add-turns loop-holds sub-turns hop-from-requires enum-known-hop returns enum-known-hop-2 loop-less loop-again
     returns-2)

@@ -42,12 +42,4 @@ returns-4 c =
 pub go-on-spec : {M : Type 1} → statement M
 go-on-spec =
     tie.close
-    (tie.spec
-    node-start-requires
-    add-word
-    word-requires
-    returns
-    returns-2
-    is-linked-requires
-    returns-3
-    returns-4)
+    (tie.spec node-start-requires add-word word-requires returns returns-2 is-linked-requires returns-3 returns-4)

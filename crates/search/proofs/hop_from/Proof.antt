@@ -39,11 +39,4 @@ returns-2 c =
 pub hop-from-spec : {M : Type 1} → statement M
 hop-from-spec =
     tie.close
-    (tie.spec
-    node-start-requires
-    word-requires
-    first-pointer-requires
-    visit-after-requires
-    returns
-    go-on-requires
-    returns-2)
+    (tie.spec node-start-requires word-requires first-pointer-requires visit-after-requires returns go-on-requires returns-2)

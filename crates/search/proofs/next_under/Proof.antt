@@ -99,18 +99,5 @@ returns-5 c =
 pub next-under-spec : {M : Type 1} → statement M
 next-under-spec =
     tie.close
-    (tie.spec
-    descend-requires
-    returns
-    element-copy-out-t
-    after-own-requires
-    returns-2
-    page-at-requires
-    page-sound-requires
-    returns-3
-    first-above-requires
-    count-of-requires
-    read-one-requires
-    returns-4
-    after-own-requires-2
-    returns-5)
+    (tie.spec descend-requires returns element-copy-out-t after-own-requires returns-2 page-at-requires page-sound-requires returns-3
+    first-above-requires count-of-requires read-one-requires returns-4 after-own-requires-2 returns-5)

@@ -35,11 +35,4 @@ returns-3 c =
 pub visit-after-spec : {M : Type 1} → statement M
 visit-after-spec =
     tie.close
-    (tie.spec
-    page-at-requires
-    page-ok-requires
-    returns
-    read-one-requires
-    is-above-requires
-    returns-2
-    returns-3)
+    (tie.spec page-at-requires page-ok-requires returns read-one-requires is-above-requires returns-2 returns-3)

@@ -50,7 +50,7 @@ returns-2 c =
     (sym (rw (c .before .before .word .ensures, c .before .width-of .ensures .0) at (lt-leb _ _ (c .if2 .taken)))) refl (omega arith)
 
 entry-number-requires : tie.Need-entry-number-requires
-entry-number-requires c κs = (rw (c .before .width-of .ensures .0) at (c .if2 .left), omega (arith, deep (c .before .before)))
+entry-number-requires c κs = (omega (arith, c .before .width-of .ensures .0, c .if2 .left), omega (arith, deep (c .before .before)))
 
 cast-t13 : tie.Need-cast-t13
 cast-t13 c = search needs
@@ -90,22 +90,5 @@ returns-3 c =
 pub visit-node-spec : {M : Type 1} → statement M
 visit-node-spec =
     tie.close
-    (tie.spec
-    node-start-requires
-    node-ok-requires
-    returns
-    word-requires
-    add-if2
-    width-of-requires
-    returns-2
-    entry-number-requires
-    cast-t13
-    add-word
-    mul-word
-    add-word-2
-    word-requires-2
-    add-word-3
-    mul-word-2
-    add-word-4
-    word-requires-3
-    returns-3)
+    (tie.spec node-start-requires node-ok-requires returns word-requires add-if2 width-of-requires returns-2 entry-number-requires cast-t13
+    add-word mul-word add-word-2 word-requires-2 add-word-3 mul-word-2 add-word-4 word-requires-3 returns-3)

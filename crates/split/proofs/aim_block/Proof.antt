@@ -22,7 +22,7 @@ aimed-requires c κs =
     let x = c .before .open-node in
     let s = c .before .before .before .before in (
       s .pre .0,
-      omega (arith, x .ensures .1, s .pre .3 .0 .low),
+      omega (arith, x .ensures .1, s .pre .3 .low),
       subst (λ i. i < 2 ^ x .result .node .depth) (x .ensures .2) (index-lt _ _),
     )
 
@@ -30,7 +30,7 @@ put-node-requires : tie.Need-put-node-requires
 put-node-requires c κs =
     let x = c .before .before in
     let s = x .before .before .before in
-    (s .pre .0, omega (arith, c .aimed .ensures .1, x .open-node .ensures .1, s .pre .3 .0 .low), s .pre .1)
+    (s .pre .0, omega (arith, c .aimed .ensures .1, x .open-node .ensures .1, s .pre .3 .low), s .pre .1)
 
 same-length : tie.Need-same-length
 same-length c = search needs
@@ -46,7 +46,7 @@ returns c =
     c .before .before .put-node .ensures
     ∙ ap (λ b. replaced (nodeStart (a .head) (a .n)) (nodeWords (a .head .theta)) b (a .store .now))
     (v .aimed .ensures .0 key (x .open-node .ensures .2) ∙ ap (λ b. aim (a .head .theta) b key (a .q)) (x .open-node .ensures .0)
-    ∙ own-aim (a .head .theta) ws (s .pre .3 .0 .low) key (a .q))
+    ∙ own-aim (a .head .theta) ws (s .pre .3 .low) key (a .q))
 
 pub aim-block-spec : {M : Type 1} → statement M
 aim-block-spec = tie.close (tie.spec open-node-requires aimed-requires put-node-requires same-length returns)

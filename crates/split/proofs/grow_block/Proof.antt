@@ -22,9 +22,9 @@ grown-requires c κs =
     let x = c .before .open-node in
     let s = c .before .before .before .before in
     let h = x .ensures .3 in
-    let all = here-low _ _ _ _ (s .pre .3 .0) in (
+    let all = here-low _ _ _ _ (s .pre .3) in (
       s .pre .0,
-      omega (arith, x .ensures .1, s .pre .3 .0 .low),
+      omega (arith, x .ensures .1, s .pre .3 .low),
       subst (λ i. i < 2 ^ x .result .node .depth) (x .ensures .2) (index-lt _ _),
       omega (arith, h, s .pre .4),
       omega (arith, h, all, x .ensures .1),
@@ -49,7 +49,7 @@ returns c =
     c .before .before .put-node .ensures
     ∙ ap (λ b. replaced (nodeStart (a .head) (a .n)) (nodeWords (a .head .theta)) b (a .store .now))
     (v .grown .ensures .0 key (x .open-node .ensures .2) ∙ ap (λ b. grow (a .head .theta) b key (a .a) (a .c)) (x .open-node .ensures .0)
-    ∙ own-grow (a .head .theta) ws (s .pre .3 .0 .low) key (a .a) (a .c))
+    ∙ own-grow (a .head .theta) ws (s .pre .3 .low) key (a .a) (a .c))
 
 pub grow-block-spec : {M : Type 1} → statement M
 grow-block-spec = tie.close (tie.spec open-node-requires grown-requires put-node-requires same-length returns)

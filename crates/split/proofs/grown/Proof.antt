@@ -62,12 +62,4 @@ returns-2 c =
 pub grown-spec : {M : Type 1} → statement M
 grown-spec =
     tie.close
-    (tie.spec
-    mul-if1
-    element-copy-out-if1
-    halved-requires
-    returns
-    doubled-requires
-    mul-halved
-    halved-requires-2
-    returns-2)
+    (tie.spec mul-if1 element-copy-out-if1 halved-requires returns doubled-requires mul-halved halved-requires-2 returns-2)

@@ -91,12 +91,4 @@ returns c =
 pub half-node-spec : {M : Type 1} → statement M
 half-node-spec =
     tie.close
-    (tie.spec
-    sub-pow2
-    pow2-requires
-    lower-entries-requires
-    pow2-requires-2
-    div-step
-    thinned-requires
-    thinned-requires-2
-    returns)
+    (tie.spec sub-pow2 pow2-requires lower-entries-requires pow2-requires-2 div-step thinned-requires thinned-requires-2 returns)

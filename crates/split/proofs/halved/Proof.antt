@@ -61,14 +61,5 @@ returns c =
 pub halved-spec : {M : Type 1} → statement M
 halved-spec =
     tie.close
-    (tie.spec
-    mul-local
-    element-copy-out-local
-    run-of-requires
-    add-fill
-    fill-requires
-    fill-requires-2
-    add-fill-2
-    sub-fill
-    fill-requires-3
+    (tie.spec mul-local element-copy-out-local run-of-requires add-fill fill-requires fill-requires-2 add-fill-2 sub-fill fill-requires-3
     returns)

@@ -18,7 +18,7 @@ split-node-requires c κs =
     let a = s .args in
     let θ = a .head .theta in
     let ws = nodeAt (a .store .now) (a .head) (a .n) in
-    let read = loaded-is θ ws _ (s .pre .4 .0 .low) (c .node-at .ensures) in
+    let read = loaded-is θ ws _ (s .pre .4 .low) (c .node-at .ensures) in
     let x = splittable (a .f) θ ws (a .key) (a .used) (s .pre .0) (s .pre .5) (s .pre .4) _ read in
     (s .pre .0, s .pre .1, x .0, x .1, s .pre .3, x .2)
 

@@ -100,28 +100,6 @@ returns c =
 pub load-node-spec : {M : Type 1} → statement M
 load-node-spec =
     tie.close
-    (tie.spec
-    Inv-loop
-    μ-loop
-    pow2-requires
-    loop-holds
-    mul-h
-    add-h
-    mul-h-2
-    shared-slice-read-h
-    mul-h-3
-    array-write-h
-    mul-p
-    add-p
-    mul-p-2
-    shared-slice-read-p
-    mul-p-3
-    array-write-p
-    add-j
-    loop-less
-    loop-again
-    shared-slice-read-t20
-    shared-slice-read-t22
-    shared-slice-read-t24
-    shared-slice-read-t26
-    returns)
+    (tie.spec Inv-loop μ-loop pow2-requires loop-holds mul-h add-h mul-h-2 shared-slice-read-h mul-h-3 array-write-h mul-p add-p mul-p-2
+    shared-slice-read-p mul-p-3 array-write-p add-j loop-less loop-again shared-slice-read-t20 shared-slice-read-t22 shared-slice-read-t24
+    shared-slice-read-t26 returns)

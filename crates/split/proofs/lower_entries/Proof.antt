@@ -87,23 +87,5 @@ returns c =
 pub lower-entries-spec : {M : Type 1} → statement M
 lower-entries-spec =
     tie.close
-    (tie.spec
-    Inv-loop
-    μ-loop
-    loop-holds
-    add-one-less
-    mul-one-less
-    element-copy-out-one-less
-    one-less-requires
-    mul-h
-    array-write-h
-    add-p
-    mul-p
-    element-copy-out-p
-    mul-p-2
-    array-write-p
-    larger-requires
-    add-j
-    loop-less
-    loop-again
-    returns)
+    (tie.spec Inv-loop μ-loop loop-holds add-one-less mul-one-less element-copy-out-one-less one-less-requires mul-h array-write-h add-p
+    mul-p element-copy-out-p mul-p-2 array-write-p larger-requires add-j loop-less loop-again returns)

@@ -42,13 +42,5 @@ returns c =
 pub node-at-spec : {M : Type 1} → statement M
 node-at-spec =
     tie.close
-    (tie.spec
-    node-start-requires
-    node-words-requires
-    add-end
-    mul-load-node
-    sub-load-node
-    part-load-node-start
-    part-load-node-end
-    load-node-requires
-    returns)
+    (tie.spec node-start-requires node-words-requires add-end mul-load-node sub-load-node part-load-node-start part-load-node-end
+    load-node-requires returns)

@@ -41,14 +41,5 @@ returns c =
 pub put-node-spec : {M : Type 1} → statement M
 put-node-spec =
     tie.close
-    (tie.spec
-    node-start-requires
-    node-words-requires
-    add-end
-    mul-write-node
-    sub-write-node
-    part-write-node-start
-    part-write-node-end
-    write-node-requires
-    same-length
-    returns)
+    (tie.spec node-start-requires node-words-requires add-end mul-write-node sub-write-node part-write-node-start part-write-node-end
+    write-node-requires same-length returns)

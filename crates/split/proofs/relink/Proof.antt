@@ -42,11 +42,4 @@ returns-2 c =
 pub relink-spec : {M : Type 1} → statement M
 relink-spec =
     tie.close
-    (tie.spec
-    returns
-    node-start-requires
-    add-store
-    mul-store
-    slice-write-store
-    same-length
-    returns-2)
+    (tie.spec returns node-start-requires add-store mul-store slice-write-store same-length returns-2)

@@ -43,11 +43,4 @@ returns c =
 pub split-linked-spec : {M : Type 1} → statement M
 split-linked-spec =
     tie.close
-    (tie.spec
-    halves-of-requires
-    with-links-requires
-    put-node-requires
-    with-links-requires-2
-    put-node-requires-2
-    same-length
-    returns)
+    (tie.spec halves-of-requires with-links-requires put-node-requires with-links-requires-2 put-node-requires-2 same-length returns)

@@ -54,11 +54,11 @@ returns c =
     let z = c .before .before .if1 .taken in
     let bit = e .entry-number .ensures .0 in
     let at =
-    entry-at (width (a .f)) (a .key) (a .used + 1) _ (omega (arith, low .1)) (s .pre .4) (c .before .entry-number2 .ensures .0) in (
+    entry-at (width (a .f)) (a .key) (a .used + 1) _ (omega (arith, low .1)) (c .before .entry-number2 .ensures .0) in (
       grown-half (a .theta) _ (a .a) (a .c) (c .grown .ensures .0 _ at) (low .0)
-          (lower-clear (width (a .f)) (a .key) (a .used) (left s) (s .pre .4) bit (a .theta) (blockOf (a .theta) (a .node)) (a .a) (a .c)
+          (lower-clear (width (a .f)) (a .key) (a .used) (left s) bit (a .theta) (blockOf (a .theta) (a .node)) (a .a) (a .c)
           z),
-      high .0 ∙ sym (upper-clear (width (a .f)) (a .key) (a .used) (left s) (s .pre .4) bit (a .theta) (blockOf (a .theta) (a .node))
+      high .0 ∙ sym (upper-clear (width (a .f)) (a .key) (a .used) (left s) bit (a .theta) (blockOf (a .theta) (a .node))
           (a .a) (a .c) z),
       c .grown .ensures .1,
       omega (arith, high .1),
@@ -95,11 +95,11 @@ returns-2 c =
     let z = c .before .before .if1 .left in
     let bit = e .entry-number .ensures .0 in
     let at =
-    entry-at (width (a .f)) (a .key) (a .used + 1) _ (omega (arith, high .1)) (s .pre .4) (c .before .entry-number3 .ensures .0) in (
-      low .0 ∙ sym (lower-set (width (a .f)) (a .key) (a .used) (left s) (s .pre .4) bit (a .theta) (blockOf (a .theta) (a .node)) (a .a)
+    entry-at (width (a .f)) (a .key) (a .used + 1) _ (omega (arith, high .1)) (c .before .entry-number3 .ensures .0) in (
+      low .0 ∙ sym (lower-set (width (a .f)) (a .key) (a .used) (left s) bit (a .theta) (blockOf (a .theta) (a .node)) (a .a)
           (a .c) z),
       grown-half (a .theta) _ (a .a) (a .c) (c .grown2 .ensures .0 _ at) (high .0)
-          (upper-set (width (a .f)) (a .key) (a .used) (left s) (s .pre .4) bit (a .theta) (blockOf (a .theta) (a .node)) (a .a) (a .c) z),
+          (upper-set (width (a .f)) (a .key) (a .used) (left s) bit (a .theta) (blockOf (a .theta) (a .node)) (a .a) (a .c) z),
       omega (arith, low .1),
       c .grown2 .ensures .1,
     )
@@ -107,15 +107,5 @@ returns-2 c =
 pub split-node-spec : {M : Type 1} → statement M
 split-node-spec =
     tie.close
-    (tie.spec
-    half-node-requires
-    half-node-requires-2
-    entry-number-requires
-    add-entry-number
-    entry-number-requires-2
-    grown-requires
-    returns
-    add-entry-number-2
-    entry-number-requires-3
-    grown-requires-2
-    returns-2)
+    (tie.spec half-node-requires half-node-requires-2 entry-number-requires add-entry-number entry-number-requires-2 grown-requires returns
+    add-entry-number-2 entry-number-requires-3 grown-requires-2 returns-2)

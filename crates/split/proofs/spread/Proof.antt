@@ -54,16 +54,4 @@ returns c i h = c .before .loop .inv .3 .at i (omega arith)
 pub spread-spec : {M : Type 1} → statement M
 spread-spec =
     tie.close
-    (tie.spec
-    Inv-loop
-    μ-loop
-    loop-holds
-    mul-loop
-    mul-b
-    array-read-b
-    mul-b-2
-    array-write-b
-    add-j
-    loop-less
-    loop-again
-    returns)
+    (tie.spec Inv-loop μ-loop loop-holds mul-loop mul-b array-read-b mul-b-2 array-write-b add-j loop-less loop-again returns)

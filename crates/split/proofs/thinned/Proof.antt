@@ -60,16 +60,4 @@ returns c i h = c .before .loop .inv .2 .at i (omega arith)
 pub thinned-spec : {M : Type 1} → statement M
 thinned-spec =
     tie.close
-    (tie.spec
-    Inv-loop
-    μ-loop
-    loop-holds
-    mul-b
-    mul-b-2
-    array-read-b
-    mul-b-3
-    array-write-b
-    add-j
-    loop-less
-    loop-again
-    returns)
+    (tie.spec Inv-loop μ-loop loop-holds mul-b mul-b-2 array-read-b mul-b-3 array-write-b add-j loop-less loop-again returns)

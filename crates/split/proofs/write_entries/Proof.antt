@@ -89,23 +89,5 @@ returns c =
 pub write-entries-spec : {M : Type 1} → statement M
 write-entries-spec =
     tie.close
-    (tie.spec
-    Inv-loop
-    μ-loop
-    loop-holds
-    mul-part
-    element-copy-out-part
-    mul-part-2
-    mul-part-3
-    slice-write-part
-    mul-part-4
-    element-copy-out-part-2
-    mul-part-5
-    add-part
-    mul-part-6
-    slice-write-part-2
-    add-j
-    loop-less
-    loop-again
-    same-length
-    returns)
+    (tie.spec Inv-loop μ-loop loop-holds mul-part element-copy-out-part mul-part-2 mul-part-3 slice-write-part mul-part-4
+    element-copy-out-part-2 mul-part-5 add-part mul-part-6 slice-write-part-2 add-j loop-less loop-again same-length returns)

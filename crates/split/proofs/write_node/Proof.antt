@@ -105,22 +105,6 @@ returns c =
 pub write-node-spec : {M : Type 1} → statement M
 write-node-spec =
     tie.close
-    (tie.spec
-    slice-write-part
-    slice-write-part-2
-    slice-write-part-3
-    slice-write-part-4
-    pow2-requires
-    sub-write-entries
-    part-write-entries-start
-    part-write-entries-end
-    write-entries-requires
-    mul-end
-    add-end
-    mul-clear
-    sub-clear
-    part-clear-start
-    part-clear-end
-    clear-requires
-    same-length
-    returns)
+    (tie.spec slice-write-part slice-write-part-2 slice-write-part-3 slice-write-part-4 pow2-requires sub-write-entries
+    part-write-entries-start part-write-entries-end write-entries-requires mul-end add-end mul-clear sub-clear part-clear-start
+    part-clear-end clear-requires same-length returns)

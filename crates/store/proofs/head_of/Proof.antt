@@ -38,13 +38,5 @@ returns c =
 pub head-of-spec : {M : Type 1} → statement M
 head-of-spec =
     tie.close
-    (tie.spec
-    word-requires
-    word-requires-2
-    word-requires-3
-    word-requires-4
-    word-requires-5
-    word-requires-6
-    word-requires-7
-    word-requires-8
+    (tie.spec word-requires word-requires-2 word-requires-3 word-requires-4 word-requires-5 word-requires-6 word-requires-7 word-requires-8
     returns)

@@ -62,13 +62,5 @@ returns-4 c =
 pub head-ok-spec : {M : Type 1} → statement M
 head-ok-spec =
     tie.close
-    (tie.spec
-    head-of-requires
-    sizes-ok-requires
-    returns
-    all-zero-requires
-    returns-2
-    size-of-requires
-    returns-3
-    counts-ok-requires
+    (tie.spec head-of-requires sizes-ok-requires returns all-zero-requires returns-2 size-of-requires returns-3 counts-ok-requires
     returns-4)

@@ -28,11 +28,4 @@ returns c = level-bound-is _ _ _ _ _ (c .before .width-of .ensures .0) (c .floor
 pub level-bound-spec : {M : Type 1} → statement M
 level-bound-spec =
     tie.close
-    (tie.spec
-    width-of-requires
-    floor-log2-requires
-    sub-result
-    sub-result-2
-    add-result
-    div-result
-    returns)
+    (tie.spec width-of-requires floor-log2-requires sub-result sub-result-2 add-result div-result returns)

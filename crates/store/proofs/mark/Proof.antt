@@ -40,14 +40,5 @@ returns c = search needs
 pub mark-spec : {M : Type 1} → statement M
 mark-spec =
     tie.close
-    (tie.spec
-    slice-write-part
-    slice-write-part-2
-    slice-write-part-3
-    slice-write-part-4
-    slice-write-part-5
-    slice-write-part-6
-    slice-write-part-7
-    slice-write-part-8
-    same-length
-    returns)
+    (tie.spec slice-write-part slice-write-part-2 slice-write-part-3 slice-write-part-4 slice-write-part-5 slice-write-part-6
+    slice-write-part-7 slice-write-part-8 same-length returns)

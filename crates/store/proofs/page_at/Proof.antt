@@ -47,16 +47,5 @@ returns-2 c =
 pub page-at-spec : {M : Type 1} → statement M
 page-at-spec =
     tie.close
-    (tie.spec
-    page-start-requires
-    page-words-requires
-    add-end
-    mul-result
-    sub-result
-    part-result-start
-    part-result-end
-    returns
-    sub-result-2
-    part-result-start-2
-    part-result-end-2
-    returns-2)
+    (tie.spec page-start-requires page-words-requires add-end mul-result sub-result part-result-start part-result-end returns sub-result-2
+    part-result-start-2 part-result-end-2 returns-2)

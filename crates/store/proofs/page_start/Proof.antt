@@ -48,13 +48,5 @@ returns c =
 pub page-start-spec : {M : Type 1} → statement M
 page-start-spec =
     tie.close
-    (tie.spec
-    to-index-requires
-    node-words-requires
-    mul-result
-    add-result
-    from-zero-requires
-    page-words-requires
-    mul-result-2
-    add-result-2
+    (tie.spec to-index-requires node-words-requires mul-result add-result from-zero-requires page-words-requires mul-result-2 add-result-2
     returns)

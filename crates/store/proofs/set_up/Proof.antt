@@ -67,15 +67,5 @@ returns-3 c =
 pub set-up-spec : {M : Type 1} → statement M
 set-up-spec =
     tie.close
-    (tie.spec
-    sizes-ok-requires
-    returns
-    size-of-requires
-    returns-2
-    slice-relend-prefix-clear
-    slice-aggregate-clear
-    clear-requires
-    mark-requires
-    cast-t16
-    same-length
-    returns-3)
+    (tie.spec sizes-ok-requires returns size-of-requires returns-2 slice-relend-prefix-clear slice-aggregate-clear clear-requires
+    mark-requires cast-t16 same-length returns-3)

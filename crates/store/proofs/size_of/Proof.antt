@@ -48,13 +48,5 @@ returns c =
 pub size-of-spec : {M : Type 1} → statement M
 size-of-spec =
     tie.close
-    (tie.spec
-    to-index-requires
-    node-words-requires
-    mul-result
-    add-result
-    to-index-requires-2
-    page-words-requires
-    mul-result-2
-    add-result-2
+    (tie.spec to-index-requires node-words-requires mul-result add-result to-index-requires-2 page-words-requires mul-result-2 add-result-2
     returns)

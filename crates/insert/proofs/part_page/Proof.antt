@@ -1,0 +1,98 @@
+-- The page is cut by number, on its two tests: none low, all low, some of each.
+use borrow.Author.Needs.{needs}
+use mathlib.Core.Path.{sym, _∙_}
+use Prim.Native.Nat.{_≤_, _<_}
+use lib.ListN.{length}
+use Rattle.insert.proofs.PageCode.{part-limits, part-next, part-low, part-high, part-ready, part-both}
+use Rattle.insert.proofs.part_page.Statement.{statement}
+use Rattle.insert.proofs.part_page.Tie as tie
+
+limits : (c : tie.Start)
+    → let a = c .args in
+    (8 ≤ length (a .store .now)) × (a .head .theta ≤ 6) × (a .head .capacity ≤ 64) × (a .head .pagesTaken < 4096)
+limits c = part-limits (c .args .f) _ _ (c .args .page) (c .args .bit) (c .pre .0) (c .pre .1)
+
+page-at-requires : tie.Need-page-at-requires
+page-at-requires c κs = let l = limits (c .before .before) in (l .1, l .2)
+
+low-count-requires : tie.Need-low-count-requires
+low-count-requires c κs = c .before .before .before .pre .1 .narrow
+
+same-length : tie.Need-same-length
+same-length c = search needs
+
+returns : tie.Need-returns
+returns c =
+    let x = c .before in
+    let g = x .before in
+    let s = g .before .before .before in
+    (s .pre .0, part-low _ _ _ _ _ (s .pre .0) (s .pre .1) _ _ (g .page-at .ensures) (x .low-count .ensures .1) (c .if1 .taken))
+
+count-of-requires : tie.Need-count-of-requires
+count-of-requires c κs = search needs
+
+same-length-2 : tie.Need-same-length-2
+same-length-2 c = search needs
+
+returns-2 : tie.Need-returns-2
+returns-2 c =
+    let n = c .before in
+    let x = n .before .before in
+    let g = x .before in
+    let s = g .before .before .before in (
+      s .pre .0,
+      part-high _ _ _ _ _ (s .pre .0) (s .pre .1) _ _ (g .page-at .ensures) (x .low-count .ensures .1) (n .before .if1 .left)
+          (c .if2 .taken ∙ n .count-of .ensures .0),
+    )
+
+take-page-requires : tie.Need-take-page-requires
+take-page-requires c κs =
+    let s = c .before .before .before .before .before .before .before .before in
+    (limits s .0, s .pre .0, limits s .3)
+
+-- the head with the page taken
+next : (c : tie.After-take-page) → (c .take-page .result .theta ≤ 6) × (c .take-page .result .capacity ≤ 64)
+next c =
+    let s = c .before .before .before .before .before .before .before .before .before in
+    part-next _ _ _ _ _ (s .pre .0) (s .pre .1) _ _ (c .take-page .ensures .0) (c .take-page .ensures .1)
+
+page-start-requires : tie.Need-page-start-requires
+page-start-requires c κs = next (c .before .before)
+
+page-start-requires-2 : tie.Need-page-start-requires-2
+page-start-requires-2 c κs = next (c .before .before .before)
+
+halve-page-requires : tie.Need-halve-page-requires
+halve-page-requires c κs =
+    let to = c .before in
+    let from = to .before in
+    let t = from .before .before .before in
+    let x = t .before .before .before .before .before in
+    let g = x .before in
+    let s = g .before .before .before in
+    part-ready _ _ _ _ _ (s .pre .0) (s .pre .1) _ _ (g .page-at .ensures) (x .low-count .ensures .1) _ _ _ _ (t .take-page .ensures .0)
+    (t .take-page .ensures .1) (from .page-start .ensures .0) (to .page-start2 .ensures .0) (x .low-count .ensures .0)
+
+same-length-3 : tie.Need-same-length-3
+same-length-3 c = search needs
+
+returns-3 : tie.Need-returns-3
+returns-3 c =
+    let u = c .before .before in
+    let to = u .before .before in
+    let from = to .before in
+    let t = from .before .before .before in
+    let r = t .before .before in
+    let n = r .before in
+    let x = n .before .before in
+    let g = x .before in
+    let s = g .before .before .before in
+    part-both _ _ _ _ _ (s .pre .0) (s .pre .1) _ _ (g .page-at .ensures) (x .low-count .ensures .1) _ _ _ _ (t .take-page .ensures .0)
+    (t .take-page .ensures .1) (from .page-start .ensures .0) (to .page-start2 .ensures .0) _ (n .before .if1 .left)
+    (λ e. r .if2 .left (e ∙ sym (n .count-of .ensures .0))) (x .low-count .ensures .0) (u .halve-page .ensures)
+
+pub part-page-spec : {M : Type 1} → statement M
+part-page-spec =
+    tie.close
+    (tie.spec page-at-requires low-count-requires same-length returns count-of-requires same-length-2 returns-2 take-page-requires
+    page-start-requires page-start-requires-2 halve-page-requires same-length-3 returns-3)
