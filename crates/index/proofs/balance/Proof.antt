@@ -3,11 +3,8 @@ use borrow.Author.Needs.{needs}
 use Rattle.index.proofs.balance.Statement.{statement}
 use Rattle.index.proofs.balance.Tie as tie
 
-balance-requires : tie.Need-balance-requires
-balance-requires c κs = search needs
-
 returns : tie.Need-returns
 returns c = c .balance .ensures
 
 pub balance-spec : {M : Type 1} → statement M
-balance-spec = tie.close (tie.spec balance-requires returns)
+balance-spec = tie.close (tie.spec (λ c κs. search needs) returns)

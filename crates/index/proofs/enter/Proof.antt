@@ -24,9 +24,6 @@ item-is c =
     let r = c .before .before .args .«record» in
     ap (λ k. record { key = k; price = r .price; lease = r .lease; last = r .last }) (c .widen .ensures .0)
 
-widen-requires : tie.Need-widen-requires
-widen-requires c κs = search needs
-
 enter-requires : tie.Need-enter-requires
 unfolding width
 enter-requires c κs = c .before .widen .ensures .1
@@ -39,9 +36,6 @@ entered-of-requires c κs =
     omega (arith, replied-key Plots (w .before .before .args .store .now) (item w), w .widen .ensures .1) in
     subst (λ (r : Reply). r .key < 2 ^ 32) (sym (e .enter .ensures .0)) low
 
-same-length : tie.Need-same-length
-same-length c = search needs
-
 returns : tie.Need-returns
 returns c =
     let e = c .before .before .before in
@@ -52,4 +46,4 @@ returns c =
     )
 
 pub enter-spec : {M : Type 1} → statement M
-enter-spec = tie.close (tie.spec widen-requires enter-requires entered-of-requires same-length returns)
+enter-spec = tie.close (tie.spec (λ c κs. search needs) enter-requires entered-of-requires (λ c. search needs) returns)

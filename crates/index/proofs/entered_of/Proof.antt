@@ -8,9 +8,6 @@ use Rattle.insert.specs.Enter.{enterReply}
 use Rattle.index.proofs.entered_of.Statement.{statement}
 use Rattle.index.proofs.entered_of.Tie as tie
 
-enum-known-answer : tie.Need-enum-known-answer
-enum-known-answer c = search needs
-
 cast-t7 : tie.Need-cast-t7
 cast-t7 c =
     let low = subst (λ a. enterReply Plots a .key < 2 ^ 32) (c .before .answer .given .1) (c .before .before .before .pre) in
@@ -18,18 +15,6 @@ cast-t7 c =
 
 enum-told : tie.Need-enum-told
 enum-told c = search needs
-
-enum-told-2 : tie.Need-enum-told-2
-enum-told-2 c = search needs
-
-enum-told-3 : tie.Need-enum-told-3
-enum-told-3 c = search needs
-
-enum-told-4 : tie.Need-enum-told-4
-enum-told-4 c = search needs
-
-enum-told-5 : tie.Need-enum-told-5
-enum-told-5 c = search needs
 
 returns : tie.Need-returns
 returns c = sym (ap (enterReply Plots) (c .before .answer .given .1))
@@ -53,5 +38,5 @@ returns-6 c = sym (ap (enterReply Plots) (c .enum-told5 .given .1))
 pub entered-of-spec : {M : Type 1} → statement M
 entered-of-spec =
     tie.close
-    (tie.spec enum-known-answer cast-t7 enum-told enum-told-2 enum-told-3 enum-told-4 enum-told-5 returns returns-2 returns-3 returns-4
-    returns-5 returns-6)
+    (tie.spec (λ c. search needs) cast-t7 enum-told (λ c. search needs) (λ c. search needs) (λ c. search needs) (λ c. search needs) returns
+    returns-2 returns-3 returns-4 returns-5 returns-6)

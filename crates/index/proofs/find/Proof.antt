@@ -8,12 +8,6 @@ use Rattle.search.proofs.Promises.{keys-fit}
 use Rattle.index.proofs.find.Statement.{statement}
 use Rattle.index.proofs.find.Tie as tie
 
-widen-requires : tie.Need-widen-requires
-widen-requires c κs = search needs
-
-find-requires : tie.Need-find-requires
-find-requires c κs = search needs
-
 found-of-requires : tie.Need-found-of-requires
 unfolding width
 found-of-requires c κs = subst (λ (r : Reply). r .item .key < 2 ^ 32) (sym (c .find .ensures)) (keys-fit _ _ _ .0)
@@ -22,4 +16,4 @@ returns : tie.Need-returns
 returns c = c .found-of .ensures ∙ rw (c .before .before .widen .ensures .0) at (c .before .find .ensures)
 
 pub find-spec : {M : Type 1} → statement M
-find-spec = tie.close (tie.spec widen-requires find-requires found-of-requires returns)
+find-spec = tie.close (tie.spec (λ c κs. search needs) (λ c κs. search needs) found-of-requires returns)

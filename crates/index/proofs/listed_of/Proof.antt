@@ -6,9 +6,6 @@ use Rattle.scan.specs.Range.{rangeReply}
 use Rattle.index.proofs.listed_of.Statement.{statement}
 use Rattle.index.proofs.listed_of.Tie as tie
 
-enum-known-answer : tie.Need-enum-known-answer
-enum-known-answer c = search needs
-
 cast-t5 : tie.Need-cast-t5
 cast-t5 c =
     let low = subst (λ a. rangeReply a .more < 2 ^ 32) (c .before .answer .given .1) (c .before .before .before .pre) in
@@ -16,12 +13,6 @@ cast-t5 c =
 
 enum-told : tie.Need-enum-told
 enum-told c = search needs
-
-enum-told-2 : tie.Need-enum-told-2
-enum-told-2 c = search needs
-
-enum-told-3 : tie.Need-enum-told-3
-enum-told-3 c = search needs
 
 returns : tie.Need-returns
 returns c = sym (ap rangeReply (c .before .answer .given .1))
@@ -37,5 +28,4 @@ returns-4 c = sym (ap rangeReply (c .enum-told3 .given .1))
 
 pub listed-of-spec : {M : Type 1} → statement M
 listed-of-spec =
-    tie.close
-    (tie.spec enum-known-answer cast-t5 enum-told enum-told-2 enum-told-3 returns returns-2 returns-3 returns-4)
+    tie.close (tie.spec (λ c. search needs) cast-t5 enum-told (λ c. search needs) (λ c. search needs) returns returns-2 returns-3 returns-4)

@@ -8,12 +8,6 @@ use Rattle.search.proofs.Promises.{keys-fit}
 use Rattle.index.proofs.next.Statement.{statement}
 use Rattle.index.proofs.next.Tie as tie
 
-widen-requires : tie.Need-widen-requires
-widen-requires c κs = search needs
-
-next-requires : tie.Need-next-requires
-next-requires c κs = search needs
-
 found-of-requires : tie.Need-found-of-requires
 unfolding width
 found-of-requires c κs = subst (λ (r : Reply). r .item .key < 2 ^ 32) (sym (c .next .ensures)) (keys-fit _ _ _ .1)
@@ -22,4 +16,4 @@ returns : tie.Need-returns
 returns c = c .found-of .ensures ∙ rw (c .before .before .widen .ensures .0) at (c .before .next .ensures)
 
 pub next-spec : {M : Type 1} → statement M
-next-spec = tie.close (tie.spec widen-requires next-requires found-of-requires returns)
+next-spec = tie.close (tie.spec (λ c κs. search needs) (λ c κs. search needs) found-of-requires returns)

@@ -15,21 +15,9 @@ narrow e l h = omega (arith, ap (λ (r : RangeReply). r .more) e)
 replied : {a r q : RangeReply} {t u : List ℕ} → a ≡ r → (r ≡ q) × (t ≡ u) → (a ≡ q) × (t ≡ u)
 replied e p = (e ∙ p .0, p .1)
 
-widen-requires : tie.Need-widen-requires
-widen-requires c κs = search needs
-
-widen-requires-2 : tie.Need-widen-requires-2
-widen-requires-2 c κs = search needs
-
-range-requires : tie.Need-range-requires
-range-requires c κs = search needs
-
 listed-of-requires : tie.Need-listed-of-requires
 listed-of-requires c κs =
     narrow (c .before .before .range .ensures .0) (range-more _ _ _ _ _) (c .before .before .before .before .widen2 .ensures .1)
-
-same-length : tie.Need-same-length
-same-length c = search needs
 
 returns : tie.Need-returns
 returns c =
@@ -39,5 +27,4 @@ returns c =
 
 pub range-spec : {M : Type 1} → statement M
 range-spec =
-    tie.close
-    (tie.spec widen-requires widen-requires-2 range-requires listed-of-requires same-length returns)
+    tie.close (tie.spec (λ c κs. search needs) (λ c κs. search needs) (λ c κs. search needs) listed-of-requires (λ c. search needs) returns)

@@ -4,11 +4,8 @@ use mathlib.Core.Path.{refl}
 use Rattle.index.proofs.record_of.Statement.{statement}
 use Rattle.index.proofs.record_of.Tie as tie
 
-cast-t2 : tie.Need-cast-t2
-cast-t2 c = search needs
-
 returns : tie.Need-returns
 returns c = refl
 
 pub record-of-spec : {M : Type 1} → statement M
-record-of-spec = tie.close (tie.spec cast-t2 returns)
+record-of-spec = tie.close (tie.spec (λ c. search needs) returns)

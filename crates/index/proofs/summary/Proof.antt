@@ -11,9 +11,6 @@ use Rattle.index.proofs.summary.Tie as tie
 narrow : {r q : SummaryReply} {high : ℕ} → r ≡ q → q .key ≤ high → high < 2 ^ 32 → r .key < 2 ^ 32
 narrow e l h = omega (arith, ap (λ (r : SummaryReply). r .key) e)
 
-summary-requires : tie.Need-summary-requires
-summary-requires c κs = search needs
-
 summed-of-requires : tie.Need-summed-of-requires
 summed-of-requires c κs = narrow (c .summary .ensures) (summary-key _ _ _ _ _) (omega arith)
 
@@ -21,4 +18,4 @@ returns : tie.Need-returns
 returns c = c .summed-of .ensures ∙ c .before .summary .ensures
 
 pub summary-spec : {M : Type 1} → statement M
-summary-spec = tie.close (tie.spec summary-requires summed-of-requires returns)
+summary-spec = tie.close (tie.spec (λ c κs. search needs) summed-of-requires returns)

@@ -6,9 +6,6 @@ use Rattle.scan.specs.Summary.{summaryReply}
 use Rattle.index.proofs.summed_of.Statement.{statement}
 use Rattle.index.proofs.summed_of.Tie as tie
 
-enum-known-answer : tie.Need-enum-known-answer
-enum-known-answer c = search needs
-
 cast-t6 : tie.Need-cast-t6
 cast-t6 c =
     let low = subst (λ a. summaryReply a .key < 2 ^ 32) (c .before .answer .given .1) (c .before .before .before .pre) in
@@ -16,15 +13,6 @@ cast-t6 c =
 
 enum-told : tie.Need-enum-told
 enum-told c = search needs
-
-enum-told-2 : tie.Need-enum-told-2
-enum-told-2 c = search needs
-
-enum-told-3 : tie.Need-enum-told-3
-enum-told-3 c = search needs
-
-enum-told-4 : tie.Need-enum-told-4
-enum-told-4 c = search needs
 
 returns : tie.Need-returns
 returns c = sym (ap summaryReply (c .before .answer .given .1))
@@ -44,4 +32,5 @@ returns-5 c = sym (ap summaryReply (c .enum-told4 .given .1))
 pub summed-of-spec : {M : Type 1} → statement M
 summed-of-spec =
     tie.close
-    (tie.spec enum-known-answer cast-t6 enum-told enum-told-2 enum-told-3 enum-told-4 returns returns-2 returns-3 returns-4 returns-5)
+    (tie.spec (λ c. search needs) cast-t6 enum-told (λ c. search needs) (λ c. search needs) (λ c. search needs) returns returns-2 returns-3
+    returns-4 returns-5)

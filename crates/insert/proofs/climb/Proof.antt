@@ -42,9 +42,6 @@ left c =
     let l = length-bits (width (a .f) - getD (c .before .loop .steps) (c .before .loop .i) noStep .used) (a .key) in
     (omega (arith, ready c .left, l), omega (arith, ready c .left, l, width-within (a .f)))
 
-to-index-requires : tie.Need-to-index-requires Inv-loop μ-loop
-to-index-requires c κs = search needs
-
 loop-holds : tie.Need-loop-holds Inv-loop μ-loop
 loop-holds c =
     let s = c .before .before in
@@ -77,9 +74,6 @@ mul-steps c = let b = below (c .before .before .before .before .before .before .
 
 array-set-from-steps : tie.Need-array-set-from-steps Inv-loop μ-loop
 array-set-from-steps c = below (c .before .before .before .before .before .before .before .before .before)
-
-same-length : tie.Need-same-length Inv-loop μ-loop
-same-length c = search needs
 
 returns : tie.Need-returns Inv-loop μ-loop
 returns c =
@@ -155,9 +149,6 @@ mul-steps-3 c = let b = small (c .before .before .before .before) in search need
 array-set-from-steps-3 : tie.Need-array-set-from-steps-3 Inv-loop μ-loop
 array-set-from-steps-3 c = small (c .before .before .before .before)
 
-same-length-2 : tie.Need-same-length-2 Inv-loop μ-loop
-same-length-2 c = search needs
-
 returns-2 : tie.Need-returns-2 Inv-loop μ-loop
 returns-2 c =
     let r = c .before .before in
@@ -168,6 +159,6 @@ returns-2 c =
 pub climb-spec : {M : Type 1} → statement M
 climb-spec =
     tie.close
-    (tie.spec Inv-loop μ-loop to-index-requires loop-holds mul-t array-copy-out-t grow-block-requires deeper-requires mul-steps
-    array-set-from-steps same-length returns split-at-requires in-half-requires mul-steps-2 array-set-from-steps-2 add-i loop-less
-    loop-again new-root-requires mul-steps-3 array-set-from-steps-3 same-length-2 returns-2)
+    (tie.spec Inv-loop μ-loop (λ c κs. search needs) loop-holds mul-t array-copy-out-t grow-block-requires deeper-requires mul-steps
+    array-set-from-steps (λ c. search needs) returns split-at-requires in-half-requires mul-steps-2 array-set-from-steps-2 add-i loop-less
+    loop-again new-root-requires mul-steps-3 array-set-from-steps-3 (λ c. search needs) returns-2)

@@ -4,11 +4,8 @@ use Rattle.insert.proofs.StepCode.{deeper-place}
 use Rattle.insert.proofs.deeper.Statement.{statement}
 use Rattle.insert.proofs.deeper.Tie as tie
 
-add-t2 : tie.Need-add-t2
-add-t2 c = search needs
-
 returns : tie.Need-returns
 returns c f k = deeper-place f k (c .before .args .t)
 
 pub deeper-spec : {M : Type 1} → statement M
-deeper-spec = tie.close (tie.spec add-t2 returns)
+deeper-spec = tie.close (tie.spec (λ c. search needs) returns)

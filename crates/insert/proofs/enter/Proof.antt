@@ -85,26 +85,11 @@ roomy c =
       way = c .make-room .ensures .1;
     }
 
-head-ok-requires : tie.Need-head-ok-requires
-head-ok-requires c κs = search needs
-
-same-length : tie.Need-same-length
-same-length c = search needs
-
 returns : tie.Need-returns
 returns c = refuses (enter-3 _ _ _ (failed (c .before .head-ok .ensures) (c .if1 .taken)))
 
-lawful-item-requires : tie.Need-lawful-item-requires
-lawful-item-requires c κs = search needs
-
-same-length-2 : tie.Need-same-length-2
-same-length-2 c = search needs
-
 returns-2 : tie.Need-returns-2
 returns-2 c = refuses (enter-6 _ _ _ (ruled (c .before .before)) (failed (c .before .lawful-item .ensures) (c .if2 .taken)))
-
-head-of-requires : tie.Need-head-of-requires
-head-of-requires c κs = search needs
 
 descend-requires : tie.Need-descend-requires
 descend-requires c κs =
@@ -116,9 +101,6 @@ way-ok-requires c κs =
     let l = begun-limits b in
     (l .1, l .3, b .used, begun-long b)
 
-same-length-3 : tie.Need-same-length-3
-same-length-3 c = search needs
-
 returns-3 : tie.Need-returns-3
 returns-3 c = refuses (begun-damaged (begun (c .before .before .before)) (failed (c .before .way-ok .ensures) (c .if3 .taken)))
 
@@ -127,9 +109,6 @@ held-at-requires c κs =
     let b = begun (c .before .before .before .before) in
     let l = begun-limits b in
     (l .1, l .3, begun-own b (sound (c .before)))
-
-same-length-4 : tie.Need-same-length-4
-same-length-4 c = search needs
 
 returns-4 : tie.Need-returns-4
 returns-4 c =
@@ -146,17 +125,11 @@ plan-for-requires c κs =
 sub-if5 : tie.Need-sub-if5
 sub-if5 c = begun-counts (tested (c .before) .begun) .0
 
-same-length-5 : tie.Need-same-length-5
-same-length-5 c = search needs
-
 returns-5 : tie.Need-returns-5
 returns-5 c = refuses (no-nodes (tested (c .before .before .before)) (c .if5 .taken))
 
 sub-if6 : tie.Need-sub-if6
 sub-if6 c = begun-counts (tested (c .before .before .before .before) .begun) .1
-
-same-length-6 : tie.Need-same-length-6
-same-length-6 c = search needs
 
 returns-6 : tie.Need-returns-6
 returns-6 c =
@@ -175,9 +148,6 @@ place-requires c κs =
     let m = c .before .before .before in
     (m .make-room .ensures .0, begun-narrow (roomy m .tested .begun), room-fine (roomy m))
 
-same-length-7 : tie.Need-same-length-7
-same-length-7 c = search needs
-
 returns-7 : tie.Need-returns-7
 returns-7 c =
     let p = c .before .before in
@@ -186,6 +156,6 @@ returns-7 c =
 pub enter-spec : {M : Type 1} → statement M
 enter-spec =
     tie.close
-    (tie.spec head-ok-requires same-length returns lawful-item-requires same-length-2 returns-2 head-of-requires descend-requires
-    way-ok-requires same-length-3 returns-3 held-at-requires same-length-4 returns-4 plan-for-requires sub-if5 same-length-5 returns-5
-    sub-if6 same-length-6 returns-6 make-room-requires place-requires same-length-7 returns-7)
+    (tie.spec (λ c κs. search needs) (λ c. search needs) returns (λ c κs. search needs) (λ c. search needs) returns-2 (λ c κs. search needs)
+    descend-requires way-ok-requires (λ c. search needs) returns-3 held-at-requires (λ c. search needs) returns-4 plan-for-requires sub-if5
+    (λ c. search needs) returns-5 sub-if6 (λ c. search needs) returns-6 make-room-requires place-requires (λ c. search needs) returns-7)

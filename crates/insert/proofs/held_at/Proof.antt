@@ -7,9 +7,6 @@ use Rattle.insert.proofs.held_at.Tie as tie
 returns : tie.Need-returns
 returns c = held-null _ _ _ _ _ (c .if1 .taken)
 
-page-at-requires : tie.Need-page-at-requires
-page-at-requires c κs = search needs
-
 key-held-requires : tie.Need-key-held-requires
 key-held-requires c κs =
     own-rule _ _ _ _ _ (c .before .if1 .left) (c .page-at .ensures) (c .before .before .before .before .pre .2)
@@ -18,4 +15,4 @@ returns-2 : tie.Need-returns-2
 returns-2 c = held-some _ _ _ _ _ (c .before .before .if1 .left) (c .before .page-at .ensures) (c .key-held .ensures)
 
 pub held-at-spec : {M : Type 1} → statement M
-held-at-spec = tie.close (tie.spec returns page-at-requires key-held-requires returns-2)
+held-at-spec = tie.close (tie.spec returns (λ c κs. search needs) key-held-requires returns-2)

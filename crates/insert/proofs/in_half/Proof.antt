@@ -9,9 +9,6 @@ use Rattle.insert.proofs.StepCode.{half-place}
 use Rattle.insert.proofs.in_half.Statement.{statement}
 use Rattle.insert.proofs.in_half.Tie as tie
 
-width-of-requires : tie.Need-width-of-requires
-width-of-requires c κs = search needs
-
 sub-bit-set : tie.Need-sub-bit-set
 sub-bit-set c = omega (arith, c .width-of .ensures .0, c .before .pre)
 
@@ -36,4 +33,4 @@ returns c =
     (c .if1 .came))
 
 pub in-half-spec : {M : Type 1} → statement M
-in-half-spec = tie.close (tie.spec width-of-requires sub-bit-set sub-bit-set-2 bit-set-requires add-t18 returns)
+in-half-spec = tie.close (tie.spec (λ c κs. search needs) sub-bit-set sub-bit-set-2 bit-set-requires add-t18 returns)

@@ -4,17 +4,8 @@ use Rattle.insert.proofs.PlanLaws.{as-found}
 use Rattle.insert.proofs.key_held.Statement.{statement}
 use Rattle.insert.proofs.key_held.Tie as tie
 
-find-in-requires : tie.Need-find-in-requires
-find-in-requires c κs = search needs
-
 enum-told : tie.Need-enum-told
 enum-told c = search needs
-
-enum-told-2 : tie.Need-enum-told-2
-enum-told-2 c = search needs
-
-enum-told-3 : tie.Need-enum-told-3
-enum-told-3 c = search needs
 
 returns : tie.Need-returns
 returns c =
@@ -29,6 +20,4 @@ returns-3 c =
     as-found _ _ _ _ (c .before .before .before .before .pre) (c .before .before .find-in .ensures) (c .enum-told3 .given .1)
 
 pub key-held-spec : {M : Type 1} → statement M
-key-held-spec =
-    tie.close
-    (tie.spec find-in-requires enum-told enum-told-2 enum-told-3 returns returns-2 returns-3)
+key-held-spec = tie.close (tie.spec (λ c κs. search needs) enum-told (λ c. search needs) (λ c. search needs) returns returns-2 returns-3)

@@ -29,12 +29,6 @@ turn-requires c κs =
       turn-can _ _ _ _ _ _ _ _ (l .loop .inv .2) (c .before .loop-test .taken),
     )
 
-sub-left : tie.Need-sub-left Inv-loop μ-loop
-sub-left c = search needs
-
-loop-less : tie.Need-loop-less Inv-loop μ-loop
-loop-less c = search needs
-
 loop-again : tie.Need-loop-again Inv-loop μ-loop
 loop-again c =
     let t = c .before .before in
@@ -54,5 +48,4 @@ returns c = (c .before .loop .inv .1, rounds-over _ _ _ _ (c .loop-test .left) (
 
 pub make-room-spec : {M : Type 1} → statement M
 make-room-spec =
-    tie.close
-    (tie.spec Inv-loop μ-loop loop-holds turn-requires sub-left loop-less loop-again same-length returns)
+    tie.close (tie.spec Inv-loop μ-loop loop-holds turn-requires (λ c. search needs) (λ c. search needs) loop-again same-length returns)

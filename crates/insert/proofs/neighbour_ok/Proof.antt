@@ -38,15 +38,6 @@ back-is c =
     word-of (p .args .store .now) (p .args .head) (w .word .result) 2 (c .word3 .ensures)
     (c .before .before .before .node-start2 .ensures .0)
 
-node-start-requires : tie.Need-node-start-requires
-node-start-requires c κs = search needs
-
-add-word : tie.Need-add-word
-add-word c = search needs
-
-word-requires : tie.Need-word-requires
-word-requires c κs = search needs
-
 returns : tie.Need-returns
 returns c = no-neighbour _ _ _ (link (c .before)) (c .if1 .taken)
 
@@ -61,15 +52,6 @@ returns-3 c =
     neighbour-is _ _ _ (link (p .before)) true false _ _ (p .if1 .left) (sym (le-leb _ _ (c .before .if2 .left)))
     (sym (ap not (eq-eqb _ _ (c .if3 .taken)))) refl refl
 
-node-start-requires-2 : tie.Need-node-start-requires-2
-node-start-requires-2 c κs = search needs
-
-add-word-2 : tie.Need-add-word-2
-add-word-2 c = search needs
-
-word-requires-2 : tie.Need-word-requires-2
-word-requires-2 c κs = search needs
-
 returns-4 : tie.Need-returns-4
 returns-4 c =
     let p = c .before .before .before in
@@ -77,12 +59,6 @@ returns-4 c =
     neighbour-is _ _ _ (link (q .before)) true true false _ (q .if1 .left) (sym (le-leb _ _ (p .before .if2 .left)))
     (sym (ap not (ne-eqb _ _ (p .if3 .left))))
     (sym (ne-eqb _ _ (λ e. c .if4 .taken (level-is (c .before) ∙ e)))) refl
-
-add-word-3 : tie.Need-add-word-3
-add-word-3 c = search needs
-
-word-requires-3 : tie.Need-word-requires-3
-word-requires-3 c κs = search needs
 
 returns-5 : tie.Need-returns-5
 returns-5 c =
@@ -97,5 +73,5 @@ returns-5 c =
 pub neighbour-ok-spec : {M : Type 1} → statement M
 neighbour-ok-spec =
     tie.close
-    (tie.spec node-start-requires add-word word-requires returns returns-2 returns-3 node-start-requires-2 add-word-2 word-requires-2
-    returns-4 add-word-3 word-requires-3 returns-5)
+    (tie.spec (λ c κs. search needs) (λ c. search needs) (λ c κs. search needs) returns returns-2 returns-3 (λ c κs. search needs)
+    (λ c. search needs) (λ c κs. search needs) returns-4 (λ c. search needs) (λ c κs. search needs) returns-5)

@@ -23,9 +23,6 @@ take-node-requires c κs =
     let s = c .before .before in
     take-needs (s .args .f) (s .args .store .now) (s .pre .1 .sized) (s .args .head) (s .pre .0) (room s .1)
 
-add-root-block : tie.Need-add-root-block
-add-root-block c = search needs
-
 root-block-requires : tie.Need-root-block-requires
 root-block-requires c κs =
     let x = c .before .before .before .before in
@@ -34,20 +31,11 @@ root-block-requires c κs =
     root-needs (a .f) (a .store .now) (a .a) (a .c) (s .pre .1 .sized) (room s .0) (a .head) _ _ (s .pre .0) (x .take-node .ensures .0)
     (x .take-node .ensures .1)
 
-add-name-root : tie.Need-add-name-root
-add-name-root c = search needs
-
 name-root-requires : tie.Need-name-root-requires
 name-root-requires c κs =
     let x = c .before .before .before .before .before .before .before .before .before in
     let l = long (x .before .before .before) in
     search needs
-
-head-of-requires : tie.Need-head-of-requires
-head-of-requires c κs = search needs
-
-same-length : tie.Need-same-length
-same-length c = search needs
 
 returns : tie.Need-returns
 returns c =
@@ -65,4 +53,5 @@ returns c =
 pub new-root-spec : {M : Type 1} → statement M
 new-root-spec =
     tie.close
-    (tie.spec take-node-requires add-root-block root-block-requires add-name-root name-root-requires head-of-requires same-length returns)
+    (tie.spec take-node-requires (λ c. search needs) root-block-requires (λ c. search needs) name-root-requires (λ c κs. search needs)
+    (λ c. search needs) returns)

@@ -26,34 +26,10 @@ long c = omega (arith, c .before .to-index .ensures .0, c .before .before .pre .
 past : (c : tie.After-loop Inv-loop μ-loop) → c .before .before .to-index .result ≤ c .before .loop .i
 past c = omega (arith, c .loop-test .left)
 
-to-index-requires : tie.Need-to-index-requires Inv-loop μ-loop
-to-index-requires c κs = search needs
-
 loop-holds : tie.Need-loop-holds Inv-loop μ-loop
 loop-holds c =
     let a = c .before .args in
     (omega arith, c .before .pre .3, omega arith, costs-first (a .theta) (a .t1) (a .levels) (a .rounds) (c .to-index .ensures .0))
-
-mul-less : tie.Need-mul-less Inv-loop μ-loop
-mul-less c = search needs
-
-element-copy-out-less : tie.Need-element-copy-out-less Inv-loop μ-loop
-element-copy-out-less c = search needs
-
-less-requires : tie.Need-less-requires Inv-loop μ-loop
-less-requires c κs = search needs
-
-less-requires-2 : tie.Need-less-requires-2 Inv-loop μ-loop
-less-requires-2 c κs = search needs
-
-add-nodes : tie.Need-add-nodes Inv-loop μ-loop
-add-nodes c = search needs
-
-add-i : tie.Need-add-i Inv-loop μ-loop
-add-i c = search needs
-
-loop-less : tie.Need-loop-less Inv-loop μ-loop
-loop-less c = search needs
 
 loop-again : tie.Need-loop-again Inv-loop μ-loop
 loop-again c =
@@ -65,12 +41,6 @@ loop-again c =
           (c .before .less .ensures) (c .less2 .ensures),
     )
 
-root-nodes-requires : tie.Need-root-nodes-requires Inv-loop μ-loop
-root-nodes-requires c κs = search needs
-
-add-result : tie.Need-add-result Inv-loop μ-loop
-add-result c = search needs
-
 returns : tie.Need-returns Inv-loop μ-loop
 returns c =
     let l = c .before .before .loop in
@@ -80,5 +50,6 @@ returns c =
 pub nodes-for-spec : {M : Type 1} → statement M
 nodes-for-spec =
     tie.close
-    (tie.spec Inv-loop μ-loop to-index-requires loop-holds mul-less element-copy-out-less less-requires less-requires-2 add-nodes add-i
-    loop-less loop-again root-nodes-requires add-result returns)
+    (tie.spec Inv-loop μ-loop (λ c κs. search needs) loop-holds (λ c. search needs) (λ c. search needs) (λ c κs. search needs)
+    (λ c κs. search needs) (λ c. search needs) (λ c. search needs) (λ c. search needs) loop-again (λ c κs. search needs) (λ c. search needs)
+    returns)

@@ -7,14 +7,8 @@ use Rattle.insert.proofs.own_ok.Tie as tie
 returns : tie.Need-returns
 returns c = own-null _ _ _ _ _ _ (c .if1 .taken)
 
-page-at-requires : tie.Need-page-at-requires
-page-at-requires c κs = search needs
-
-page-sound-requires : tie.Need-page-sound-requires
-page-sound-requires c κs = search needs
-
 returns-2 : tie.Need-returns-2
 returns-2 c = own-some _ _ _ _ _ _ (c .before .before .if1 .left) (c .before .page-at .ensures) (c .page-sound .ensures)
 
 pub own-ok-spec : {M : Type 1} → statement M
-own-ok-spec = tie.close (tie.spec returns page-at-requires page-sound-requires returns-2)
+own-ok-spec = tie.close (tie.spec returns (λ c κs. search needs) (λ c κs. search needs) returns-2)

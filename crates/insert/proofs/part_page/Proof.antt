@@ -18,21 +18,12 @@ page-at-requires c κs = let l = limits (c .before .before) in (l .1, l .2)
 low-count-requires : tie.Need-low-count-requires
 low-count-requires c κs = c .before .before .before .pre .1 .narrow
 
-same-length : tie.Need-same-length
-same-length c = search needs
-
 returns : tie.Need-returns
 returns c =
     let x = c .before in
     let g = x .before in
     let s = g .before .before .before in
     (s .pre .0, part-low _ _ _ _ _ (s .pre .0) (s .pre .1) _ _ (g .page-at .ensures) (x .low-count .ensures .1) (c .if1 .taken))
-
-count-of-requires : tie.Need-count-of-requires
-count-of-requires c κs = search needs
-
-same-length-2 : tie.Need-same-length-2
-same-length-2 c = search needs
 
 returns-2 : tie.Need-returns-2
 returns-2 c =
@@ -73,9 +64,6 @@ halve-page-requires c κs =
     part-ready _ _ _ _ _ (s .pre .0) (s .pre .1) _ _ (g .page-at .ensures) (x .low-count .ensures .1) _ _ _ _ (t .take-page .ensures .0)
     (t .take-page .ensures .1) (from .page-start .ensures .0) (to .page-start2 .ensures .0) (x .low-count .ensures .0)
 
-same-length-3 : tie.Need-same-length-3
-same-length-3 c = search needs
-
 returns-3 : tie.Need-returns-3
 returns-3 c =
     let u = c .before .before in
@@ -94,5 +82,5 @@ returns-3 c =
 pub part-page-spec : {M : Type 1} → statement M
 part-page-spec =
     tie.close
-    (tie.spec page-at-requires low-count-requires same-length returns count-of-requires same-length-2 returns-2 take-page-requires
-    page-start-requires page-start-requires-2 halve-page-requires same-length-3 returns-3)
+    (tie.spec page-at-requires low-count-requires (λ c. search needs) returns (λ c κs. search needs) (λ c. search needs) returns-2
+    take-page-requires page-start-requires page-start-requires-2 halve-page-requires (λ c. search needs) returns-3)

@@ -26,18 +26,6 @@ page-start-requires c κs = next (c .before .before)
 page-words-requires : tie.Need-page-words-requires
 page-words-requires c κs = next (c .before .before .before) .1
 
-add-end : tie.Need-add-end
-add-end c = search needs
-
-mul-write-first : tie.Need-mul-write-first
-mul-write-first c = search needs
-
-sub-write-first : tie.Need-sub-write-first
-sub-write-first c = search needs
-
-part-write-first-start : tie.Need-part-write-first-start
-part-write-first-start c = search needs
-
 -- the new page lies in the words
 inside : (c : tie.After-page-words)
     → c .before .page-start .result + c .page-words .result ≤ length (c .before .before .before .before .take-page .last .0)
@@ -62,9 +50,6 @@ write-first-requires c κs =
     first-asks _ _ _ (s .args .item) _ (s .pre .0) (s .pre .2) (n .if1 .taken) _ _ (t .take-page .ensures .0) (t .take-page .ensures .1)
     _ _ (a .page-start .ensures .0) (w .page-words .ensures .0)
 
-element-copy-out-t : tie.Need-element-copy-out-t
-element-copy-out-t c = search needs
-
 aim-block-requires : tie.Need-aim-block-requires
 aim-block-requires c κs =
     let y = c .before .before .before .before .before in
@@ -75,9 +60,6 @@ aim-block-requires c κs =
     let s = n .before .before .before in
     aim-asks _ _ _ (s .args .item) _ (s .pre .0) (s .pre .2) (n .if1 .taken) _ _ (t .take-page .ensures .0) (t .take-page .ensures .1)
     _ _ (a .page-start .ensures .0) (w .page-words .ensures .0) _ (y .write-first .ensures) noStep (s .pre .1)
-
-same-length : tie.Need-same-length
-same-length c = search needs
 
 returns : tie.Need-returns
 returns c =
@@ -99,18 +81,6 @@ page-start-requires-2 c κs =
 page-words-requires-2 : tie.Need-page-words-requires-2
 page-words-requires-2 c κs = let s = c .before .before .before .before in place-limits _ _ _ (s .args .item) _ (s .pre .0) (s .pre .2) .2
 
-add-end-2 : tie.Need-add-end-2
-add-end-2 c = search needs
-
-mul-put-record : tie.Need-mul-put-record
-mul-put-record c = search needs
-
-sub-put-record : tie.Need-sub-put-record
-sub-put-record c = search needs
-
-part-put-record-start : tie.Need-part-put-record-start
-part-put-record-start c = search needs
-
 part-put-record-end : tie.Need-part-put-record-end
 part-put-record-end c =
     let a = c .before in
@@ -126,9 +96,6 @@ put-record-requires c κs =
     let s = n .before .before .before in
     put-asks _ _ _ (s .args .item) _ (s .pre .0) (s .pre .2) (n .if1 .left) _ _ (a .page-start2 .ensures .0) (w .page-words2 .ensures .0)
 
-same-length-2 : tie.Need-same-length-2
-same-length-2 c = search needs
-
 returns-2 : tie.Need-returns-2
 returns-2 c =
     let p = c .before .before in
@@ -142,7 +109,7 @@ returns-2 c =
 pub place-spec : {M : Type 1} → statement M
 place-spec =
     tie.close
-    (tie.spec take-page-requires page-start-requires page-words-requires add-end mul-write-first sub-write-first part-write-first-start
-    part-write-first-end write-first-requires element-copy-out-t aim-block-requires same-length returns page-start-requires-2
-    page-words-requires-2 add-end-2 mul-put-record sub-put-record part-put-record-start part-put-record-end put-record-requires
-    same-length-2 returns-2)
+    (tie.spec take-page-requires page-start-requires page-words-requires (λ c. search needs) (λ c. search needs) (λ c. search needs)
+    (λ c. search needs) part-write-first-end write-first-requires (λ c. search needs) aim-block-requires (λ c. search needs) returns
+    page-start-requires-2 page-words-requires-2 (λ c. search needs) (λ c. search needs) (λ c. search needs) (λ c. search needs)
+    part-put-record-end put-record-requires (λ c. search needs) returns-2)

@@ -8,15 +8,6 @@ use Rattle.insert.proofs.plan_for.Tie as tie
 returns : tie.Need-returns
 returns c = plan-null _ _ _ _ _ (c .if1 .taken) (c .before .before .before .pre .2)
 
-page-at-requires : tie.Need-page-at-requires
-page-at-requires c κs = search needs
-
-count-of-requires : tie.Need-count-of-requires
-count-of-requires c κs = search needs
-
-to-index-requires : tie.Need-to-index-requires
-to-index-requires c κs = search needs
-
 returns-2 : tie.Need-returns-2
 returns-2 c =
     let p = c .before .before .before in
@@ -49,4 +40,5 @@ returns-3 c =
 pub plan-for-spec : {M : Type 1} → statement M
 plan-for-spec =
     tie.close
-    (tie.spec returns page-at-requires count-of-requires to-index-requires returns-2 rounds-for-requires nodes-for-requires returns-3)
+    (tie.spec returns (λ c κs. search needs) (λ c κs. search needs) (λ c κs. search needs) returns-2 rounds-for-requires nodes-for-requires
+    returns-3)

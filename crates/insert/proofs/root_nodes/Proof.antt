@@ -19,18 +19,6 @@ abbrev μ-loop : tie.MeasureT-loop
 loop-holds : tie.Need-loop-holds Inv-loop μ-loop
 loop-holds c = (omega arith, omega (arith, c .pre), omega (arith, c .pre))
 
-less-requires : tie.Need-less-requires Inv-loop μ-loop
-less-requires c κs = search needs
-
-add-nodes : tie.Need-add-nodes Inv-loop μ-loop
-add-nodes c = search needs
-
-add-nodes-2 : tie.Need-add-nodes-2 Inv-loop μ-loop
-add-nodes-2 c = search needs
-
-loop-less : tie.Need-loop-less Inv-loop μ-loop
-loop-less c = search needs
-
 loop-again : tie.Need-loop-again Inv-loop μ-loop
 loop-again c =
     let l = c .before .before .loop .inv in (
@@ -48,4 +36,5 @@ returns c =
 pub root-nodes-spec : {M : Type 1} → statement M
 root-nodes-spec =
     tie.close
-    (tie.spec Inv-loop μ-loop loop-holds less-requires add-nodes add-nodes-2 loop-less loop-again returns)
+    (tie.spec Inv-loop μ-loop loop-holds (λ c κs. search needs) (λ c. search needs) (λ c. search needs) (λ c. search needs) loop-again
+    returns)

@@ -42,9 +42,6 @@ deeper-requires c κs = left (c .before .before .before .before .before .before 
 array-set-from-steps : tie.Need-array-set-from-steps
 array-set-from-steps c = omega arith
 
-same-length : tie.Need-same-length
-same-length c = search needs
-
 returns : tie.Need-returns
 returns c =
     let g = c .before .before .before in
@@ -89,9 +86,6 @@ climb-requires c κs =
     (i .in-half .result) _ _ (d .if1 .left) (g .split-first .ensures .0) (g .split-first .ensures .1) (i .in-half .ensures) (s .pre .4) in
     (r .0, s .pre .1, r .1, r .2)
 
-same-length-2 : tie.Need-same-length-2
-same-length-2 c = search needs
-
 returns-2 : tie.Need-returns-2
 returns-2 c =
     let u = c .before .before in
@@ -109,5 +103,5 @@ returns-2 c =
 pub round-spec : {M : Type 1} → statement M
 round-spec =
     tie.close
-    (tie.spec array-copy-out-t grow-block-requires deeper-requires array-set-from-steps same-length returns split-first-requires
-    in-half-requires array-set-from-steps-2 climb-requires same-length-2 returns-2)
+    (tie.spec array-copy-out-t grow-block-requires deeper-requires array-set-from-steps (λ c. search needs) returns split-first-requires
+    in-half-requires array-set-from-steps-2 climb-requires (λ c. search needs) returns-2)

@@ -22,35 +22,20 @@ Inv-loop page f key used w u₀ u =
 abbrev μ-loop : tie.MeasureT-loop
 μ-loop page f key used w u₀ u = w - u
 
-width-of-requires : tie.Need-width-of-requires Inv-loop μ-loop
-width-of-requires c κs = search needs
-
 loop-holds : tie.Need-loop-holds Inv-loop μ-loop
 loop-holds c =
     let p = c .before .before in
     (search needs, omega (arith, p .pre .0, c .width-of .ensures), p .pre .1, omega arith)
 
-add-u : tie.Need-add-u Inv-loop μ-loop
-add-u c = search needs
-
-keys-agree-requires : tie.Need-keys-agree-requires Inv-loop μ-loop
-keys-agree-requires c κs = search needs
-
 -- a bit is left
 below : (c : tie.After-keys-agree Inv-loop μ-loop) → let p = c .before .before in p .loop .u < width (p .before .before .before .args .f)
 below c = omega (arith, c .before .loop-test .taken, c .before .before .before .width-of .ensures .0)
-
-sub-result : tie.Need-sub-result Inv-loop μ-loop
-sub-result c = search needs
 
 returns : tie.Need-returns Inv-loop μ-loop
 returns c =
     let l = c .before .before .before .loop .inv in
     rounds-done (l .0) (l .3)
     (rounds-last _ _ _ _ (below (c .before)) (l .2) (failed (c .before .keys-agree .ensures) (c .if1 .taken)))
-
-loop-less : tie.Need-loop-less Inv-loop μ-loop
-loop-less c = search needs
 
 loop-again : tie.Need-loop-again Inv-loop μ-loop
 loop-again c =
@@ -62,9 +47,6 @@ loop-again c =
       rounds-more (l .0) (l .3) (rounds-next _ _ _ _ (below (c .before)) (l .2) e),
     )
 
-sub-result-2 : tie.Need-sub-result-2 Inv-loop μ-loop
-sub-result-2 c = search needs
-
 returns-2 : tie.Need-returns-2 Inv-loop μ-loop
 returns-2 c =
     rounds-out (c .before .before .before .before .args .f) _ _ _ _ (c .before .loop .inv .3)
@@ -73,5 +55,5 @@ returns-2 c =
 pub rounds-for-spec : {M : Type 1} → statement M
 rounds-for-spec =
     tie.close
-    (tie.spec Inv-loop μ-loop width-of-requires loop-holds add-u keys-agree-requires sub-result returns loop-less loop-again sub-result-2
-    returns-2)
+    (tie.spec Inv-loop μ-loop (λ c κs. search needs) loop-holds (λ c. search needs) (λ c κs. search needs) (λ c. search needs) returns
+    (λ c. search needs) loop-again (λ c. search needs) returns-2)

@@ -19,9 +19,6 @@ split-block-requires c κs =
     split-needs (a .f) (a .store .now) (a .key) (a .t) (s .pre .2) (s .pre .1) (a .head) _ _ (s .pre .0) (s .pre .4) (s .pre .3)
     (x .take-node .ensures .0) (x .take-node .ensures .1)
 
-same-length : tie.Need-same-length
-same-length c = search needs
-
 returns : tie.Need-returns
 returns c =
     let y = c .before .before in
@@ -32,4 +29,4 @@ returns c =
     (x .take-node .ensures .0) (x .take-node .ensures .1) (y .split-block .ensures)
 
 pub split-at-spec : {M : Type 1} → statement M
-split-at-spec = tie.close (tie.spec take-node-requires split-block-requires same-length returns)
+split-at-spec = tie.close (tie.spec take-node-requires split-block-requires (λ c. search needs) returns)

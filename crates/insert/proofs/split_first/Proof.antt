@@ -28,12 +28,6 @@ node-start-requires c κs =
     let s = c .before .before in
     omega (arith, ap (λ (h : Head). h .theta) (s .pre .0), sizes-limits _ _ _ _ (s .pre .2 .sized .sizes) .theta)
 
-add-word : tie.Need-add-word
-add-word c = search needs
-
-word-requires : tie.Need-word-requires
-word-requires c κs = search needs
-
 take-node-requires : tie.Need-take-node-requires
 take-node-requires c κs =
     let s = c .before .before .before .before .before in
@@ -58,9 +52,6 @@ relink-requires c κs =
     first-needs (a .f) (a .store .now) (placeOf (a .f) (a .key) (a .t)) (a .a) (a .c) (s .pre .2) (a .head) _ _ _ _ (s .pre .0) (s .pre .4)
     (s .pre .5) (x .take-node .ensures .0) (x .take-node .ensures .1) (y .split-linked .ensures) (behind r)
 
-same-length : tie.Need-same-length
-same-length c = search needs
-
 returns : tie.Need-returns
 returns c =
     let z = c .before .before in
@@ -75,4 +66,5 @@ returns c =
 pub split-first-spec : {M : Type 1} → statement M
 split-first-spec =
     tie.close
-    (tie.spec node-start-requires add-word word-requires take-node-requires split-linked-requires relink-requires same-length returns)
+    (tie.spec node-start-requires (λ c. search needs) (λ c κs. search needs) take-node-requires split-linked-requires relink-requires
+    (λ c. search needs) returns)

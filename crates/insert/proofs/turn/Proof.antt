@@ -22,9 +22,6 @@ bit-is : (c : tie.After-width-of)
     c .width-of .result - 1 - a .course .down .used ≡ width (a .f) - suc (a .course .down .used)
 bit-is c = omega (arith, c .width-of .ensures .0)
 
-width-of-requires : tie.Need-width-of-requires
-width-of-requires c κs = search needs
-
 sub-bit : tie.Need-sub-bit
 sub-bit c = omega (arith, c .width-of .ensures .0, left (c .before .before .before))
 
@@ -58,9 +55,6 @@ add-t14 c =
     let w = c .before .before .before .before .before .before .before .before .before .before .before .before .before .before .before in
     omega (arith, left (w .before .before .before), width-within (w .before .before .before .args .f))
 
-same-length : tie.Need-same-length
-same-length c = search needs
-
 returns : tie.Need-returns
 returns c =
     let j = c .before .before .before in
@@ -81,4 +75,5 @@ returns c =
 pub turn-spec : {M : Type 1} → statement M
 turn-spec =
     tie.close
-    (tie.spec width-of-requires sub-bit sub-bit-2 part-page-requires round-requires bit-set-requires add-t14 same-length returns)
+    (tie.spec (λ c κs. search needs) sub-bit sub-bit-2 part-page-requires round-requires bit-set-requires add-t14 (λ c. search needs)
+    returns)

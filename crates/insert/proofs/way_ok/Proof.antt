@@ -10,19 +10,10 @@ use Rattle.insert.proofs.way_ok.Tie as tie
 returns : tie.Need-returns
 returns c = way-is _ _ _ _ _ false _ _ (sym (not-true _ (c .if1 .taken))) refl refl
 
-own-ok-requires : tie.Need-own-ok-requires
-own-ok-requires c κs = search needs
-
 returns-2 : tie.Need-returns-2
 returns-2 c =
     way-is _ _ _ _ _ true false _ (sym (not-false _ (c .before .before .if1 .left)))
     (sym (not-true _ (c .if2 .taken)) ∙ c .before .own-ok .ensures) refl
-
-element-copy-out-neighbour-ok : tie.Need-element-copy-out-neighbour-ok
-element-copy-out-neighbour-ok c = search needs
-
-neighbour-ok-requires : tie.Need-neighbour-ok-requires
-neighbour-ok-requires c κs = search needs
 
 returns-3 : tie.Need-returns-3
 returns-3 c =
@@ -30,6 +21,4 @@ returns-3 c =
     (sym (not-false _ (c .before .if2 .left)) ∙ c .before .before .own-ok .ensures) (c .neighbour-ok .ensures)
 
 pub way-ok-spec : {M : Type 1} → statement M
-way-ok-spec =
-    tie.close
-    (tie.spec returns own-ok-requires returns-2 element-copy-out-neighbour-ok neighbour-ok-requires returns-3)
+way-ok-spec = tie.close (tie.spec returns (λ c κs. search needs) returns-2 (λ c. search needs) (λ c κs. search needs) returns-3)

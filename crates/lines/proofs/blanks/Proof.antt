@@ -14,20 +14,8 @@ Inv-loop cols i₀ i = (i ≤ length cols) × (skipped (drop i cols) ≡ skipped
 abbrev μ-loop : tie.MeasureT-loop
 μ-loop cols i₀ i = length cols - i
 
-loop-holds : tie.Need-loop-holds Inv-loop μ-loop
-loop-holds c = search needs
-
-shared-slice-read-if1 : tie.Need-shared-slice-read-if1 Inv-loop μ-loop
-shared-slice-read-if1 c = search needs
-
 returns : tie.Need-returns Inv-loop μ-loop
 returns c = (blank-ends _ _ (search needs) (c .if1 .taken) (c .before .before .before .loop .inv .1), search needs)
-
-add-i : tie.Need-add-i Inv-loop μ-loop
-add-i c = search needs
-
-loop-less : tie.Need-loop-less Inv-loop μ-loop
-loop-less c = search needs
 
 loop-again : tie.Need-loop-again Inv-loop μ-loop
 loop-again c = (search needs, blank-passed _ _ (search needs) (c .if1 .left) (c .before .before .before .loop .inv .1))
@@ -38,4 +26,4 @@ returns-2 c = (all-blank (c .before .before .args .cols .now) (c .before .loop .
 pub blanks-spec : {M : Type 1} → statement M
 blanks-spec =
     tie.close
-    (tie.spec Inv-loop μ-loop loop-holds shared-slice-read-if1 returns add-i loop-less loop-again returns-2)
+    (tie.spec Inv-loop μ-loop (λ c. search needs) (λ c. search needs) returns (λ c. search needs) (λ c. search needs) loop-again returns-2)

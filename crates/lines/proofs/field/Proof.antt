@@ -9,21 +9,6 @@ use Rattle.lines.specs.Steps.{numberIn}
 use Rattle.lines.proofs.field.Statement.{statement}
 use Rattle.lines.proofs.field.Tie as tie
 
-add-number-in : tie.Need-add-number-in
-add-number-in c = search needs
-
-sub-number-in : tie.Need-sub-number-in
-sub-number-in c = search needs
-
-part-number-in-start : tie.Need-part-number-in-start
-part-number-in-start c = search needs
-
-part-number-in-end : tie.Need-part-number-in-end
-part-number-in-end c = search needs
-
-number-in-requires : tie.Need-number-in-requires
-number-in-requires c κs = search needs
-
 returns : tie.Need-returns
 returns c =
     let a = c .before .before .before .args in
@@ -33,5 +18,4 @@ returns c =
 
 pub field-spec : {M : Type 1} → statement M
 field-spec =
-    tie.close
-    (tie.spec add-number-in sub-number-in part-number-in-start part-number-in-end number-in-requires returns)
+    tie.close (tie.spec (λ c. search needs) (λ c. search needs) (λ c. search needs) (λ c. search needs) (λ c κs. search needs) returns)

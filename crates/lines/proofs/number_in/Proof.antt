@@ -5,17 +5,8 @@ use Rattle.lines.proofs.ReadLaws.{none-held, zero-held, leading-zero, d
 use Rattle.lines.proofs.number_in.Statement.{statement}
 use Rattle.lines.proofs.number_in.Tie as tie
 
-blanks-requires : tie.Need-blanks-requires
-blanks-requires c κs = search needs
-
 returns : tie.Need-returns
 returns c = sym (none-held _ (c .before .blanks .result) (c .before .blanks .ensures .0) (search needs))
-
-shared-slice-read-if2 : tie.Need-shared-slice-read-if2
-shared-slice-read-if2 c = search needs
-
-add-if3 : tie.Need-add-if3
-add-if3 c = search needs
 
 returns-2 : tie.Need-returns-2
 returns-2 c =
@@ -27,9 +18,6 @@ returns-3 c =
     let b = c .before .before .before .before .blanks in
     sym (zero-held _ (b .result) (b .ensures .0) (search needs) (c .before .if2 .taken) (search needs))
 
-spelled-requires : tie.Need-spelled-requires
-spelled-requires c κs = search needs
-
 returns-4 : tie.Need-returns-4
 returns-4 c =
     let b = c .before .before .before .before .blanks in
@@ -38,4 +26,4 @@ returns-4 c =
 pub number-in-spec : {M : Type 1} → statement M
 number-in-spec =
     tie.close
-    (tie.spec blanks-requires returns shared-slice-read-if2 add-if3 returns-2 returns-3 spelled-requires returns-4)
+    (tie.spec (λ c κs. search needs) returns (λ c. search needs) (λ c. search needs) returns-2 returns-3 (λ c κs. search needs) returns-4)

@@ -7,21 +7,6 @@ use Rattle.lines.proofs.WriteLaws.{summary-put}
 use Rattle.lines.proofs.put_summary.Statement.{statement}
 use Rattle.lines.proofs.put_summary.Tie as tie
 
-put-two-requires : tie.Need-put-two-requires
-put-two-requires c κs = search needs
-
-put-requires : tie.Need-put-requires
-put-requires c κs = search needs
-
-put-requires-2 : tie.Need-put-requires-2
-put-requires-2 c κs = search needs
-
-put-requires-3 : tie.Need-put-requires-3
-put-requires-3 c κs = search needs
-
-slice-write-out : tie.Need-slice-write-out
-slice-write-out c = search needs
-
 same-length : tie.Need-same-length
 same-length c = simp length-set (omega arith)
 
@@ -38,4 +23,5 @@ returns c =
 pub put-summary-spec : {M : Type 1} → statement M
 put-summary-spec =
     tie.close
-    (tie.spec put-two-requires put-requires put-requires-2 put-requires-3 slice-write-out same-length returns)
+    (tie.spec (λ c κs. search needs) (λ c κs. search needs) (λ c κs. search needs) (λ c κs. search needs) (λ c. search needs) same-length
+    returns)

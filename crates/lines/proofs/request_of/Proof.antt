@@ -7,30 +7,6 @@ use Rattle.lines.proofs.RequestLaws.{wrong-kind}
 use Rattle.lines.proofs.request_of.Statement.{statement}
 use Rattle.lines.proofs.request_of.Tie as tie
 
-zeros-requires : tie.Need-zeros-requires
-zeros-requires c κs = search needs
-
-unless-used-requires : tie.Need-unless-used-requires
-unless-used-requires c κs = search needs
-
-zeros-requires-2 : tie.Need-zeros-requires-2
-zeros-requires-2 c κs = search needs
-
-unless-used-requires-2 : tie.Need-unless-used-requires-2
-unless-used-requires-2 c κs = search needs
-
-zeros-requires-3 : tie.Need-zeros-requires-3
-zeros-requires-3 c κs = search needs
-
-unless-used-requires-3 : tie.Need-unless-used-requires-3
-unless-used-requires-3 c κs = search needs
-
-zeros-requires-4 : tie.Need-zeros-requires-4
-zeros-requires-4 c κs = search needs
-
-unless-used-requires-4 : tie.Need-unless-used-requires-4
-unless-used-requires-4 c κs = search needs
-
 returns : tie.Need-returns
 unfolding requestOf
 returns c = rw (c .match .keys1)
@@ -64,5 +40,6 @@ returns-8 c = sym (wrong-kind _ _ _ _ _ (omega arith))
 pub request-of-spec : {M : Type 1} → statement M
 request-of-spec =
     tie.close
-    (tie.spec zeros-requires unless-used-requires zeros-requires-2 unless-used-requires-2 zeros-requires-3 unless-used-requires-3
-    zeros-requires-4 unless-used-requires-4 returns returns-2 returns-3 returns-4 returns-5 returns-6 returns-7 returns-8)
+    (tie.spec (λ c κs. search needs) (λ c κs. search needs) (λ c κs. search needs) (λ c κs. search needs) (λ c κs. search needs)
+    (λ c κs. search needs) (λ c κs. search needs) (λ c κs. search needs) returns returns-2 returns-3 returns-4 returns-5 returns-6 returns-7
+    returns-8)

@@ -10,14 +10,8 @@ use Rattle.lines.proofs.shown.Tie as tie
 returns : tie.Need-returns
 returns c = sym (ap digitOr (c .if1 .taken) ∙ digit-or-zero)
 
-cast-result : tie.Need-cast-result
-cast-result c = search needs
-
-add-result : tie.Need-add-result
-add-result c = search needs
-
 returns-2 : tie.Need-returns-2
 returns-2 c = sym (digit-or-pos (c .before .args .n) (omega arith))
 
 pub shown-spec : {M : Type 1} → statement M
-shown-spec = tie.close (tie.spec returns cast-result add-result returns-2)
+shown-spec = tie.close (tie.spec returns (λ c. search needs) (λ c. search needs) returns-2)

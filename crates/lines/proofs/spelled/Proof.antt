@@ -21,9 +21,6 @@ abbrev μ-loop : tie.MeasureT-loop
 loop-holds : tie.Need-loop-holds Inv-loop μ-loop
 loop-holds c = (search needs, one-le-pow (c .args .from) 10 (omega arith), refl)
 
-shared-slice-read-b : tie.Need-shared-slice-read-b Inv-loop μ-loop
-shared-slice-read-b c = search needs
-
 returns : tie.Need-returns Inv-loop μ-loop
 returns c =
     let l = c .before .before .before .loop in
@@ -43,12 +40,6 @@ cast-n c = omega arith
 add-n : tie.Need-add-n Inv-loop μ-loop
 add-n c = omega (arith, ten-columns _ _ (c .before .before .before .before .loop .inv .1) (search needs))
 
-add-i : tie.Need-add-i Inv-loop μ-loop
-add-i c = search needs
-
-loop-less : tie.Need-loop-less Inv-loop μ-loop
-loop-less c = search needs
-
 loop-again : tie.Need-loop-again Inv-loop μ-loop
 loop-again c =
     let l = c .before .before .before .before .loop in (
@@ -62,9 +53,6 @@ returns-3 c =
     let l = c .before .before .loop in
     sym (digits-end _ (l .i) (l .n) (search needs) ∙ taken-large (l .n) (search needs)) ∙ l .inv .2
 
-cast-t13 : tie.Need-cast-t13 Inv-loop μ-loop
-cast-t13 c = search needs
-
 returns-4 : tie.Need-returns-4 Inv-loop μ-loop
 returns-4 c =
     let l = c .before .before .loop in
@@ -73,5 +61,5 @@ returns-4 c =
 pub spelled-spec : {M : Type 1} → statement M
 spelled-spec =
     tie.close
-    (tie.spec Inv-loop μ-loop loop-holds shared-slice-read-b returns returns-2 mul-n cast-n add-n add-i loop-less loop-again returns-3
-    cast-t13 returns-4)
+    (tie.spec Inv-loop μ-loop loop-holds (λ c. search needs) returns returns-2 mul-n cast-n add-n (λ c. search needs) (λ c. search needs)
+    loop-again returns-3 (λ c. search needs) returns-4)

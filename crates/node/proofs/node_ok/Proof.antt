@@ -31,74 +31,20 @@ runs-are c =
     (c .before .before .pointer-low .ensures, c .before .pointer-high .ensures, read (c .before .before .before .before) .word .ensures)
     at (c .runs-ok .ensures)
 
-word-requires : tie.Need-word-requires
-word-requires c κs = search needs
-
 returns : tie.Need-returns
 returns c = untrue (λ e. omega (arith, c .before .before .word .ensures, node-facts _ _ _ _ e .depth))
-
-add-word : tie.Need-add-word
-add-word c = search needs
-
-word-requires-2 : tie.Need-word-requires-2
-word-requires-2 c κs = search needs
 
 returns-2 : tie.Need-returns-2
 returns-2 c = untrue (λ e. c .if2 .taken (c .before .word2 .ensures ∙ node-facts _ _ _ _ e .level-is))
 
-add-word-2 : tie.Need-add-word-2
-add-word-2 c = search needs
-
-word-requires-3 : tie.Need-word-requires-3
-word-requires-3 c κs = search needs
-
-add-word-3 : tie.Need-add-word-3
-add-word-3 c = search needs
-
-word-requires-4 : tie.Need-word-requires-4
-word-requires-4 c κs = search needs
-
-links-ok-requires : tie.Need-links-ok-requires
-links-ok-requires c κs = search needs
-
 returns-3 : tie.Need-returns-3
 returns-3 c = untrue (λ e. false≢true (sym (failed (links-are (c .before)) (c .if3 .taken)) ∙ node-facts _ _ _ _ e .links))
-
-pointer-low-requires : tie.Need-pointer-low-requires
-pointer-low-requires c κs = search needs
-
-pointer-high-requires : tie.Need-pointer-high-requires
-pointer-high-requires c κs = search needs
-
-runs-ok-requires : tie.Need-runs-ok-requires
-runs-ok-requires c κs = search needs
 
 returns-4 : tie.Need-returns-4
 returns-4 c = untrue (λ e. false≢true (sym (failed (runs-are (c .before)) (c .if4 .taken)) ∙ node-facts _ _ _ _ e .runs))
 
-pow2-requires : tie.Need-pow2-requires
-pow2-requires c κs = search needs
-
-pow2-requires-2 : tie.Need-pow2-requires-2
-pow2-requires-2 c κs = search needs
-
-add-all-zero : tie.Need-add-all-zero
-add-all-zero c = search needs
-
-mul-all-zero : tie.Need-mul-all-zero
-mul-all-zero c = search needs
-
-add-all-zero-2 : tie.Need-add-all-zero-2
-add-all-zero-2 c = search needs
-
 sub-all-zero : tie.Need-sub-all-zero
 sub-all-zero c = rw (c .before .pow2 .ensures .0, c .pow22 .ensures .0) (pow-mono (omega arith))
-
-mul-all-zero-2 : tie.Need-mul-all-zero-2
-mul-all-zero-2 c = search needs
-
-all-zero-requires : tie.Need-all-zero-requires
-all-zero-requires c κs = search needs
 
 returns-5 : tie.Need-returns-5
 returns-5 c =
@@ -114,6 +60,7 @@ returns-5 c =
 pub node-ok-spec : {M : Type 1} → statement M
 node-ok-spec =
     tie.close
-    (tie.spec word-requires returns add-word word-requires-2 returns-2 add-word-2 word-requires-3 add-word-3 word-requires-4
-    links-ok-requires returns-3 pointer-low-requires pointer-high-requires runs-ok-requires returns-4 pow2-requires pow2-requires-2
-    add-all-zero mul-all-zero add-all-zero-2 sub-all-zero mul-all-zero-2 all-zero-requires returns-5)
+    (tie.spec (λ c κs. search needs) returns (λ c. search needs) (λ c κs. search needs) returns-2 (λ c. search needs) (λ c κs. search needs)
+    (λ c. search needs) (λ c κs. search needs) (λ c κs. search needs) returns-3 (λ c κs. search needs) (λ c κs. search needs)
+    (λ c κs. search needs) returns-4 (λ c κs. search needs) (λ c κs. search needs) (λ c. search needs) (λ c. search needs)
+    (λ c. search needs) sub-all-zero (λ c. search needs) (λ c κs. search needs) returns-5)

@@ -9,52 +9,19 @@ use Rattle.node.proofs.NodeLaws.{run-facts, run-test-is}
 use Rattle.node.proofs.run_ok.Statement.{statement}
 use Rattle.node.proofs.run_ok.Tie as tie
 
-add-word : tie.Need-add-word
-add-word c = search needs
-
-mul-word : tie.Need-mul-word
-mul-word c = search needs
-
-add-word-2 : tie.Need-add-word-2
-add-word-2 c = search needs
-
-word-requires : tie.Need-word-requires
-word-requires c κs = search needs
-
 returns : tie.Need-returns
 returns c = untrue (λ e. omega (arith, c .before .word .ensures, run-facts _ _ _ _ _ e .depth))
-
-pow2-requires : tie.Need-pow2-requires
-pow2-requires c κs = search needs
-
-rem-if2 : tie.Need-rem-if2
-rem-if2 c = search needs
 
 returns-2 : tie.Need-returns-2
 returns-2 c =
     let p = c .before in
     untrue (λ e. c .if2 .taken (rw (p .pow2 .ensures .0, p .before .before .word .ensures) (run-facts _ _ _ _ _ e .aligned)))
 
-add-word-3 : tie.Need-add-word-3
-add-word-3 c = search needs
-
-mul-word-2 : tie.Need-mul-word-2
-mul-word-2 c = search needs
-
-add-word-4 : tie.Need-add-word-4
-add-word-4 c = search needs
-
-word-requires-2 : tie.Need-word-requires-2
-word-requires-2 c κs = search needs
-
 returns-3 : tie.Need-returns-3
 returns-3 c = untrue (λ e. omega (arith, c .before .word2 .ensures, run-facts _ _ _ _ _ e .above))
 
 returns-4 : tie.Need-returns-4
 returns-4 c = untrue (λ e. omega (arith, c .before .before .word2 .ensures, run-facts _ _ _ _ _ e .below))
-
-same-run-requires : tie.Need-same-run-requires
-same-run-requires c κs = search needs
 
 returns-5 : tie.Need-returns-5
 returns-5 c =
@@ -69,5 +36,6 @@ returns-5 c =
 pub run-ok-spec : {M : Type 1} → statement M
 run-ok-spec =
     tie.close
-    (tie.spec add-word mul-word add-word-2 word-requires returns pow2-requires rem-if2 returns-2 add-word-3 mul-word-2 add-word-4
-    word-requires-2 returns-3 returns-4 same-run-requires returns-5)
+    (tie.spec (λ c. search needs) (λ c. search needs) (λ c. search needs) (λ c κs. search needs) returns (λ c κs. search needs)
+    (λ c. search needs) returns-2 (λ c. search needs) (λ c. search needs) (λ c. search needs) (λ c κs. search needs) returns-3 returns-4
+    (λ c κs. search needs) returns-5)

@@ -29,14 +29,8 @@ on c =
     (run-passes _ _ _ _ _ _ (c .before .before .before .before .loop .inv .2)
     (omega (arith, c .before .before .before .before .loop .inv .0)) (passed (c .before .before .run-ok .ensures) (c .before .if1 .left)))
 
-pow2-requires : tie.Need-pow2-requires Inv-loop μ-loop
-pow2-requires c κs = search needs
-
 loop-holds : tie.Need-loop-holds Inv-loop μ-loop
 loop-holds c = (c .pow2 .ensures .0, c .pow2 .ensures .2, passed-none _ _ _ _)
-
-run-ok-requires : tie.Need-run-ok-requires Inv-loop μ-loop
-run-ok-requires c κs = search needs
 
 returns : tie.Need-returns Inv-loop μ-loop
 returns c =
@@ -44,32 +38,8 @@ returns c =
     (run-refused _ _ _ _ _ _ (c .before .before .before .loop .inv .2) (omega (arith, c .before .before .before .loop .inv .0))
     (failed (c .before .run-ok .ensures) (c .if1 .taken)))
 
-add-word : tie.Need-add-word Inv-loop μ-loop
-add-word c = search needs
-
-mul-word : tie.Need-mul-word Inv-loop μ-loop
-mul-word c = search needs
-
-add-word-2 : tie.Need-add-word-2 Inv-loop μ-loop
-add-word-2 c = search needs
-
-word-requires : tie.Need-word-requires Inv-loop μ-loop
-word-requires c κs = search needs
-
-larger-requires : tie.Need-larger-requires Inv-loop μ-loop
-larger-requires c κs = search needs
-
 sub-pow2 : tie.Need-sub-pow2 Inv-loop μ-loop
 sub-pow2 c = on (c .before) .0
-
-pow2-requires-2 : tie.Need-pow2-requires-2 Inv-loop μ-loop
-pow2-requires-2 c κs = search needs
-
-add-i : tie.Need-add-i Inv-loop μ-loop
-add-i c = search needs
-
-loop-less : tie.Need-loop-less Inv-loop μ-loop
-loop-less c = search needs
 
 loop-again : tie.Need-loop-again Inv-loop μ-loop
 loop-again c =
@@ -85,5 +55,6 @@ returns-2 c =
 pub runs-ok-spec : {M : Type 1} → statement M
 runs-ok-spec =
     tie.close
-    (tie.spec Inv-loop μ-loop pow2-requires loop-holds run-ok-requires returns add-word mul-word add-word-2 word-requires larger-requires
-    sub-pow2 pow2-requires-2 add-i loop-less loop-again returns-2)
+    (tie.spec Inv-loop μ-loop (λ c κs. search needs) loop-holds (λ c κs. search needs) returns (λ c. search needs) (λ c. search needs)
+    (λ c. search needs) (λ c κs. search needs) (λ c κs. search needs) sub-pow2 (λ c κs. search needs) (λ c. search needs)
+    (λ c. search needs) loop-again returns-2)

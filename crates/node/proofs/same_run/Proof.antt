@@ -24,67 +24,13 @@ same-depth : (c : tie.Else1 Inv-loop μ-loop)
     entryDepth (a .store .now) (a .at) (a .i + p .loop .j) ≡ entryDepth (a .store .now) (a .at) (a .i)
 same-depth c = sym (c .before .word3 .ensures) ∙ c .if1 .left ∙ c .before .before .before .loop .inv .1
 
-add-word : tie.Need-add-word Inv-loop μ-loop
-add-word c = search needs
-
-mul-word : tie.Need-mul-word Inv-loop μ-loop
-mul-word c = search needs
-
-add-word-2 : tie.Need-add-word-2 Inv-loop μ-loop
-add-word-2 c = search needs
-
-word-requires : tie.Need-word-requires Inv-loop μ-loop
-word-requires c κs = search needs
-
-add-word-3 : tie.Need-add-word-3 Inv-loop μ-loop
-add-word-3 c = search needs
-
-mul-word-2 : tie.Need-mul-word-2 Inv-loop μ-loop
-mul-word-2 c = search needs
-
-add-word-4 : tie.Need-add-word-4 Inv-loop μ-loop
-add-word-4 c = search needs
-
-word-requires-2 : tie.Need-word-requires-2 Inv-loop μ-loop
-word-requires-2 c κs = search needs
-
 loop-holds : tie.Need-loop-holds Inv-loop μ-loop
 loop-holds c = (search needs, c .before .word .ensures, c .word2 .ensures, run-none _ _)
-
-add-word-5 : tie.Need-add-word-5 Inv-loop μ-loop
-add-word-5 c = search needs
-
-add-word-6 : tie.Need-add-word-6 Inv-loop μ-loop
-add-word-6 c = search needs
-
-mul-word-3 : tie.Need-mul-word-3 Inv-loop μ-loop
-mul-word-3 c = search needs
-
-add-word-7 : tie.Need-add-word-7 Inv-loop μ-loop
-add-word-7 c = search needs
-
-word-requires-3 : tie.Need-word-requires-3 Inv-loop μ-loop
-word-requires-3 c κs = search needs
 
 returns : tie.Need-returns Inv-loop μ-loop
 returns c =
     let l = c .before .before .before .loop in
     sym (run-other-depth _ _ (l .j) _ (omega arith) (λ e. c .if1 .taken (c .before .word3 .ensures ∙ e ∙ sym (l .inv .1))))
-
-add-word-8 : tie.Need-add-word-8 Inv-loop μ-loop
-add-word-8 c = search needs
-
-add-word-9 : tie.Need-add-word-9 Inv-loop μ-loop
-add-word-9 c = search needs
-
-mul-word-4 : tie.Need-mul-word-4 Inv-loop μ-loop
-mul-word-4 c = search needs
-
-add-word-10 : tie.Need-add-word-10 Inv-loop μ-loop
-add-word-10 c = search needs
-
-word-requires-4 : tie.Need-word-requires-4 Inv-loop μ-loop
-word-requires-4 c κs = search needs
 
 returns-2 : tie.Need-returns-2 Inv-loop μ-loop
 returns-2 c =
@@ -92,12 +38,6 @@ returns-2 c =
     sym
     (run-other-pointer _ _ (l .j) _ (omega arith) (same-depth (c .before .before))
     (λ e. c .if2 .taken (c .before .word4 .ensures ∙ e ∙ sym (l .inv .2))))
-
-add-j : tie.Need-add-j Inv-loop μ-loop
-add-j c = search needs
-
-loop-less : tie.Need-loop-less Inv-loop μ-loop
-loop-less c = search needs
 
 loop-again : tie.Need-loop-again Inv-loop μ-loop
 loop-again c =
@@ -116,6 +56,7 @@ returns-3 c =
 pub same-run-spec : {M : Type 1} → statement M
 same-run-spec =
     tie.close
-    (tie.spec Inv-loop μ-loop add-word mul-word add-word-2 word-requires add-word-3 mul-word-2 add-word-4 word-requires-2 loop-holds
-    add-word-5 add-word-6 mul-word-3 add-word-7 word-requires-3 returns add-word-8 add-word-9 mul-word-4 add-word-10 word-requires-4
-    returns-2 add-j loop-less loop-again returns-3)
+    (tie.spec Inv-loop μ-loop (λ c. search needs) (λ c. search needs) (λ c. search needs) (λ c κs. search needs) (λ c. search needs)
+    (λ c. search needs) (λ c. search needs) (λ c κs. search needs) loop-holds (λ c. search needs) (λ c. search needs) (λ c. search needs)
+    (λ c. search needs) (λ c κs. search needs) returns (λ c. search needs) (λ c. search needs) (λ c. search needs) (λ c. search needs)
+    (λ c κs. search needs) returns-2 (λ c. search needs) (λ c. search needs) loop-again returns-3)

@@ -28,17 +28,8 @@ Inv-loop page f strict key n i₀ i = (i ≤ n) × ((j : ℕ) → j < i → abov
 abbrev μ-loop : tie.MeasureT-loop
 μ-loop page f strict key n i₀ i = n - i
 
-count-of-requires : tie.Need-count-of-requires Inv-loop μ-loop
-count-of-requires c κs = search needs
-
 loop-holds : tie.Need-loop-holds Inv-loop μ-loop
 loop-holds c = (search needs, below-none _)
-
-read-one-requires : tie.Need-read-one-requires Inv-loop μ-loop
-read-one-requires c κs = search needs
-
-is-above-requires : tie.Need-is-above-requires Inv-loop μ-loop
-is-above-requires c κs = search needs
 
 returns : tie.Need-returns Inv-loop μ-loop
 returns c = (
@@ -49,12 +40,6 @@ returns c = (
   },
   omega arith,
 )
-
-add-i : tie.Need-add-i Inv-loop μ-loop
-add-i c = search needs
-
-loop-less : tie.Need-loop-less Inv-loop μ-loop
-loop-less c = search needs
 
 loop-again : tie.Need-loop-again Inv-loop μ-loop
 loop-again c = (
@@ -76,5 +61,5 @@ returns-2 c = (
 pub first-above-spec : {M : Type 1} → statement M
 first-above-spec =
     tie.close
-    (tie.spec Inv-loop μ-loop count-of-requires loop-holds read-one-requires is-above-requires returns add-i loop-less loop-again
-    returns-2)
+    (tie.spec Inv-loop μ-loop (λ c κs. search needs) loop-holds (λ c κs. search needs) (λ c κs. search needs) returns (λ c. search needs)
+    (λ c. search needs) loop-again returns-2)

@@ -5,9 +5,6 @@ use Rattle.page.specs.Page.{inTurn}
 use Rattle.page.proofs.in_turn.Statement.{statement}
 use Rattle.page.proofs.in_turn.Tie as tie
 
-lawful-item-requires : tie.Need-lawful-item-requires
-lawful-item-requires c κs = search needs
-
 returns : tie.Need-returns
 unfolding inTurn
 returns c = rw (failed (c .before .lawful-item .ensures) (c .if1 .taken))
@@ -17,4 +14,4 @@ unfolding inTurn
 returns-2 c = rw (passed (c .before .before .lawful-item .ensures) (c .before .if1 .left))
 
 pub in-turn-spec : {M : Type 1} → statement M
-in-turn-spec = tie.close (tie.spec lawful-item-requires returns returns-2)
+in-turn-spec = tie.close (tie.spec (λ c κs. search needs) returns returns-2)

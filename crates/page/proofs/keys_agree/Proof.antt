@@ -45,26 +45,8 @@ Inv-loop page f key used n low sought i₀ i = (i ≤ n) × ((j : ℕ) → j < i
 abbrev μ-loop : tie.MeasureT-loop
 μ-loop page f key used n low sought i₀ i = n - i
 
-count-of-requires : tie.Need-count-of-requires Inv-loop μ-loop
-count-of-requires c κs = search needs
-
-width-of-requires : tie.Need-width-of-requires Inv-loop μ-loop
-width-of-requires c κs = search needs
-
-sub-low : tie.Need-sub-low Inv-loop μ-loop
-sub-low c = search needs
-
-prefix-requires : tie.Need-prefix-requires Inv-loop μ-loop
-prefix-requires c κs = search needs
-
 loop-holds : tie.Need-loop-holds Inv-loop μ-loop
 loop-holds c = (search needs, below-none _)
-
-read-one-requires : tie.Need-read-one-requires Inv-loop μ-loop
-read-one-requires c κs = search needs
-
-prefix-requires-2 : tie.Need-prefix-requires-2 Inv-loop μ-loop
-prefix-requires-2 c κs = search needs
 
 returns : tie.Need-returns Inv-loop μ-loop
 returns c =
@@ -74,12 +56,6 @@ returns c =
     _
     (c .before .before .before .loop-test .taken)
     (λ e. c .if1 .taken (seen _ _ _ _ (c .before .before .read-one .ensures) (c .before .prefix2 .ensures) ∙ e))
-
-add-i : tie.Need-add-i Inv-loop μ-loop
-add-i c = search needs
-
-loop-less : tie.Need-loop-less Inv-loop μ-loop
-loop-less c = search needs
 
 loop-again : tie.Need-loop-again Inv-loop μ-loop
 loop-again c = (
@@ -98,5 +74,5 @@ returns-2 c =
 pub keys-agree-spec : {M : Type 1} → statement M
 keys-agree-spec =
     tie.close
-    (tie.spec Inv-loop μ-loop count-of-requires width-of-requires sub-low prefix-requires loop-holds read-one-requires prefix-requires-2
-    returns add-i loop-less loop-again returns-2)
+    (tie.spec Inv-loop μ-loop (λ c κs. search needs) (λ c κs. search needs) (λ c. search needs) (λ c κs. search needs) loop-holds
+    (λ c κs. search needs) (λ c κs. search needs) returns (λ c. search needs) (λ c. search needs) loop-again returns-2)

@@ -22,11 +22,8 @@ plots-key Plots k h = h
 cast-t4 : tie.Need-cast-t4
 cast-t4 c = record { fits = plots-key (c .before .args .f) _ (c .before .pre) }
 
-lawful-record-requires : tie.Need-lawful-record-requires
-lawful-record-requires c κs = search needs
-
 returns : tie.Need-returns
 returns c = c .lawful-record .ensures ∙ plots (c .before .before .args .f) (c .before .before .args .item)
 
 pub lawful-item-spec : {M : Type 1} → statement M
-lawful-item-spec = tie.close (tie.spec cast-t4 lawful-record-requires returns)
+lawful-item-spec = tie.close (tie.spec cast-t4 (λ c κs. search needs) returns)

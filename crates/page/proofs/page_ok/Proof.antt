@@ -45,28 +45,16 @@ module _ (w x : ℕ) (few : w ≤ 4) (fit : x ≤ 64) where
   end : (y : ℕ) → y ≤ 64 → 1 + w * x + w * y < 2 ^ 63
   end y q = omega (arith, mul-le-mul {m₂ = 64} few fit, mul-le-mul {m₂ = 64} few q)
 
-count-of-requires : tie.Need-count-of-requires
-count-of-requires c κs = search needs
-
-to-index-requires : tie.Need-to-index-requires
-to-index-requires c κs = search needs
-
 returns : tie.Need-returns
 returns c = broken _ _ _ (λ h. omega (arith, h .some))
 
 returns-2 : tie.Need-returns-2
 returns-2 c = broken _ _ _ (λ h. omega (arith, h .fits))
 
-in-order-requires : tie.Need-in-order-requires
-in-order-requires c κs = search needs
-
 returns-3 : tie.Need-returns-3
 returns-3 c =
     disordered _ _ _ (c .before .before .before .before .before .count-of .ensures .0)
     (failed (c .before .in-order .ensures) (c .if3 .taken))
-
-words-of-requires : tie.Need-words-of-requires
-words-of-requires c κs = search needs
 
 mul-all-zero : tie.Need-mul-all-zero
 mul-all-zero c = record { fits = product _ _ (c .words-of .ensures .2) (omega arith) }
@@ -93,5 +81,5 @@ returns-4 c =
 pub page-ok-spec : {M : Type 1} → statement M
 page-ok-spec =
     tie.close
-    (tie.spec count-of-requires to-index-requires returns returns-2 in-order-requires returns-3 words-of-requires mul-all-zero add-all-zero
-    mul-all-zero-2 all-zero-requires returns-4)
+    (tie.spec (λ c κs. search needs) (λ c κs. search needs) returns returns-2 (λ c κs. search needs) returns-3 (λ c κs. search needs)
+    mul-all-zero add-all-zero mul-all-zero-2 all-zero-requires returns-4)

@@ -6,9 +6,6 @@ use Rattle.page.proofs.Flat.{plot-words, written}
 use Rattle.page.proofs.write_item.Statement.{statement}
 use Rattle.page.proofs.write_item.Tie as tie
 
-low-word-requires : tie.Need-low-word-requires
-low-word-requires c κs = search needs
-
 slice-write-part : tie.Need-slice-write-part
 slice-write-part c = omega (arith, plot-words (c .before .before .args .f))
 
@@ -30,4 +27,4 @@ returns c = written _ _ _ _ (c .low-word .ensures) (c .before .before .pre)
 pub write-item-spec : {M : Type 1} → statement M
 write-item-spec =
     tie.close
-    (tie.spec low-word-requires slice-write-part slice-write-part-2 slice-write-part-3 slice-write-part-4 same-length returns)
+    (tie.spec (λ c κs. search needs) slice-write-part slice-write-part-2 slice-write-part-3 slice-write-part-4 same-length returns)

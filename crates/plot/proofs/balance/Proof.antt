@@ -19,14 +19,8 @@ lawful c = (
   passed (c .before .lawful-day .ensures) (c .if2 .left),
 )
 
-lawful-term-requires : tie.Need-lawful-term-requires
-lawful-term-requires c κs = search needs
-
 returns : tie.Need-returns
 returns c = term-refused _ _ _ _ (failed (c .before .lawful-term .ensures) (c .if1 .taken))
-
-lawful-day-requires : tie.Need-lawful-day-requires
-lawful-day-requires c κs = search needs
 
 returns-2 : tie.Need-returns-2
 returns-2 c = today-refused _ _ _ _ (failed (c .before .lawful-day .ensures) (c .if2 .taken))
@@ -34,15 +28,6 @@ returns-2 c = today-refused _ _ _ _ (failed (c .before .lawful-day .ensures) (c 
 returns-3 : tie.Need-returns-3
 returns-3 c =
     balance-given _ _ _ _ (lawful (c .before) .0) (lawful (c .before) .1) (sym (amount-perpetual _ _ _ _ (c .if3 .taken)))
-
-days-left-requires : tie.Need-days-left-requires
-days-left-requires c κs = search needs
-
-wide-product-requires : tie.Need-wide-product-requires
-wide-product-requires c κs = search needs
-
-div-t10 : tie.Need-div-t10
-div-t10 c = search needs
 
 returns-4 : tie.Need-returns-4
 returns-4 c =
@@ -60,5 +45,5 @@ cast-t11 c =
 pub balance-spec : {M : Type 1} → statement M
 balance-spec =
     tie.close
-    (tie.spec lawful-term-requires returns lawful-day-requires returns-2 returns-3 days-left-requires wide-product-requires div-t10
-    cast-t11 returns-4)
+    (tie.spec (λ c κs. search needs) returns (λ c κs. search needs) returns-2 returns-3 (λ c κs. search needs) (λ c κs. search needs)
+    (λ c. search needs) cast-t11 returns-4)

@@ -9,9 +9,6 @@ returns : tie.Need-returns
 unfolding daysLeft
 returns c = omega arith
 
-sub-left : tie.Need-sub-left
-sub-left c = search needs
-
 returns-2 : tie.Need-returns-2
 unfolding daysLeft
 returns-2 c = omega arith
@@ -21,4 +18,4 @@ unfolding daysLeft
 returns-3 c = omega arith
 
 pub days-left-spec : {M : Type 1} → statement M
-days-left-spec = tie.close (tie.spec returns sub-left returns-2 returns-3)
+days-left-spec = tie.close (tie.spec returns (λ c. search needs) returns-2 returns-3)

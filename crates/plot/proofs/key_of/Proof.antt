@@ -18,18 +18,6 @@ returns-3 c = key-refused (λ h. omega arith)
 returns-4 : tie.Need-returns-4
 returns-4 c = key-refused (λ h. omega arith)
 
-mul-t6 : tie.Need-mul-t6
-mul-t6 c = search needs
-
-mul-t7 : tie.Need-mul-t7
-mul-t7 c = search needs
-
-add-t8 : tie.Need-add-t8
-add-t8 c = search needs
-
-add-t9 : tie.Need-add-t9
-add-t9 c = search needs
-
 returns-5 : tie.Need-returns-5
 unfolding pack
 returns-5 c =
@@ -38,4 +26,5 @@ returns-5 c =
 pub key-of-spec : {M : Type 1} → statement M
 key-of-spec =
     tie.close
-    (tie.spec returns returns-2 returns-3 returns-4 mul-t6 mul-t7 add-t8 add-t9 returns-5)
+    (tie.spec returns returns-2 returns-3 returns-4 (λ c. search needs) (λ c. search needs) (λ c. search needs) (λ c. search needs)
+    returns-5)

@@ -13,9 +13,6 @@ returns : tie.Need-returns
 unfolding lawful
 returns c = simp (eq-eqb (c .before .before .args .«record» .key) 0 (omega arith), and-false)
 
-lawful-term-requires : tie.Need-lawful-term-requires
-lawful-term-requires c κs = search needs
-
 returns-2 : tie.Need-returns-2
 unfolding lawful isWord
 returns-2 c =
@@ -24,4 +21,4 @@ returns-2 c =
     (c .lawful-term .ensures)
 
 pub lawful-record-spec : {M : Type 1} → statement M
-lawful-record-spec = tie.close (tie.spec returns lawful-term-requires returns-2)
+lawful-record-spec = tie.close (tie.spec returns (λ c κs. search needs) returns-2)

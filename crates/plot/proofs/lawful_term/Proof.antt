@@ -16,9 +16,6 @@ returns-2 c =
     let lease = c .before .before .args .lease in
     rw (ne-eqb lease 0 (omega arith), lt-leb lease largestLease (omega arith), lawfulTerm)
 
-lawful-day-requires : tie.Need-lawful-day-requires
-lawful-day-requires c κs = search needs
-
 returns-3 : tie.Need-returns-3
 unfolding lawfulTerm
 returns-3 c =
@@ -26,4 +23,4 @@ returns-3 c =
     rw (ne-eqb lease 0 (omega arith), le-leb lease largestLease (omega arith), lawfulTerm) (c .lawful-day .ensures)
 
 pub lawful-term-spec : {M : Type 1} → statement M
-lawful-term-spec = tie.close (tie.spec returns returns-2 lawful-day-requires returns-3)
+lawful-term-spec = tie.close (tie.spec returns returns-2 (λ c κs. search needs) returns-3)

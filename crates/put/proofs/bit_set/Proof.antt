@@ -5,12 +5,9 @@ use Rattle.lists.specs.Bits.{bit}
 use Rattle.put.proofs.bit_set.Statement.{statement}
 use Rattle.put.proofs.bit_set.Tie as tie
 
-shr-result : tie.Need-shr-result
-shr-result c = search needs
-
 returns : tie.Need-returns
 unfolding bit
 returns c = refl
 
 pub bit-set-spec : {M : Type 1} → statement M
-bit-set-spec = tie.close (tie.spec shr-result returns)
+bit-set-spec = tie.close (tie.spec (λ c. search needs) returns)

@@ -19,30 +19,6 @@ loop-holds c =
     let a = c .args in
     (omega arith, refl, copy-none (a .store .now) (a .from) (a .to))
 
-add-store : tie.Need-add-store Inv-loop μ-loop
-add-store c = search needs
-
-mul-store : tie.Need-mul-store Inv-loop μ-loop
-mul-store c = search needs
-
-slice-read-store : tie.Need-slice-read-store Inv-loop μ-loop
-slice-read-store c = search needs
-
-add-store-2 : tie.Need-add-store-2 Inv-loop μ-loop
-add-store-2 c = search needs
-
-mul-store-2 : tie.Need-mul-store-2 Inv-loop μ-loop
-mul-store-2 c = search needs
-
-slice-write-store : tie.Need-slice-write-store Inv-loop μ-loop
-slice-write-store c = search needs
-
-add-j : tie.Need-add-j Inv-loop μ-loop
-add-j c = search needs
-
-loop-less : tie.Need-loop-less Inv-loop μ-loop
-loop-less c = search needs
-
 loop-again : tie.Need-loop-again Inv-loop μ-loop
 loop-again c =
     let l = c .before .before .loop in
@@ -54,9 +30,6 @@ loop-again c =
       copy-turn (a .store .now) (a .from) (a .to) (a .n) (l .j) (l .store) (p .0) (p .1) (p .2) (c .before .loop-test .taken) (l .inv .2),
     )
 
-same-length : tie.Need-same-length Inv-loop μ-loop
-same-length c = search needs
-
 returns : tie.Need-returns Inv-loop μ-loop
 returns c =
     let l = c .before .loop in
@@ -67,5 +40,5 @@ returns c =
 pub copy-words-spec : {M : Type 1} → statement M
 copy-words-spec =
     tie.close
-    (tie.spec Inv-loop μ-loop loop-holds add-store mul-store slice-read-store add-store-2 mul-store-2 slice-write-store add-j loop-less
-    loop-again same-length returns)
+    (tie.spec Inv-loop μ-loop loop-holds (λ c. search needs) (λ c. search needs) (λ c. search needs) (λ c. search needs) (λ c. search needs)
+    (λ c. search needs) (λ c. search needs) (λ c. search needs) loop-again (λ c. search needs) returns)

@@ -29,77 +29,17 @@ fits c =
     copy-fits (a .f) (a .capacity) (a .from) (a .to) (a .i) (w .result) (c .before .to-index .result) (a .store .now) (start .pre)
     (w .ensures .0) (count-is (c .before))
 
-words-of-requires : tie.Need-words-of-requires
-words-of-requires c κs = search needs
-
-word-requires : tie.Need-word-requires
-word-requires c κs = search needs
-
-to-index-requires : tie.Need-to-index-requires
-to-index-requires c κs = search needs
-
-page-words-requires : tie.Need-page-words-requires
-page-words-requires c κs = search needs
-
-sub-high : tie.Need-sub-high
-sub-high c = search needs
-
-add-copy-words : tie.Need-add-copy-words
-add-copy-words c = search needs
-
 mul-copy-words : tie.Need-mul-copy-words
 mul-copy-words c = omega (arith, fits (c .before) .0)
 
 add-copy-words-2 : tie.Need-add-copy-words-2
 add-copy-words-2 c = omega (arith, fits (c .before) .0)
 
-add-copy-words-3 : tie.Need-add-copy-words-3
-add-copy-words-3 c = search needs
-
 mul-copy-words-2 : tie.Need-mul-copy-words-2
 mul-copy-words-2 c = omega (arith, fits (c .before) .0)
 
 copy-words-requires : tie.Need-copy-words-requires
 copy-words-requires c κs = fits (c .before)
-
-add-from-end : tie.Need-add-from-end
-add-from-end c = search needs
-
-mul-cut-page : tie.Need-mul-cut-page
-mul-cut-page c = search needs
-
-sub-cut-page : tie.Need-sub-cut-page
-sub-cut-page c = search needs
-
-part-cut-page-start : tie.Need-part-cut-page-start
-part-cut-page-start c = search needs
-
-part-cut-page-end : tie.Need-part-cut-page-end
-part-cut-page-end c = search needs
-
-cut-page-requires : tie.Need-cut-page-requires
-cut-page-requires c κs = search needs
-
-add-to-end : tie.Need-add-to-end
-add-to-end c = search needs
-
-mul-cut-page-2 : tie.Need-mul-cut-page-2
-mul-cut-page-2 c = search needs
-
-sub-cut-page-2 : tie.Need-sub-cut-page-2
-sub-cut-page-2 c = search needs
-
-part-cut-page-start-2 : tie.Need-part-cut-page-start-2
-part-cut-page-start-2 c = search needs
-
-part-cut-page-end-2 : tie.Need-part-cut-page-end-2
-part-cut-page-end-2 c = search needs
-
-cut-page-requires-2 : tie.Need-cut-page-requires-2
-cut-page-requires-2 c κs = search needs
-
-same-length : tie.Need-same-length
-same-length c = search needs
 
 returns : tie.Need-returns
 returns c rs is =
@@ -124,7 +64,7 @@ returns c rs is =
 pub halve-page-spec : {M : Type 1} → statement M
 halve-page-spec =
     tie.close
-    (tie.spec words-of-requires word-requires to-index-requires page-words-requires sub-high add-copy-words mul-copy-words add-copy-words-2
-    add-copy-words-3 mul-copy-words-2 copy-words-requires add-from-end mul-cut-page sub-cut-page part-cut-page-start part-cut-page-end
-    cut-page-requires add-to-end mul-cut-page-2 sub-cut-page-2 part-cut-page-start-2 part-cut-page-end-2 cut-page-requires-2 same-length
-    returns)
+    (tie.spec (λ c κs. search needs) (λ c κs. search needs) (λ c κs. search needs) (λ c κs. search needs) (λ c. search needs)
+    (λ c. search needs) mul-copy-words add-copy-words-2 (λ c. search needs) mul-copy-words-2 copy-words-requires (λ c. search needs)
+    (λ c. search needs) (λ c. search needs) (λ c. search needs) (λ c. search needs) (λ c κs. search needs) (λ c. search needs)
+    (λ c. search needs) (λ c. search needs) (λ c. search needs) (λ c. search needs) (λ c κs. search needs) (λ c. search needs) returns)

@@ -25,14 +25,8 @@ Inv-loop page f bit n i₀ i = (i ≤ n) × ((j : ℕ) → j < i → bitOf bit (
 abbrev μ-loop : tie.MeasureT-loop
 μ-loop page f bit n i₀ i = n - i
 
-count-of-requires : tie.Need-count-of-requires Inv-loop μ-loop
-count-of-requires c κs = search needs
-
 loop-holds : tie.Need-loop-holds Inv-loop μ-loop
 loop-holds c = (search needs, below-none _)
-
-read-one-requires : tie.Need-read-one-requires Inv-loop μ-loop
-read-one-requires c κs = search needs
 
 bit-set-requires : tie.Need-bit-set-requires Inv-loop μ-loop
 bit-set-requires c κs = omega (arith, width-small (c .before .before .before .before .before .args .f))
@@ -43,12 +37,6 @@ returns c = (
   λ C q rs is lawful. low-first _ C _ rs is lawful _ q _ (search needs) (c .before .before .before .before .loop .inv .1)
       (λ l. seen _ _ _ _ (c .before .before .read-one .ensures) (c .before .bit-set .ensures) (c .if1 .taken)),
 )
-
-add-i : tie.Need-add-i Inv-loop μ-loop
-add-i c = search needs
-
-loop-less : tie.Need-loop-less Inv-loop μ-loop
-loop-less c = search needs
 
 loop-again : tie.Need-loop-again Inv-loop μ-loop
 loop-again c = (
@@ -66,4 +54,5 @@ returns-2 c = (
 pub low-count-spec : {M : Type 1} → statement M
 low-count-spec =
     tie.close
-    (tie.spec Inv-loop μ-loop count-of-requires loop-holds read-one-requires bit-set-requires returns add-i loop-less loop-again returns-2)
+    (tie.spec Inv-loop μ-loop (λ c κs. search needs) loop-holds (λ c κs. search needs) bit-set-requires returns (λ c. search needs)
+    (λ c. search needs) loop-again returns-2)

@@ -31,15 +31,6 @@ room c =
     room-more (a .f) (a .capacity) (c .words-of .result) (n .result) (length (a .part .now)) (c .words-of .ensures .0) (start .pre .0)
     (c .before .first-above .result) (within (c .before)) (omega (arith, n .ensures .0, start .pre .1))
 
-count-of-requires : tie.Need-count-of-requires
-count-of-requires c κs = search needs
-
-first-above-requires : tie.Need-first-above-requires
-first-above-requires c κs = search needs
-
-words-of-requires : tie.Need-words-of-requires
-words-of-requires c κs = search needs
-
 mul-at : tie.Need-mul-at
 mul-at c = omega (arith, room c)
 
@@ -69,20 +60,11 @@ sub-write-item c = omega (arith, room (c .before .before .before .before), moved
 part-write-item-start : tie.Need-part-write-item-start
 part-write-item-start c = omega (arith, room (c .before .before .before .before), moved-long (c .before .before))
 
-part-write-item-end : tie.Need-part-write-item-end
-part-write-item-end c = search needs
-
 write-item-requires : tie.Need-write-item-requires
 write-item-requires c κs =
     let m = c .before .before .before in
     let w = m .before .before in
     end-room (m .move-up .last .0) (at w) _ (omega (arith, room w, moved-long m, w .words-of .ensures .0))
-
-add-part : tie.Need-add-part
-add-part c = search needs
-
-cast-part : tie.Need-cast-part
-cast-part c = search needs
 
 -- the page with the record written, and its old count
 abbrev written : tie.After-write-item → List ℕ
@@ -125,6 +107,6 @@ returns c rs is lawful =
 pub put-record-spec : {M : Type 1} → statement M
 put-record-spec =
     tie.close
-    (tie.spec count-of-requires first-above-requires words-of-requires mul-at add-at sub-move-up mul-move-up move-up-requires
-    mul-write-item sub-write-item part-write-item-start part-write-item-end write-item-requires add-part cast-part slice-write-part
-    same-length returns)
+    (tie.spec (λ c κs. search needs) (λ c κs. search needs) (λ c κs. search needs) mul-at add-at sub-move-up mul-move-up move-up-requires
+    mul-write-item sub-write-item part-write-item-start (λ c. search needs) write-item-requires (λ c. search needs) (λ c. search needs)
+    slice-write-part same-length returns)

@@ -20,9 +20,6 @@ room c =
     let a = start .args in
     omega (arith, long c, room-for (a .f) (a .capacity) _ 1 (length (a .part .now)) refl (start .pre .1) (start .pre .0))
 
-clear-requires : tie.Need-clear-requires
-clear-requires c κs = search needs
-
 slice-write-part : tie.Need-slice-write-part
 slice-write-part c = omega (arith, room (c .before .before))
 
@@ -31,9 +28,6 @@ sub-write-item c = simp length-set (omega (arith, room (c .before .before)))
 
 part-write-item-start : tie.Need-part-write-item-start
 part-write-item-start c = simp length-set (omega (arith, room (c .before .before)))
-
-part-write-item-end : tie.Need-part-write-item-end
-part-write-item-end c = search needs
 
 write-item-requires : tie.Need-write-item-requires
 write-item-requires c κs =
@@ -59,5 +53,5 @@ returns c =
 pub write-first-spec : {M : Type 1} → statement M
 write-first-spec =
     tie.close
-    (tie.spec clear-requires slice-write-part sub-write-item part-write-item-start part-write-item-end write-item-requires same-length
-    returns)
+    (tie.spec (λ c κs. search needs) slice-write-part sub-write-item part-write-item-start (λ c. search needs) write-item-requires
+    same-length returns)

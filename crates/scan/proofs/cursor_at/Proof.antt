@@ -9,28 +9,13 @@ use Rattle.scan.proofs.cursor_at.Tie as tie
 enum-told : tie.Need-enum-told
 enum-told c = search needs
 
-past-last-requires : tie.Need-past-last-requires
-past-last-requires c κs = search needs
-
 returns : tie.Need-returns
 unfolding cursorAt
 returns c = c .past-last .ensures ∙ sym (ap (cursorAt _) (c .before .enum-told .given .1))
 
-enum-told-2 : tie.Need-enum-told-2
-enum-told-2 c = search needs
-
-past-last-requires-2 : tie.Need-past-last-requires-2
-past-last-requires-2 c κs = search needs
-
 returns-2 : tie.Need-returns-2
 unfolding cursorAt
 returns-2 c = c .past-last2 .ensures ∙ sym (ap (cursorAt _) (c .before .enum-told2 .given .1))
-
-enum-known-a : tie.Need-enum-known-a
-enum-known-a c = search needs
-
-past-last-requires-3 : tie.Need-past-last-requires-3
-past-last-requires-3 c κs = search needs
 
 returns-3 : tie.Need-returns-3
 returns-3 c =
@@ -42,5 +27,5 @@ returns-4 c = sym (ap (cursorAt _) (c .before .before .before .a .given .1) ∙ 
 pub cursor-at-spec : {M : Type 1} → statement M
 cursor-at-spec =
     tie.close
-    (tie.spec enum-told past-last-requires returns enum-told-2 past-last-requires-2 returns-2 enum-known-a past-last-requires-3 returns-3
-    returns-4)
+    (tie.spec enum-told (λ c κs. search needs) returns (λ c. search needs) (λ c κs. search needs) returns-2 (λ c. search needs)
+    (λ c κs. search needs) returns-3 returns-4)

@@ -59,21 +59,12 @@ start : (f : Format) (out : List ℕ) → out ≡ flat f [] ++ drop 0 out
 unfolding flat
 start f out = refl
 
-words-of-requires : tie.Need-words-of-requires Inv-loop μ-loop
-words-of-requires c κs = search needs
-
 loop-holds : tie.Need-loop-holds Inv-loop μ-loop
 loop-holds c =
     let a = c .before .before .before .args in
     let z : words (a .f) * 0 ≡ 0 = omega arith in
     let n : a .n - 0 ≡ a .n = omega arith in
     rw (z, n) ([], refl, omega arith, refl, refl, start (a .f) (a .out .now), refl, c .words-of .ensures .0)
-
-next-under-requires : tie.Need-next-under-requires Inv-loop μ-loop
-next-under-requires c κs = search needs
-
-enum-known-a : tie.Need-enum-known-a Inv-loop μ-loop
-enum-known-a c = search needs
 
 mul-write-item : tie.Need-mul-write-item Inv-loop μ-loop
 mul-write-item c = let r = room (c .before .before .before .before) in search needs
@@ -96,12 +87,6 @@ add-at : tie.Need-add-at Inv-loop μ-loop
 add-at c =
     let t = c .before .before .before .before .before .before .before .before in
     omega (arith, room t, t .before .loop .inv .7)
-
-add-i : tie.Need-add-i Inv-loop μ-loop
-add-i c = search needs
-
-loop-less : tie.Need-loop-less Inv-loop μ-loop
-loop-less c = search needs
 
 loop-again : tie.Need-loop-again Inv-loop μ-loop
 loop-again c =
@@ -139,9 +124,6 @@ returns c =
     absurd
     (not-short (c .before .before) (firsts-none _ _ _ _ _ _ (sym (c .before .before .next-under .ensures) ∙ c .enum-told .given .1)))
 
-enum-told-2 : tie.Need-enum-told-2 Inv-loop μ-loop
-enum-told-2 c = search needs
-
 same-length-2 : tie.Need-same-length-2 Inv-loop μ-loop
 same-length-2 c = c .before .before .before .before .loop .inv .4
 
@@ -162,6 +144,6 @@ returns-3 c =
 pub fill-spec : {M : Type 1} → statement M
 fill-spec =
     tie.close
-    (tie.spec Inv-loop μ-loop words-of-requires loop-holds next-under-requires enum-known-a mul-write-item sub-write-item
-    part-write-item-start part-write-item-end write-item-requires add-at add-i loop-less loop-again enum-told same-length returns
-    enum-told-2 same-length-2 returns-2 same-length-3 returns-3)
+    (tie.spec Inv-loop μ-loop (λ c κs. search needs) loop-holds (λ c κs. search needs) (λ c. search needs) mul-write-item sub-write-item
+    part-write-item-start part-write-item-end write-item-requires add-at (λ c. search needs) (λ c. search needs) loop-again enum-told
+    same-length returns (λ c. search needs) same-length-2 returns-2 same-length-3 returns-3)

@@ -25,9 +25,6 @@ abbrev μ-loop : tie.MeasureT-loop
 room-left : (c : tie.Then1 Inv-loop μ-loop) → c .before .before .loop .count < c .before .before .before .before .before .args .room
 room-left c = ltb-true _ _ (c .if1 .taken)
 
-seek-requires : tie.Need-seek-requires Inv-loop μ-loop
-seek-requires c κs = search needs
-
 -- there is no room, or no record
 over : (c : tie.Left-loop Inv-loop μ-loop)
     → (c .before .before .before .before .args .room - c .before .loop .count ≡ 0) ⊎ (c .before .loop .c .more ≡ false)
@@ -46,9 +43,6 @@ loop-holds c =
 add-count : tie.Need-add-count Inv-loop μ-loop
 add-count c = omega (arith, room-left c)
 
-seek-requires-2 : tie.Need-seek-requires-2 Inv-loop μ-loop
-seek-requires-2 c κs = search needs
-
 loop-less : tie.Need-loop-less Inv-loop μ-loop
 loop-less c = omega (arith, room-left (c .before))
 
@@ -63,9 +57,6 @@ loop-again c =
       sym (range-next _ _ _ _ (l .inv .0) (l .c) (l .count) _ (l .inv .1) more (room-left (c .before))) ∙ l .inv .3,
     )
 
-listing-of-requires : tie.Need-listing-of-requires Inv-loop μ-loop
-listing-of-requires c κs = search needs
-
 returns : tie.Need-returns Inv-loop μ-loop
 returns c =
     let l = c .before .before .loop in
@@ -77,4 +68,5 @@ returns c =
 pub list-spec : {M : Type 1} → statement M
 list-spec =
     tie.close
-    (tie.spec Inv-loop μ-loop seek-requires loop-holds add-count seek-requires-2 loop-less loop-again listing-of-requires returns)
+    (tie.spec Inv-loop μ-loop (λ c κs. search needs) loop-holds add-count (λ c κs. search needs) loop-less loop-again (λ c κs. search needs)
+    returns)

@@ -14,21 +14,12 @@ use Rattle.scan.proofs.seek.Tie as tie
 reads : (c : tie.Joined1) → let a = c .before .before .args in (a .strict && eqb (a .key) (a .high)) ≡ false
 reads c = elim (c .if1 .came) [ inl w ↦ rw (w .0 .taken) (ne-eqb _ _ (w .1 .left)) | inr w ↦ rw (w .left) ]
 
-past-last-requires : tie.Need-past-last-requires
-past-last-requires c κs = search needs
-
 returns : tie.Need-returns
 returns c = c .past-last .ensures ∙ sym (seek-stops _ _ _ _ _ _ (c .before .before .if1 .taken) (c .before .if2 .taken))
-
-next-under-requires : tie.Need-next-under-requires
-next-under-requires c κs = search needs
-
-cursor-at-requires : tie.Need-cursor-at-requires
-cursor-at-requires c κs = search needs
 
 returns-2 : tie.Need-returns-2
 returns-2 c =
     c .cursor-at .ensures ∙ ap (cursorAt _) (c .before .next-under .ensures) ∙ sym (seek-reads _ _ _ _ _ _ (reads (c .before .before)))
 
 pub seek-spec : {M : Type 1} → statement M
-seek-spec = tie.close (tie.spec past-last-requires returns next-under-requires cursor-at-requires returns-2)
+seek-spec = tie.close (tie.spec (λ c κs. search needs) returns (λ c κs. search needs) (λ c κs. search needs) returns-2)

@@ -8,12 +8,9 @@ returns : tie.Need-returns
 unfolding summingOf
 returns c = rw (c .if1 .taken, summingOf)
 
-no-totals-requires : tie.Need-no-totals-requires
-no-totals-requires c κs = search needs
-
 returns-2 : tie.Need-returns-2
 unfolding summingOf damage
 returns-2 c = rw (c .before .if1 .left, c .no-totals .ensures, summingOf)
 
 pub summing-of-spec : {M : Type 1} → statement M
-summing-of-spec = tie.close (tie.spec returns no-totals-requires returns-2)
+summing-of-spec = tie.close (tie.spec returns (λ c κs. search needs) returns-2)

@@ -4,19 +4,10 @@ use Rattle.search.proofs.NextLaws.{depth-small, own-is}
 use Rattle.search.proofs.after_own.Statement.{statement}
 use Rattle.search.proofs.after_own.Tie as tie
 
-node-start-requires : tie.Need-node-start-requires
-node-start-requires c κs = search needs
-
-word-requires : tie.Need-word-requires
-word-requires c κs = search needs
-
 run-after-requires : tie.Need-run-after-requires
 run-after-requires c κs =
     let p = c .before .before .before in
     depth-small (p .args .store .now) _ _ (c .before .node-start .ensures .0) (c .word .ensures) (p .pre .3) (p .pre .0)
-
-follow-from-requires : tie.Need-follow-from-requires
-follow-from-requires c κs = search needs
 
 returns : tie.Need-returns
 returns c =
@@ -25,6 +16,4 @@ returns c =
     (c .before .run-after .ensures .0) (c .follow-from .ensures)
 
 pub after-own-spec : {M : Type 1} → statement M
-after-own-spec =
-    tie.close
-    (tie.spec node-start-requires word-requires run-after-requires follow-from-requires returns)
+after-own-spec = tie.close (tie.spec (λ c κs. search needs) (λ c κs. search needs) run-after-requires (λ c κs. search needs) returns)

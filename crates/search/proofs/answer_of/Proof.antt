@@ -5,14 +5,8 @@ use Rattle.search.specs.Find.{soughtReply}
 use Rattle.search.proofs.answer_of.Statement.{statement}
 use Rattle.search.proofs.answer_of.Tie as tie
 
-enum-known-sought : tie.Need-enum-known-sought
-enum-known-sought c = search needs
-
 enum-told : tie.Need-enum-told
 enum-told c = search needs
-
-enum-told-2 : tie.Need-enum-told-2
-enum-told-2 c = search needs
 
 returns : tie.Need-returns
 returns c = sym (ap soughtReply (c .before .sought .given .1))
@@ -24,5 +18,4 @@ returns-3 : tie.Need-returns-3
 returns-3 c = sym (ap soughtReply (c .enum-told2 .given .1))
 
 pub answer-of-spec : {M : Type 1} → statement M
-answer-of-spec =
-    tie.close (tie.spec enum-known-sought enum-told enum-told-2 returns returns-2 returns-3)
+answer-of-spec = tie.close (tie.spec (λ c. search needs) enum-told (λ c. search needs) returns returns-2 returns-3)

@@ -18,21 +18,9 @@ Inv-loop store f head key steps₀ node₀ used₀ level₀ steps node used leve
 abbrev μ-loop : tie.MeasureT-loop
 μ-loop store f head key steps₀ node₀ used₀ level₀ steps node used level = level
 
-to-index-requires : tie.Need-to-index-requires Inv-loop μ-loop
-to-index-requires c κs = search needs
-
 loop-holds : tie.Need-loop-holds Inv-loop μ-loop
 unfolding descent noSteps
 loop-holds c = (omega arith, omega arith, rw (c .to-index .ensures .0))
-
-cast-visit-node : tie.Need-cast-visit-node Inv-loop μ-loop
-cast-visit-node c = search needs
-
-visit-node-requires : tie.Need-visit-node-requires Inv-loop μ-loop
-visit-node-requires c κs = search needs
-
-lost-way-requires : tie.Need-lost-way-requires Inv-loop μ-loop
-lost-way-requires c κs = search needs
 
 returns : tie.Need-returns Inv-loop μ-loop
 unfolding lost
@@ -44,22 +32,10 @@ returns c =
       omega arith,
     )
 
-sub-level : tie.Need-sub-level Inv-loop μ-loop
-sub-level c = search needs
-
-mul-steps : tie.Need-mul-steps Inv-loop μ-loop
-mul-steps c = search needs
-
-array-set-from-steps : tie.Need-array-set-from-steps Inv-loop μ-loop
-array-set-from-steps c = search needs
-
 add-used : tie.Need-add-used Inv-loop μ-loop
 add-used c =
     let p = c .before .before .before in
     omega (arith, width-within (p .before .before .before .before .before .args .f), p .visit-node .ensures .1)
-
-loop-less : tie.Need-loop-less Inv-loop μ-loop
-loop-less c = search needs
 
 loop-again : tie.Need-loop-again Inv-loop μ-loop
 unfolding stepTaken
@@ -77,5 +53,5 @@ returns-2 c = (turn-out _ _ _ _ _ _ _ _ (omega arith) _ (c .before .loop .inv .2
 pub descend-spec : {M : Type 1} → statement M
 descend-spec =
     tie.close
-    (tie.spec Inv-loop μ-loop to-index-requires loop-holds cast-visit-node visit-node-requires lost-way-requires returns sub-level
-    mul-steps array-set-from-steps add-used loop-less loop-again returns-2)
+    (tie.spec Inv-loop μ-loop (λ c κs. search needs) loop-holds (λ c. search needs) (λ c κs. search needs) (λ c κs. search needs) returns
+    (λ c. search needs) (λ c. search needs) (λ c. search needs) add-used (λ c. search needs) loop-again returns-2)

@@ -13,21 +13,12 @@ use Rattle.search.proofs.find.Tie as tie
 ruled : (c : tie.Else1) → let a = c .before .before .before .args in headRule (a .f) (a .store .now) ≡ true
 ruled c = passed (c .before .head-ok .ensures) (c .if1 .left)
 
-head-ok-requires : tie.Need-head-ok-requires
-head-ok-requires c κs = search needs
-
 returns : tie.Need-returns
 unfolding findReply
 returns c = broken _ _ _ (failed (c .before .head-ok .ensures) (c .if1 .taken))
 
-head-of-requires : tie.Need-head-of-requires
-head-of-requires c κs = search needs
-
 find-under-requires : tie.Need-find-under-requires
 find-under-requires c κs = let l = head-limits _ _ (ruled (c .before)) in rw (c .head-of .ensures) (l .0, l .1, l .4)
-
-answer-of-requires : tie.Need-answer-of-requires
-answer-of-requires c κs = search needs
 
 returns-2 : tie.Need-returns-2
 unfolding findReply
@@ -36,4 +27,4 @@ returns-2 c =
     ∙ answered _ _ _ (ruled (c .before .before .before))
 
 pub find-spec : {M : Type 1} → statement M
-find-spec = tie.close (tie.spec head-ok-requires returns head-of-requires find-under-requires answer-of-requires returns-2)
+find-spec = tie.close (tie.spec (λ c κs. search needs) returns (λ c κs. search needs) find-under-requires (λ c κs. search needs) returns-2)

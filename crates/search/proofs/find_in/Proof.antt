@@ -14,19 +14,10 @@ within : (c : tie.Else1)
     → let p = c .before .before in true ≡ ltb (p .first-above .result) (count (p .before .before .args .page .now))
 within c = sym (rw (c .before .count-of .ensures .0) at (lt-ltb _ _ (c .if1 .left)))
 
-first-above-requires : tie.Need-first-above-requires
-first-above-requires c κs = search needs
-
-count-of-requires : tie.Need-count-of-requires
-count-of-requires c κs = search needs
-
 returns : tie.Need-returns
 returns c =
     in-page-is _ _ _ _ _ false _ (c .before .before .first-above .ensures .0) refl
     (sym (rw (c .before .count-of .ensures .0) at (le-ltb _ _ (c .if1 .taken)))) refl
-
-read-one-requires : tie.Need-read-one-requires
-read-one-requires c κs = search needs
 
 returns-2 : tie.Need-returns-2
 returns-2 c =
@@ -41,6 +32,4 @@ returns-3 c =
     (sym (eq-eqb _ _ (c .if2 .left)))
 
 pub find-in-spec : {M : Type 1} → statement M
-find-in-spec =
-    tie.close
-    (tie.spec first-above-requires count-of-requires returns read-one-requires returns-2 returns-3)
+find-in-spec = tie.close (tie.spec (λ c κs. search needs) (λ c κs. search needs) returns (λ c κs. search needs) returns-2 returns-3)

@@ -19,9 +19,6 @@ led c =
       page = c .page-at .ensures;
     }
 
-descend-requires : tie.Need-descend-requires
-descend-requires c κs = search needs
-
 returns : tie.Need-returns
 returns c = find-lost _ _ _ _ _ (c .before .before .descend .ensures .0) (not-true _ (c .if1 .taken))
 
@@ -30,17 +27,8 @@ returns-2 c =
     find-null _ _ _ _ _ (c .before .before .before .before .descend .ensures .0) (not-false _ (c .before .before .if1 .left))
     (c .if2 .taken)
 
-page-at-requires : tie.Need-page-at-requires
-page-at-requires c κs = search needs
-
-page-sound-requires : tie.Need-page-sound-requires
-page-sound-requires c κs = search needs
-
 returns-3 : tie.Need-returns-3
 returns-3 c = find-unsound (led (c .before .before)) (failed (c .before .page-sound .ensures) (c .if3 .taken))
-
-find-in-requires : tie.Need-find-in-requires
-find-in-requires c κs = search needs
 
 returns-4 : tie.Need-returns-4
 returns-4 c =
@@ -50,4 +38,5 @@ returns-4 c =
 pub find-under-spec : {M : Type 1} → statement M
 find-under-spec =
     tie.close
-    (tie.spec descend-requires returns returns-2 page-at-requires page-sound-requires returns-3 find-in-requires returns-4)
+    (tie.spec (λ c κs. search needs) returns returns-2 (λ c κs. search needs) (λ c κs. search needs) returns-3 (λ c κs. search needs)
+    returns-4)

@@ -18,32 +18,14 @@ Inv-loop store f head strict key first start n₀ i₀ turns₀ n i turns =
 abbrev μ-loop : tie.MeasureT-loop
 μ-loop store f head strict key first start n₀ i₀ turns₀ n i turns = turns
 
-add-turns : tie.Need-add-turns Inv-loop μ-loop
-add-turns c = search needs
-
 loop-holds : tie.Need-loop-holds Inv-loop μ-loop
 loop-holds c = (omega arith, c .before .before .pre .3, c .before .before .pre .4, refl)
-
-sub-turns : tie.Need-sub-turns Inv-loop μ-loop
-sub-turns c = search needs
-
-hop-from-requires : tie.Need-hop-from-requires Inv-loop μ-loop
-hop-from-requires c κs = search needs
-
-enum-known-hop : tie.Need-enum-known-hop Inv-loop μ-loop
-enum-known-hop c = search needs
 
 returns : tie.Need-returns Inv-loop μ-loop
 returns c =
     let p = c .before .before .before in
     turn-ends _ _ _ _ _ _ _ _ (p .before .loop-test .taken) (p .hop-from .ensures) (c .before .hop .given .1)
     ∙ p .before .before .loop .inv .3
-
-enum-known-hop-2 : tie.Need-enum-known-hop-2 Inv-loop μ-loop
-enum-known-hop-2 c = search needs
-
-loop-less : tie.Need-loop-less Inv-loop μ-loop
-loop-less c = search needs
 
 loop-again : tie.Need-loop-again Inv-loop μ-loop
 loop-again c =
@@ -61,5 +43,5 @@ returns-2 c = let e : 0 ≡ c .before .loop .turns = omega arith in sym (follow-
 pub follow-from-spec : {M : Type 1} → statement M
 follow-from-spec =
     tie.close
-    (tie.spec Inv-loop μ-loop add-turns loop-holds sub-turns hop-from-requires enum-known-hop returns enum-known-hop-2 loop-less loop-again
-    returns-2)
+    (tie.spec Inv-loop μ-loop (λ c. search needs) loop-holds (λ c. search needs) (λ c κs. search needs) (λ c. search needs) returns
+    (λ c. search needs) (λ c. search needs) loop-again returns-2)

@@ -5,15 +5,6 @@ use Rattle.search.proofs.NextLaws.{onward-none, onward-spent, onward-br
 use Rattle.search.proofs.go_on.Statement.{statement}
 use Rattle.search.proofs.go_on.Tie as tie
 
-node-start-requires : tie.Need-node-start-requires
-node-start-requires c κs = search needs
-
-add-word : tie.Need-add-word
-add-word c = search needs
-
-word-requires : tie.Need-word-requires
-word-requires c κs = search needs
-
 returns : tie.Need-returns
 returns c = onward-none _ _ _ _ (c .before .before .node-start .ensures .0) (c .before .word .ensures) (c .if1 .taken)
 
@@ -21,9 +12,6 @@ returns-2 : tie.Need-returns-2
 returns-2 c =
     let p = c .before .before in
     onward-spent _ _ _ _ (p .before .node-start .ensures .0) (p .word .ensures) (c .before .if1 .left) (c .if2 .taken)
-
-is-linked-requires : tie.Need-is-linked-requires
-is-linked-requires c κs = search needs
 
 returns-3 : tie.Need-returns-3
 returns-3 c =
@@ -42,4 +30,5 @@ returns-4 c =
 pub go-on-spec : {M : Type 1} → statement M
 go-on-spec =
     tie.close
-    (tie.spec node-start-requires add-word word-requires returns returns-2 is-linked-requires returns-3 returns-4)
+    (tie.spec (λ c κs. search needs) (λ c. search needs) (λ c κs. search needs) returns returns-2 (λ c κs. search needs) returns-3
+    returns-4)

@@ -4,12 +4,6 @@ use Rattle.search.proofs.NextLaws.{depth-small, hop-ends, hop-onward}
 use Rattle.search.proofs.hop_from.Statement.{statement}
 use Rattle.search.proofs.hop_from.Tie as tie
 
-node-start-requires : tie.Need-node-start-requires
-node-start-requires c κs = search needs
-
-word-requires : tie.Need-word-requires
-word-requires c κs = search needs
-
 first-pointer-requires : tie.Need-first-pointer-requires
 first-pointer-requires c κs =
     let p = c .before .before .before in (
@@ -18,17 +12,11 @@ first-pointer-requires c κs =
       p .pre .2,
     )
 
-visit-after-requires : tie.Need-visit-after-requires
-visit-after-requires c κs = search needs
-
 returns : tie.Need-returns
 returns c =
     let p = c .before .before in
     hop-ends _ _ _ _ _ _ _ _ (p .before .before .node-start .ensures .0) (p .before .word .ensures) (p .first-pointer .ensures)
     (c .before .if1 .taken) (c .visit-after .ensures)
-
-go-on-requires : tie.Need-go-on-requires
-go-on-requires c κs = search needs
 
 returns-2 : tie.Need-returns-2
 returns-2 c =
@@ -39,4 +27,5 @@ returns-2 c =
 pub hop-from-spec : {M : Type 1} → statement M
 hop-from-spec =
     tie.close
-    (tie.spec node-start-requires word-requires first-pointer-requires visit-after-requires returns go-on-requires returns-2)
+    (tie.spec (λ c κs. search needs) (λ c κs. search needs) first-pointer-requires (λ c κs. search needs) returns (λ c κs. search needs)
+    returns-2)

@@ -8,22 +8,10 @@ use Rattle.search.proofs.NextLaws.{linked-is}
 use Rattle.search.proofs.is_linked.Statement.{statement}
 use Rattle.search.proofs.is_linked.Tie as tie
 
-node-start-requires : tie.Need-node-start-requires
-node-start-requires c κs = search needs
-
-node-ok-requires : tie.Need-node-ok-requires
-node-ok-requires c κs = search needs
-
 returns : tie.Need-returns
 returns c =
     linked-is _ _ _ _ _ false _ (c .before .before .node-start .ensures .0)
     (sym (failed (c .before .node-ok .ensures) (c .if1 .taken))) refl
-
-add-word : tie.Need-add-word
-add-word c = search needs
-
-word-requires : tie.Need-word-requires
-word-requires c κs = search needs
 
 returns-2 : tie.Need-returns-2
 returns-2 c =
@@ -33,5 +21,4 @@ returns-2 c =
 
 pub is-linked-spec : {M : Type 1} → statement M
 is-linked-spec =
-    tie.close
-    (tie.spec node-start-requires node-ok-requires returns add-word word-requires returns-2)
+    tie.close (tie.spec (λ c κs. search needs) (λ c κs. search needs) returns (λ c. search needs) (λ c κs. search needs) returns-2)

@@ -14,21 +14,12 @@ use Rattle.search.proofs.next.Tie as tie
 ruled : (c : tie.Else1) → let a = c .before .before .before .args in headRule (a .f) (a .store .now) ≡ true
 ruled c = passed (c .before .head-ok .ensures) (c .if1 .left)
 
-head-ok-requires : tie.Need-head-ok-requires
-head-ok-requires c κs = search needs
-
 returns : tie.Need-returns
 unfolding nextReply
 returns c = broken _ _ _ (failed (c .before .head-ok .ensures) (c .if1 .taken))
 
-head-of-requires : tie.Need-head-of-requires
-head-of-requires c κs = search needs
-
 next-under-requires : tie.Need-next-under-requires
 next-under-requires c κs = rw (c .head-of .ensures) (head-limits _ _ (ruled (c .before)))
-
-answer-of-requires : tie.Need-answer-of-requires
-answer-of-requires c κs = search needs
 
 returns-2 : tie.Need-returns-2
 unfolding nextReply
@@ -37,4 +28,4 @@ returns-2 c =
     ∙ answered _ _ _ (ruled (c .before .before .before))
 
 pub next-spec : {M : Type 1} → statement M
-next-spec = tie.close (tie.spec head-ok-requires returns head-of-requires next-under-requires answer-of-requires returns-2)
+next-spec = tie.close (tie.spec (λ c κs. search needs) returns (λ c κs. search needs) next-under-requires (λ c κs. search needs) returns-2)

@@ -45,14 +45,8 @@ sound : (c : tie.Else3)
     soundPage (a .f) (a .head) (p .page-at .result .now) (a .key) (q .descend .result .used) ≡ true
 sound c = passed (c .before .page-sound .ensures) (c .if3 .left)
 
-descend-requires : tie.Need-descend-requires
-descend-requires c κs = search needs
-
 returns : tie.Need-returns
 returns c = from-lost _ _ _ _ _ _ (c .before .descend .ensures .0) (not-true _ (c .if1 .taken))
-
-element-copy-out-t : tie.Need-element-copy-out-t
-element-copy-out-t c = search needs
 
 after-own-requires : tie.Need-after-own-requires
 after-own-requires c κs = own (c .before .before)
@@ -63,23 +57,8 @@ returns-2 c =
     ∙ from-null _ _ _ _ _ _ (c .before .before .before .before .descend .ensures .0) (not-false _ (c .before .before .before .if1 .left))
     (c .before .if2 .taken)
 
-page-at-requires : tie.Need-page-at-requires
-page-at-requires c κs = search needs
-
-page-sound-requires : tie.Need-page-sound-requires
-page-sound-requires c κs = search needs
-
 returns-3 : tie.Need-returns-3
 returns-3 c = from-unsound _ (led (c .before .before)) (failed (c .before .page-sound .ensures) (c .if3 .taken))
-
-first-above-requires : tie.Need-first-above-requires
-first-above-requires c κs = search needs
-
-count-of-requires : tie.Need-count-of-requires
-count-of-requires c κs = search needs
-
-read-one-requires : tie.Need-read-one-requires
-read-one-requires c κs = search needs
 
 returns-4 : tie.Need-returns-4
 returns-4 c =
@@ -99,5 +78,5 @@ returns-5 c =
 pub next-under-spec : {M : Type 1} → statement M
 next-under-spec =
     tie.close
-    (tie.spec descend-requires returns element-copy-out-t after-own-requires returns-2 page-at-requires page-sound-requires returns-3
-    first-above-requires count-of-requires read-one-requires returns-4 after-own-requires-2 returns-5)
+    (tie.spec (λ c κs. search needs) returns (λ c. search needs) after-own-requires returns-2 (λ c κs. search needs) (λ c κs. search needs)
+    returns-3 (λ c κs. search needs) (λ c κs. search needs) (λ c κs. search needs) returns-4 after-own-requires-2 returns-5)

@@ -6,23 +6,8 @@ use Rattle.search.proofs.NextLaws.{run-after-is}
 use Rattle.search.proofs.run_after.Statement.{statement}
 use Rattle.search.proofs.run_after.Tie as tie
 
-less-requires : tie.Need-less-requires
-less-requires c κs = search needs
-
-pow2-requires : tie.Need-pow2-requires
-pow2-requires c κs = search needs
-
-to-index-requires : tie.Need-to-index-requires
-to-index-requires c κs = search needs
-
-rem-result : tie.Need-rem-result
-rem-result c = search needs
-
 sub-result : tie.Need-sub-result
 sub-result c = omega (arith, mod-le (c .to-index .result) (c .before .pow2 .result))
-
-add-result : tie.Need-add-result
-add-result c = search needs
 
 returns : tie.Need-returns
 returns c =
@@ -32,4 +17,5 @@ returns c =
 pub run-after-spec : {M : Type 1} → statement M
 run-after-spec =
     tie.close
-    (tie.spec less-requires pow2-requires to-index-requires rem-result sub-result add-result returns)
+    (tie.spec (λ c κs. search needs) (λ c κs. search needs) (λ c κs. search needs) (λ c. search needs) sub-result (λ c. search needs)
+    returns)

@@ -5,20 +5,8 @@ use Rattle.search.proofs.NextLaws.{visit-broken, visit-below, visit-giv
 use Rattle.search.proofs.visit_after.Statement.{statement}
 use Rattle.search.proofs.visit_after.Tie as tie
 
-page-at-requires : tie.Need-page-at-requires
-page-at-requires c κs = search needs
-
-page-ok-requires : tie.Need-page-ok-requires
-page-ok-requires c κs = search needs
-
 returns : tie.Need-returns
 returns c = visit-broken _ _ _ _ _ _ (c .before .before .page-at .ensures) (failed (c .before .page-ok .ensures) (c .if1 .taken))
-
-read-one-requires : tie.Need-read-one-requires
-read-one-requires c κs = search needs
-
-is-above-requires : tie.Need-is-above-requires
-is-above-requires c κs = search needs
 
 returns-2 : tie.Need-returns-2
 returns-2 c =
@@ -35,4 +23,4 @@ returns-3 c =
 pub visit-after-spec : {M : Type 1} → statement M
 visit-after-spec =
     tie.close
-    (tie.spec page-at-requires page-ok-requires returns read-one-requires is-above-requires returns-2 returns-3)
+    (tie.spec (λ c κs. search needs) (λ c κs. search needs) returns (λ c κs. search needs) (λ c κs. search needs) returns-2 returns-3)

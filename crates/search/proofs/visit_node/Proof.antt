@@ -23,25 +23,13 @@ ruled c = passed (c .before .node-ok .ensures) (c .if1 .left)
 deep : (c : tie.After-word) → c .word .result ≤ c .before .before .before .before .before .args .head .theta
 deep c = rw (← (c .word .ensures)) at (node-facts _ _ _ _ (ruled (c .before)) .depth)
 
-node-start-requires : tie.Need-node-start-requires
-node-start-requires c κs = search needs
-
-node-ok-requires : tie.Need-node-ok-requires
-node-ok-requires c κs = search needs
-
 returns : tie.Need-returns
 returns c =
     visit-damaged _ _ _ _ _ _ _ _ (c .before .before .node-start .ensures .0) false _
     (sym (failed (c .before .node-ok .ensures) (c .if1 .taken))) refl refl (omega arith)
 
-word-requires : tie.Need-word-requires
-word-requires c κs = search needs
-
 add-if2 : tie.Need-add-if2
 add-if2 c = omega (arith, deep c, width-within (c .before .before .before .before .before .args .f))
-
-width-of-requires : tie.Need-width-of-requires
-width-of-requires c κs = search needs
 
 returns-2 : tie.Need-returns-2
 returns-2 c =
@@ -51,33 +39,6 @@ returns-2 c =
 
 entry-number-requires : tie.Need-entry-number-requires
 entry-number-requires c κs = (omega (arith, c .before .width-of .ensures .0, c .if2 .left), omega (arith, deep (c .before .before)))
-
-cast-t13 : tie.Need-cast-t13
-cast-t13 c = search needs
-
-add-word : tie.Need-add-word
-add-word c = search needs
-
-mul-word : tie.Need-mul-word
-mul-word c = search needs
-
-add-word-2 : tie.Need-add-word-2
-add-word-2 c = search needs
-
-word-requires-2 : tie.Need-word-requires-2
-word-requires-2 c κs = search needs
-
-add-word-3 : tie.Need-add-word-3
-add-word-3 c = search needs
-
-mul-word-2 : tie.Need-mul-word-2
-mul-word-2 c = search needs
-
-add-word-4 : tie.Need-add-word-4
-add-word-4 c = search needs
-
-word-requires-3 : tie.Need-word-requires-3
-word-requires-3 c κs = search needs
 
 returns-3 : tie.Need-returns-3
 returns-3 c =
@@ -90,5 +51,6 @@ returns-3 c =
 pub visit-node-spec : {M : Type 1} → statement M
 visit-node-spec =
     tie.close
-    (tie.spec node-start-requires node-ok-requires returns word-requires add-if2 width-of-requires returns-2 entry-number-requires cast-t13
-    add-word mul-word add-word-2 word-requires-2 add-word-3 mul-word-2 add-word-4 word-requires-3 returns-3)
+    (tie.spec (λ c κs. search needs) (λ c κs. search needs) returns (λ c κs. search needs) add-if2 (λ c κs. search needs) returns-2
+    entry-number-requires (λ c. search needs) (λ c. search needs) (λ c. search needs) (λ c. search needs) (λ c κs. search needs)
+    (λ c. search needs) (λ c. search needs) (λ c. search needs) (λ c κs. search needs) returns-3)

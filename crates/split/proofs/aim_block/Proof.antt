@@ -14,9 +14,6 @@ use Rattle.split.proofs.GrowLaws.{own-aim}
 use Rattle.split.proofs.aim_block.Statement.{statement}
 use Rattle.split.proofs.aim_block.Tie as tie
 
-open-node-requires : tie.Need-open-node-requires
-open-node-requires c κs = search needs
-
 aimed-requires : tie.Need-aimed-requires
 aimed-requires c κs =
     let x = c .before .open-node in
@@ -32,9 +29,6 @@ put-node-requires c κs =
     let s = x .before .before .before in
     (s .pre .0, omega (arith, c .aimed .ensures .1, x .open-node .ensures .1, s .pre .3 .low), s .pre .1)
 
-same-length : tie.Need-same-length
-same-length c = search needs
-
 returns : tie.Need-returns
 returns c =
     let v = c .before .before .before in
@@ -49,4 +43,4 @@ returns c =
     ∙ own-aim (a .head .theta) ws (s .pre .3 .low) key (a .q))
 
 pub aim-block-spec : {M : Type 1} → statement M
-aim-block-spec = tie.close (tie.spec open-node-requires aimed-requires put-node-requires same-length returns)
+aim-block-spec = tie.close (tie.spec (λ c κs. search needs) aimed-requires put-node-requires (λ c. search needs) returns)

@@ -22,15 +22,6 @@ mul-local c = omega (arith, small c)
 element-copy-out-local : tie.Need-element-copy-out-local
 element-copy-out-local c = omega (arith, small c)
 
-run-of-requires : tie.Need-run-of-requires
-run-of-requires c κs = search needs
-
-fill-requires : tie.Need-fill-requires
-fill-requires c κs = search needs
-
-fill-requires-2 : tie.Need-fill-requires-2
-fill-requires-2 c κs = search needs
-
 returns : tie.Need-returns
 unfolding blockOf
 returns c =
@@ -46,5 +37,4 @@ returns c =
 
 pub aimed-spec : {M : Type 1} → statement M
 aimed-spec =
-    tie.close
-    (tie.spec mul-local element-copy-out-local run-of-requires fill-requires fill-requires-2 returns)
+    tie.close (tie.spec mul-local element-copy-out-local (λ c κs. search needs) (λ c κs. search needs) (λ c κs. search needs) returns)

@@ -9,12 +9,6 @@ use Rattle.split.proofs.GrowLaws.{doubled-value}
 use Rattle.split.proofs.doubled.Statement.{statement}
 use Rattle.split.proofs.doubled.Tie as tie
 
-pow2-requires : tie.Need-pow2-requires
-pow2-requires c κs = search needs
-
-add-t6 : tie.Need-add-t6
-add-t6 c = search needs
-
 small : (c : tie.After-pow2) → c .pow2 .result ≤ 32
 small c = omega (arith, pow-mono {i = c .before .args .node .depth} {j = 5} (omega arith))
 
@@ -36,4 +30,4 @@ returns c =
     )
 
 pub doubled-spec : {M : Type 1} → statement M
-doubled-spec = tie.close (tie.spec pow2-requires add-t6 spread-requires spread-requires-2 returns)
+doubled-spec = tie.close (tie.spec (λ c κs. search needs) (λ c. search needs) spread-requires spread-requires-2 returns)

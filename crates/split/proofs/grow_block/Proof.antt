@@ -14,9 +14,6 @@ use Rattle.split.proofs.GrowLaws.{own-grow, here-low}
 use Rattle.split.proofs.grow_block.Statement.{statement}
 use Rattle.split.proofs.grow_block.Tie as tie
 
-open-node-requires : tie.Need-open-node-requires
-open-node-requires c κs = search needs
-
 grown-requires : tie.Need-grown-requires
 grown-requires c κs =
     let x = c .before .open-node in
@@ -35,9 +32,6 @@ put-node-requires c κs =
     let s = c .before .before .before .before .before in
     (s .pre .0, c .grown .ensures .1, s .pre .1)
 
-same-length : tie.Need-same-length
-same-length c = search needs
-
 returns : tie.Need-returns
 returns c =
     let v = c .before .before .before in
@@ -52,4 +46,4 @@ returns c =
     ∙ own-grow (a .head .theta) ws (s .pre .3 .low) key (a .a) (a .c))
 
 pub grow-block-spec : {M : Type 1} → statement M
-grow-block-spec = tie.close (tie.spec open-node-requires grown-requires put-node-requires same-length returns)
+grow-block-spec = tie.close (tie.spec (λ c κs. search needs) grown-requires put-node-requires (λ c. search needs) returns)

@@ -20,18 +20,12 @@ mul-if1 c = omega (arith, small c)
 element-copy-out-if1 : tie.Need-element-copy-out-if1
 element-copy-out-if1 c = omega (arith, small c)
 
-halved-requires : tie.Need-halved-requires
-halved-requires c κs = search needs
-
 returns : tie.Need-returns
 returns c =
     let s = c .before .before .before in (
       slack-value (s .args .theta) (s .args .t2) (s .args .i) (s .args .a) (s .args .c) _ (s .pre .1) (omega arith) (c .halved .ensures .0),
       omega arith,
     )
-
-doubled-requires : tie.Need-doubled-requires
-doubled-requires c κs = search needs
 
 mul-halved : tie.Need-mul-halved
 mul-halved c = omega (arith, small (c .before .before .before))
@@ -62,4 +56,4 @@ returns-2 c =
 pub grown-spec : {M : Type 1} → statement M
 grown-spec =
     tie.close
-    (tie.spec mul-if1 element-copy-out-if1 halved-requires returns doubled-requires mul-halved halved-requires-2 returns-2)
+    (tie.spec mul-if1 element-copy-out-if1 (λ c κs. search needs) returns (λ c κs. search needs) mul-halved halved-requires-2 returns-2)

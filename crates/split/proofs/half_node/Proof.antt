@@ -14,12 +14,6 @@ use Rattle.split.proofs.GrowLaws.{startOf, depthOf, depth-low, half-ste
 use Rattle.split.proofs.half_node.Statement.{statement}
 use Rattle.split.proofs.half_node.Tie as tie
 
-sub-pow2 : tie.Need-sub-pow2
-sub-pow2 c = search needs
-
-pow2-requires : tie.Need-pow2-requires
-pow2-requires c κs = search needs
-
 -- half as many entries, from where the half begins
 size : (c : tie.After-pow2) → c .pow2 .result ≡ 2 ^ pred (c .before .before .args .node .depth)
 size c = c .pow2 .ensures .0 ∙ ap (λ d. 2 ^ d) (sub-one (c .before .before .args .node .depth))
@@ -55,9 +49,6 @@ low c =
 pow2-requires-2 : tie.Need-pow2-requires-2
 pow2-requires-2 c κs = omega (arith, low c)
 
-div-step : tie.Need-div-step
-div-step c = search needs
-
 step : (c : tie.After-pow22) → (1 ≤ c .before .before .before .pow2 .result / c .pow22 .result)
     × (c .pow22 .result * (c .before .before .before .pow2 .result / c .pow22 .result) ≤ 64)
 step c =
@@ -91,4 +82,5 @@ returns c =
 pub half-node-spec : {M : Type 1} → statement M
 half-node-spec =
     tie.close
-    (tie.spec sub-pow2 pow2-requires lower-entries-requires pow2-requires-2 div-step thinned-requires thinned-requires-2 returns)
+    (tie.spec (λ c. search needs) (λ c κs. search needs) lower-entries-requires pow2-requires-2 (λ c. search needs) thinned-requires
+    thinned-requires-2 returns)

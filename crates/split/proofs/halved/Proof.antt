@@ -22,27 +22,6 @@ mul-local c = omega (arith, small c)
 element-copy-out-local : tie.Need-element-copy-out-local
 element-copy-out-local c = omega (arith, small c)
 
-run-of-requires : tie.Need-run-of-requires
-run-of-requires c κs = search needs
-
-add-fill : tie.Need-add-fill
-add-fill c = search needs
-
-fill-requires : tie.Need-fill-requires
-fill-requires c κs = search needs
-
-fill-requires-2 : tie.Need-fill-requires-2
-fill-requires-2 c κs = search needs
-
-add-fill-2 : tie.Need-add-fill-2
-add-fill-2 c = search needs
-
-sub-fill : tie.Need-sub-fill
-sub-fill c = search needs
-
-fill-requires-3 : tie.Need-fill-requires-3
-fill-requires-3 c κs = search needs
-
 returns : tie.Need-returns
 unfolding blockOf
 returns c =
@@ -61,5 +40,5 @@ returns c =
 pub halved-spec : {M : Type 1} → statement M
 halved-spec =
     tie.close
-    (tie.spec mul-local element-copy-out-local run-of-requires add-fill fill-requires fill-requires-2 add-fill-2 sub-fill fill-requires-3
-    returns)
+    (tie.spec mul-local element-copy-out-local (λ c κs. search needs) (λ c. search needs) (λ c κs. search needs) (λ c κs. search needs)
+    (λ c. search needs) (λ c. search needs) (λ c κs. search needs) returns)

@@ -9,9 +9,6 @@ use Rattle.split.proofs.SplitLaws.{splittable, lower-of, upper-of, lowe
 use Rattle.split.proofs.halves_of.Statement.{statement}
 use Rattle.split.proofs.halves_of.Tie as tie
 
-node-at-requires : tie.Need-node-at-requires
-node-at-requires c κs = search needs
-
 split-node-requires : tie.Need-split-node-requires
 split-node-requires c κs =
     let s = c .before .before in
@@ -36,4 +33,4 @@ returns c =
     (low, high, r .2, r .3, lower-back θ (a .a) (a .c) ws key _ low, upper-forward θ (a .a) (a .c) ws key _ high)
 
 pub halves-of-spec : {M : Type 1} → statement M
-halves-of-spec = tie.close (tie.spec node-at-requires split-node-requires returns)
+halves-of-spec = tie.close (tie.spec (λ c κs. search needs) split-node-requires returns)

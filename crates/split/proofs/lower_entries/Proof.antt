@@ -22,48 +22,6 @@ loop-holds : tie.Need-loop-holds Inv-loop μ-loop
 unfolding greatest
 loop-holds c = (search needs, search needs, refl, refl, front-none, front-none, refl)
 
-add-one-less : tie.Need-add-one-less Inv-loop μ-loop
-add-one-less c = search needs
-
-mul-one-less : tie.Need-mul-one-less Inv-loop μ-loop
-mul-one-less c = search needs
-
-element-copy-out-one-less : tie.Need-element-copy-out-one-less Inv-loop μ-loop
-element-copy-out-one-less c = search needs
-
-one-less-requires : tie.Need-one-less-requires Inv-loop μ-loop
-one-less-requires c κs = search needs
-
-mul-h : tie.Need-mul-h Inv-loop μ-loop
-mul-h c = search needs
-
-array-write-h : tie.Need-array-write-h Inv-loop μ-loop
-array-write-h c = search needs
-
-add-p : tie.Need-add-p Inv-loop μ-loop
-add-p c = search needs
-
-mul-p : tie.Need-mul-p Inv-loop μ-loop
-mul-p c = search needs
-
-element-copy-out-p : tie.Need-element-copy-out-p Inv-loop μ-loop
-element-copy-out-p c = search needs
-
-mul-p-2 : tie.Need-mul-p-2 Inv-loop μ-loop
-mul-p-2 c = search needs
-
-array-write-p : tie.Need-array-write-p Inv-loop μ-loop
-array-write-p c = search needs
-
-larger-requires : tie.Need-larger-requires Inv-loop μ-loop
-larger-requires c κs = search needs
-
-add-j : tie.Need-add-j Inv-loop μ-loop
-add-j c = search needs
-
-loop-less : tie.Need-loop-less Inv-loop μ-loop
-loop-less c = search needs
-
 loop-again : tie.Need-loop-again Inv-loop μ-loop
 loop-again c =
     let one = c .before .before .one-less .ensures in
@@ -87,5 +45,6 @@ returns c =
 pub lower-entries-spec : {M : Type 1} → statement M
 lower-entries-spec =
     tie.close
-    (tie.spec Inv-loop μ-loop loop-holds add-one-less mul-one-less element-copy-out-one-less one-less-requires mul-h array-write-h add-p
-    mul-p element-copy-out-p mul-p-2 array-write-p larger-requires add-j loop-less loop-again returns)
+    (tie.spec Inv-loop μ-loop loop-holds (λ c. search needs) (λ c. search needs) (λ c. search needs) (λ c κs. search needs)
+    (λ c. search needs) (λ c. search needs) (λ c. search needs) (λ c. search needs) (λ c. search needs) (λ c. search needs)
+    (λ c. search needs) (λ c κs. search needs) (λ c. search needs) (λ c. search needs) loop-again returns)

@@ -20,9 +20,6 @@ read c =
 short : (c : tie.After-node-at) → let a = c .before .before .args in c .node-at .result .depth ≤ width (a .f) - a .used
 short c = omega (arith, read c .depth-is, reached-width _ _ _ _ _ (c .before .before .pre .3))
 
-node-at-requires : tie.Need-node-at-requires
-node-at-requires c κs = search needs
-
 entry-number-requires : tie.Need-entry-number-requires
 entry-number-requires c κs =
     let s = c .before .before in (short c, omega (arith, read c .depth-is, s .pre .3 .low, s .pre .0))
@@ -36,4 +33,4 @@ returns c =
     (x .node-at .ensures, read x .depth-is, at, loaded-local _ _ _ _ (read x) at)
 
 pub open-node-spec : {M : Type 1} → statement M
-open-node-spec = tie.close (tie.spec node-at-requires entry-number-requires returns)
+open-node-spec = tie.close (tie.spec (λ c κs. search needs) entry-number-requires returns)

@@ -11,15 +11,6 @@ use Rattle.split.proofs.relink.Tie as tie
 returns : tie.Need-returns
 returns c = (λ e. refl, λ n. absurd (n (c .if1 .taken)))
 
-node-start-requires : tie.Need-node-start-requires
-node-start-requires c κs = search needs
-
-add-store : tie.Need-add-store
-add-store c = search needs
-
-mul-store : tie.Need-mul-store
-mul-store c = search needs
-
 -- the word is in the store
 inside : (c : tie.After-node-start) → c .node-start .result + 2 < length (c .before .before .before .args .store .now)
 inside c =
@@ -28,9 +19,6 @@ inside c =
 
 slice-write-store : tie.Need-slice-write-store
 slice-write-store c = inside c
-
-same-length : tie.Need-same-length
-same-length c = search needs
 
 returns-2 : tie.Need-returns-2
 returns-2 c =
@@ -42,4 +30,4 @@ returns-2 c =
 pub relink-spec : {M : Type 1} → statement M
 relink-spec =
     tie.close
-    (tie.spec returns node-start-requires add-store mul-store slice-write-store same-length returns-2)
+    (tie.spec returns (λ c κs. search needs) (λ c. search needs) (λ c. search needs) slice-write-store (λ c. search needs) returns-2)

@@ -6,15 +6,6 @@ use Rattle.store.specs.Head.{nodeStart, nodeWords}
 use Rattle.split.proofs.root_block.Statement.{statement}
 use Rattle.split.proofs.root_block.Tie as tie
 
-root-node-requires : tie.Need-root-node-requires
-root-node-requires c κs = search needs
-
-put-node-requires : tie.Need-put-node-requires
-put-node-requires c κs = search needs
-
-same-length : tie.Need-same-length
-same-length c = search needs
-
 returns : tie.Need-returns
 returns c =
     let v = c .before .before .before in
@@ -23,4 +14,4 @@ returns c =
     ∙ ap (λ b. replaced (nodeStart (a .head) (a .n)) (nodeWords (a .head .theta)) b (a .store .now)) (v .root-node .ensures .0)
 
 pub root-block-spec : {M : Type 1} → statement M
-root-block-spec = tie.close (tie.spec root-node-requires put-node-requires same-length returns)
+root-block-spec = tie.close (tie.spec (λ c κs. search needs) (λ c κs. search needs) (λ c. search needs) returns)

@@ -9,12 +9,6 @@ use Rattle.split.proofs.GrowLaws.{run-room}
 use Rattle.split.proofs.run_of.Statement.{statement}
 use Rattle.split.proofs.run_of.Tie as tie
 
-sub-pow2 : tie.Need-sub-pow2
-sub-pow2 c = search needs
-
-pow2-requires : tie.Need-pow2-requires
-pow2-requires c κs = search needs
-
 -- how many entries the run has
 size : (c : tie.Joined1) → c .if1 .n ≡ 2 ^ (c .before .args .depth - c .before .args .local)
 size c =
@@ -37,4 +31,4 @@ returns : tie.Need-returns
 returns c = (size (c .before), refl, room (c .before) .1)
 
 pub run-of-spec : {M : Type 1} → statement M
-run-of-spec = tie.close (tie.spec sub-pow2 pow2-requires rem-t7 sub-t8 returns)
+run-of-spec = tie.close (tie.spec (λ c. search needs) (λ c κs. search needs) rem-t7 sub-t8 returns)

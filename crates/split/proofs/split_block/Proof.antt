@@ -6,18 +6,6 @@ use Rattle.store.specs.Head.{nodeStart, nodeWords}
 use Rattle.split.proofs.split_block.Statement.{statement}
 use Rattle.split.proofs.split_block.Tie as tie
 
-halves-of-requires : tie.Need-halves-of-requires
-halves-of-requires c κs = search needs
-
-put-node-requires : tie.Need-put-node-requires
-put-node-requires c κs = search needs
-
-put-node-requires-2 : tie.Need-put-node-requires-2
-put-node-requires-2 c κs = search needs
-
-same-length : tie.Need-same-length
-same-length c = search needs
-
 returns : tie.Need-returns
 returns c =
     let first = c .before .before .before .before .before .before in
@@ -29,6 +17,4 @@ returns c =
     (first .put-node .ensures ∙ ap (λ b. replaced (nodeStart (a .head) (a .n)) w b (a .store .now)) (x .halves-of .ensures .0))
 
 pub split-block-spec : {M : Type 1} → statement M
-split-block-spec =
-    tie.close
-    (tie.spec halves-of-requires put-node-requires put-node-requires-2 same-length returns)
+split-block-spec = tie.close (tie.spec (λ c κs. search needs) (λ c κs. search needs) (λ c κs. search needs) (λ c. search needs) returns)

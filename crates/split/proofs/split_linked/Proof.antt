@@ -7,24 +7,6 @@ use Rattle.split.specs.Block.{linked}
 use Rattle.split.proofs.split_linked.Statement.{statement}
 use Rattle.split.proofs.split_linked.Tie as tie
 
-halves-of-requires : tie.Need-halves-of-requires
-halves-of-requires c κs = search needs
-
-with-links-requires : tie.Need-with-links-requires
-with-links-requires c κs = search needs
-
-put-node-requires : tie.Need-put-node-requires
-put-node-requires c κs = search needs
-
-with-links-requires-2 : tie.Need-with-links-requires-2
-with-links-requires-2 c κs = search needs
-
-put-node-requires-2 : tie.Need-put-node-requires-2
-put-node-requires-2 c κs = search needs
-
-same-length : tie.Need-same-length
-same-length c = search needs
-
 returns : tie.Need-returns
 returns c =
     let second = c .before .before in
@@ -43,4 +25,5 @@ returns c =
 pub split-linked-spec : {M : Type 1} → statement M
 split-linked-spec =
     tie.close
-    (tie.spec halves-of-requires with-links-requires put-node-requires with-links-requires-2 put-node-requires-2 same-length returns)
+    (tie.spec (λ c κs. search needs) (λ c κs. search needs) (λ c κs. search needs) (λ c κs. search needs) (λ c κs. search needs)
+    (λ c. search needs) returns)

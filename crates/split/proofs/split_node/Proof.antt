@@ -14,24 +14,12 @@ use Rattle.split.proofs.split_node.Tie as tie
 left : (c : tie.Start) → c .args .used < width (c .args .f)
 left c = omega (arith, c .pre .0, c .pre .3)
 
-half-node-requires : tie.Need-half-node-requires
-half-node-requires c κs = search needs
-
-half-node-requires-2 : tie.Need-half-node-requires-2
-half-node-requires-2 c κs = search needs
-
-entry-number-requires : tie.Need-entry-number-requires
-entry-number-requires c κs = search needs
-
 add-entry-number : tie.Need-add-entry-number
 add-entry-number c =
     let s = c .before .before .before .before in
     let w = width-within (s .args .f) in
     let l = left s in
     search needs
-
-entry-number-requires-2 : tie.Need-entry-number-requires-2
-entry-number-requires-2 c κs = search needs
 
 grown-requires : tie.Need-grown-requires
 grown-requires c κs =
@@ -71,9 +59,6 @@ add-entry-number-2 c =
     let l = left s in
     search needs
 
-entry-number-requires-3 : tie.Need-entry-number-requires-3
-entry-number-requires-3 c κs = search needs
-
 grown-requires-2 : tie.Need-grown-requires-2
 grown-requires-2 c κs =
     let h = c .before .before .before in
@@ -107,5 +92,5 @@ returns-2 c =
 pub split-node-spec : {M : Type 1} → statement M
 split-node-spec =
     tie.close
-    (tie.spec half-node-requires half-node-requires-2 entry-number-requires add-entry-number entry-number-requires-2 grown-requires returns
-    add-entry-number-2 entry-number-requires-3 grown-requires-2 returns-2)
+    (tie.spec (λ c κs. search needs) (λ c κs. search needs) (λ c κs. search needs) add-entry-number (λ c κs. search needs) grown-requires
+    returns add-entry-number-2 (λ c κs. search needs) grown-requires-2 returns-2)

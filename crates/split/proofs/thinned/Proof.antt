@@ -40,12 +40,6 @@ mul-b-3 c = omega (arith, inside c)
 array-write-b : tie.Need-array-write-b Inv-loop μ-loop
 array-write-b c = omega (arith, inside c)
 
-add-j : tie.Need-add-j Inv-loop μ-loop
-add-j c = search needs
-
-loop-less : tie.Need-loop-less Inv-loop μ-loop
-loop-less c = search needs
-
 loop-again : tie.Need-loop-again Inv-loop μ-loop
 loop-again c =
     let l = c .before .loop in (
@@ -60,4 +54,5 @@ returns c i h = c .before .loop .inv .2 .at i (omega arith)
 pub thinned-spec : {M : Type 1} → statement M
 thinned-spec =
     tie.close
-    (tie.spec Inv-loop μ-loop loop-holds mul-b mul-b-2 array-read-b mul-b-3 array-write-b add-j loop-less loop-again returns)
+    (tie.spec Inv-loop μ-loop loop-holds mul-b mul-b-2 array-read-b mul-b-3 array-write-b (λ c. search needs) (λ c. search needs) loop-again
+    returns)

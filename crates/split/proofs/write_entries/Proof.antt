@@ -24,44 +24,8 @@ loop-holds : tie.Need-loop-holds Inv-loop μ-loop
 unfolding tab
 loop-holds c = (search needs, search needs, search needs, search needs, refl)
 
-mul-part : tie.Need-mul-part Inv-loop μ-loop
-mul-part c = search needs
-
-element-copy-out-part : tie.Need-element-copy-out-part Inv-loop μ-loop
-element-copy-out-part c = search needs
-
-mul-part-2 : tie.Need-mul-part-2 Inv-loop μ-loop
-mul-part-2 c = search needs
-
-mul-part-3 : tie.Need-mul-part-3 Inv-loop μ-loop
-mul-part-3 c = search needs
-
-slice-write-part : tie.Need-slice-write-part Inv-loop μ-loop
-slice-write-part c = search needs
-
-mul-part-4 : tie.Need-mul-part-4 Inv-loop μ-loop
-mul-part-4 c = search needs
-
-element-copy-out-part-2 : tie.Need-element-copy-out-part-2 Inv-loop μ-loop
-element-copy-out-part-2 c = search needs
-
-mul-part-5 : tie.Need-mul-part-5 Inv-loop μ-loop
-mul-part-5 c = search needs
-
-add-part : tie.Need-add-part Inv-loop μ-loop
-add-part c = search needs
-
-mul-part-6 : tie.Need-mul-part-6 Inv-loop μ-loop
-mul-part-6 c = search needs
-
 slice-write-part-2 : tie.Need-slice-write-part-2 Inv-loop μ-loop
 slice-write-part-2 c = simp length-set (omega arith)
-
-add-j : tie.Need-add-j Inv-loop μ-loop
-add-j c = search needs
-
-loop-less : tie.Need-loop-less Inv-loop μ-loop
-loop-less c = search needs
 
 loop-again : tie.Need-loop-again Inv-loop μ-loop
 loop-again c =
@@ -89,5 +53,6 @@ returns c =
 pub write-entries-spec : {M : Type 1} → statement M
 write-entries-spec =
     tie.close
-    (tie.spec Inv-loop μ-loop loop-holds mul-part element-copy-out-part mul-part-2 mul-part-3 slice-write-part mul-part-4
-    element-copy-out-part-2 mul-part-5 add-part mul-part-6 slice-write-part-2 add-j loop-less loop-again same-length returns)
+    (tie.spec Inv-loop μ-loop loop-holds (λ c. search needs) (λ c. search needs) (λ c. search needs) (λ c. search needs) (λ c. search needs)
+    (λ c. search needs) (λ c. search needs) (λ c. search needs) (λ c. search needs) (λ c. search needs) slice-write-part-2
+    (λ c. search needs) (λ c. search needs) loop-again same-length returns)

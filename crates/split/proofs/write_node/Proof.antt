@@ -34,17 +34,11 @@ slice-write-part-3 c = simp length-set (omega (arith, long (c .before)))
 slice-write-part-4 : tie.Need-slice-write-part-4
 slice-write-part-4 c = simp length-set (omega (arith, long (c .before)))
 
-pow2-requires : tie.Need-pow2-requires
-pow2-requires c κs = search needs
-
 sub-write-entries : tie.Need-sub-write-entries
 sub-write-entries c = simp length-set (omega (arith, long (c .before .before)))
 
 part-write-entries-start : tie.Need-part-write-entries-start
 part-write-entries-start c = simp length-set (omega (arith, long (c .before .before)))
-
-part-write-entries-end : tie.Need-part-write-entries-end
-part-write-entries-end c = search needs
 
 write-entries-requires : tie.Need-write-entries-requires
 write-entries-requires c κs =
@@ -52,15 +46,6 @@ write-entries-requires c κs =
     let t = headed (start .args .node) (start .args .part .now) in
     let e : length (take (length t - 4) (drop 4 t)) ≡ length t - 4 = length-rest 4 t in
     (search needs, omega (arith, e, long-headed start, room start))
-
-mul-end : tie.Need-mul-end
-mul-end c = search needs
-
-add-end : tie.Need-add-end
-add-end c = search needs
-
-mul-clear : tie.Need-mul-clear
-mul-clear c = search needs
 
 sub-clear : tie.Need-sub-clear
 sub-clear c =
@@ -72,12 +57,6 @@ sub-clear c =
 
 part-clear-start : tie.Need-part-clear-start
 part-clear-start c = sub-clear c
-
-part-clear-end : tie.Need-part-clear-end
-part-clear-end c = search needs
-
-clear-requires : tie.Need-clear-requires
-clear-requires c κs = search needs
 
 same-length : tie.Need-same-length
 same-length c =
@@ -105,6 +84,6 @@ returns c =
 pub write-node-spec : {M : Type 1} → statement M
 write-node-spec =
     tie.close
-    (tie.spec slice-write-part slice-write-part-2 slice-write-part-3 slice-write-part-4 pow2-requires sub-write-entries
-    part-write-entries-start part-write-entries-end write-entries-requires mul-end add-end mul-clear sub-clear part-clear-start
-    part-clear-end clear-requires same-length returns)
+    (tie.spec slice-write-part slice-write-part-2 slice-write-part-3 slice-write-part-4 (λ c κs. search needs) sub-write-entries
+    part-write-entries-start (λ c. search needs) write-entries-requires (λ c. search needs) (λ c. search needs) (λ c. search needs)
+    sub-clear part-clear-start (λ c. search needs) (λ c κs. search needs) same-length returns)

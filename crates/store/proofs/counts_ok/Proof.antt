@@ -24,12 +24,8 @@ returns-5 c = untrue (λ e. omega (arith, counts-facts _ _ e .root))
 returns-6 : tie.Need-returns-6
 returns-6 c = untrue (λ e. omega (arith, counts-facts _ _ e .levels-low))
 
-level-bound-requires : tie.Need-level-bound-requires
-level-bound-requires c κs = search needs
-
 returns-7 : tie.Need-returns-7
 returns-7 c = counts-last _ _ _ (search needs) (c .before .level-bound .ensures)
 
 pub counts-ok-spec : {M : Type 1} → statement M
-counts-ok-spec =
-    tie.close (tie.spec returns returns-2 returns-3 returns-4 returns-5 returns-6 level-bound-requires returns-7)
+counts-ok-spec = tie.close (tie.spec returns returns-2 returns-3 returns-4 returns-5 returns-6 (λ c κs. search needs) returns-7)

@@ -27,5 +27,4 @@ returns-7 : tie.Need-returns-7
 returns-7 c = (sym (log2-is _ 0 (omega arith) (omega arith)), omega arith)
 
 pub floor-log2-spec : {M : Type 1} → statement M
-floor-log2-spec =
-    tie.close (tie.spec returns returns-2 returns-3 returns-4 returns-5 returns-6 returns-7)
+floor-log2-spec = tie.close (tie.spec returns returns-2 returns-3 returns-4 returns-5 returns-6 returns-7)

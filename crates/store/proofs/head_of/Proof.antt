@@ -4,30 +4,6 @@ use Rattle.store.proofs.HeadLaws.{head-is}
 use Rattle.store.proofs.head_of.Statement.{statement}
 use Rattle.store.proofs.head_of.Tie as tie
 
-word-requires : tie.Need-word-requires
-word-requires c κs = search needs
-
-word-requires-2 : tie.Need-word-requires-2
-word-requires-2 c κs = search needs
-
-word-requires-3 : tie.Need-word-requires-3
-word-requires-3 c κs = search needs
-
-word-requires-4 : tie.Need-word-requires-4
-word-requires-4 c κs = search needs
-
-word-requires-5 : tie.Need-word-requires-5
-word-requires-5 c κs = search needs
-
-word-requires-6 : tie.Need-word-requires-6
-word-requires-6 c κs = search needs
-
-word-requires-7 : tie.Need-word-requires-7
-word-requires-7 c κs = search needs
-
-word-requires-8 : tie.Need-word-requires-8
-word-requires-8 c κs = search needs
-
 returns : tie.Need-returns
 returns c =
     let p = c .before .before .before in
@@ -38,5 +14,5 @@ returns c =
 pub head-of-spec : {M : Type 1} → statement M
 head-of-spec =
     tie.close
-    (tie.spec word-requires word-requires-2 word-requires-3 word-requires-4 word-requires-5 word-requires-6 word-requires-7 word-requires-8
-    returns)
+    (tie.spec (λ c κs. search needs) (λ c κs. search needs) (λ c κs. search needs) (λ c κs. search needs) (λ c κs. search needs)
+    (λ c κs. search needs) (λ c κs. search needs) (λ c κs. search needs) returns)

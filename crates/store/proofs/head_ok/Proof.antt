@@ -21,19 +21,10 @@ limits c = sizes-limits _ _ _ _ (sizes c)
 eight-zeros : (c : tie.Else2) → zeros (c .before .before .before .before .before .before .args .store .now) 8 8 ≡ true
 eight-zeros c = passed (c .before .all-zero .ensures) (c .if2 .left)
 
-head-of-requires : tie.Need-head-of-requires
-head-of-requires c κs = search needs
-
-sizes-ok-requires : tie.Need-sizes-ok-requires
-sizes-ok-requires c κs = search needs
-
 returns : tie.Need-returns
 returns c =
     rule-is _ _ _ false _ _ _ (c .before .before .head-of .ensures)
     (sym (failed (c .before .sizes-ok .ensures) (c .if1 .taken))) refl refl refl
-
-all-zero-requires : tie.Need-all-zero-requires
-all-zero-requires c κs = search needs
 
 returns-2 : tie.Need-returns-2
 returns-2 c =
@@ -62,5 +53,5 @@ returns-4 c =
 pub head-ok-spec : {M : Type 1} → statement M
 head-ok-spec =
     tie.close
-    (tie.spec head-of-requires sizes-ok-requires returns all-zero-requires returns-2 size-of-requires returns-3 counts-ok-requires
-    returns-4)
+    (tie.spec (λ c κs. search needs) (λ c κs. search needs) returns (λ c κs. search needs) returns-2 size-of-requires returns-3
+    counts-ok-requires returns-4)

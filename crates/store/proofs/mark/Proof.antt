@@ -6,9 +6,6 @@ use Rattle.store.specs.SetUp.{marked}
 use Rattle.store.proofs.mark.Statement.{statement}
 use Rattle.store.proofs.mark.Tie as tie
 
-slice-write-part : tie.Need-slice-write-part
-slice-write-part c = search needs
-
 slice-write-part-2 : tie.Need-slice-write-part-2
 slice-write-part-2 c = simp length-set (omega arith)
 
@@ -40,5 +37,5 @@ returns c = search needs
 pub mark-spec : {M : Type 1} → statement M
 mark-spec =
     tie.close
-    (tie.spec slice-write-part slice-write-part-2 slice-write-part-3 slice-write-part-4 slice-write-part-5 slice-write-part-6
+    (tie.spec (λ c. search needs) slice-write-part-2 slice-write-part-3 slice-write-part-4 slice-write-part-5 slice-write-part-6
     slice-write-part-7 slice-write-part-8 same-length returns)

@@ -10,12 +10,6 @@ use Rattle.store.proofs.node_start.Tie as tie
 within : (c : tie.After-node-words) → c .before .from-zero .result * c .node-words .result ≤ 2 ^ 32 * 132
 within c = times-lt _ _ (2 ^ 32) 132 (c .before .from-zero .ensures .1) (c .node-words .ensures .2)
 
-from-zero-requires : tie.Need-from-zero-requires
-from-zero-requires c κs = search needs
-
-node-words-requires : tie.Need-node-words-requires
-node-words-requires c κs = search needs
-
 mul-result : tie.Need-mul-result
 mul-result c = omega (arith, within c)
 
@@ -26,5 +20,4 @@ returns : tie.Need-returns
 returns c = (node-start-is _ _ _ _ (c .before .from-zero .ensures .0) (c .node-words .ensures .0), omega (arith, within c))
 
 pub node-start-spec : {M : Type 1} → statement M
-node-start-spec =
-    tie.close (tie.spec from-zero-requires node-words-requires mul-result add-result returns)
+node-start-spec = tie.close (tie.spec (λ c κs. search needs) (λ c κs. search needs) mul-result add-result returns)

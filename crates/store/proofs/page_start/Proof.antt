@@ -13,23 +13,11 @@ nodes c = times-lt _ _ (2 ^ 32) 132 (c .before .to-index .ensures .1) (c .node-w
 pages : (c : tie.After-page-words) → c .before .from-zero .result * c .page-words .result ≤ 2 ^ 32 * 257
 pages c = times-lt _ _ (2 ^ 32) 257 (c .before .from-zero .ensures .1) (c .page-words .ensures .1)
 
-to-index-requires : tie.Need-to-index-requires
-to-index-requires c κs = search needs
-
-node-words-requires : tie.Need-node-words-requires
-node-words-requires c κs = search needs
-
 mul-result : tie.Need-mul-result
 mul-result c = omega (arith, nodes c)
 
 add-result : tie.Need-add-result
 add-result c = omega (arith, nodes c)
-
-from-zero-requires : tie.Need-from-zero-requires
-from-zero-requires c κs = search needs
-
-page-words-requires : tie.Need-page-words-requires
-page-words-requires c κs = search needs
 
 mul-result-2 : tie.Need-mul-result-2
 mul-result-2 c = omega (arith, pages c)
@@ -48,5 +36,5 @@ returns c =
 pub page-start-spec : {M : Type 1} → statement M
 page-start-spec =
     tie.close
-    (tie.spec to-index-requires node-words-requires mul-result add-result from-zero-requires page-words-requires mul-result-2 add-result-2
-    returns)
+    (tie.spec (λ c κs. search needs) (λ c κs. search needs) mul-result add-result (λ c κs. search needs) (λ c κs. search needs) mul-result-2
+    add-result-2 returns)

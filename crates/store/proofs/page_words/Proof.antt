@@ -10,12 +10,6 @@ use Rattle.store.proofs.page_words.Tie as tie
 within : (c : tie.After-to-index) → c .before .words-of .result * c .to-index .result ≤ 4 * 64
 within c = times-le _ _ 4 64 (c .before .words-of .ensures .2) (omega arith)
 
-words-of-requires : tie.Need-words-of-requires
-words-of-requires c κs = search needs
-
-to-index-requires : tie.Need-to-index-requires
-to-index-requires c κs = search needs
-
 mul-result : tie.Need-mul-result
 mul-result c = omega (arith, within c)
 
@@ -26,5 +20,4 @@ returns : tie.Need-returns
 returns c = (page-words-is _ _ _ _ (c .before .words-of .ensures .0) (c .to-index .ensures .0), omega (arith, within c))
 
 pub page-words-spec : {M : Type 1} → statement M
-page-words-spec =
-    tie.close (tie.spec words-of-requires to-index-requires mul-result add-result returns)
+page-words-spec = tie.close (tie.spec (λ c κs. search needs) (λ c κs. search needs) mul-result add-result returns)

@@ -5,9 +5,6 @@ use native.Mathlib.Omega.{arith}
 use Rattle.store.proofs.pow2.Statement.{statement}
 use Rattle.store.proofs.pow2.Tie as tie
 
-shl-result : tie.Need-shl-result
-shl-result c = search needs
-
 returns : tie.Need-returns
 returns c =
     let e = shl-one (c .args .k) 64 (omega arith) in
@@ -15,4 +12,4 @@ returns c =
     (e, b .0, b .1)
 
 pub pow2-spec : {M : Type 1} → statement M
-pow2-spec = tie.close (tie.spec shl-result returns)
+pow2-spec = tie.close (tie.spec (λ c. search needs) returns)

@@ -25,9 +25,6 @@ low c = at-least _ _ _ _ _ _ (c .before .size-of .ensures .0) (lawful (c .before
 zeroed : (c : tie.After-clear) → c .clear .last .0 ≡ replicate (c .before .before .before .size-of .result) 0
 zeroed c = cleared _ _ _ (c .before .before .if2 .left) (c .clear .ensures)
 
-sizes-ok-requires : tie.Need-sizes-ok-requires
-sizes-ok-requires c κs = search needs
-
 returns : tie.Need-returns
 returns c = outside _ _ _ _ _ _ (failed (c .before .sizes-ok .ensures) (c .if1 .taken))
 
@@ -37,24 +34,12 @@ size-of-requires c κs = let l = sizes-limits _ _ _ _ (lawful c) in (l .theta, l
 returns-2 : tie.Need-returns-2
 returns-2 c = short _ _ _ _ _ _ (lawful (c .before .before)) (rw (c .before .size-of .ensures .0) at (c .if2 .taken))
 
-slice-relend-prefix-clear : tie.Need-slice-relend-prefix-clear
-slice-relend-prefix-clear c = search needs
-
 slice-aggregate-clear : tie.Need-slice-aggregate-clear
 slice-aggregate-clear c = sym (length-take-le _ _ (c .before .if2 .left))
-
-clear-requires : tie.Need-clear-requires
-clear-requires c κs = search needs
 
 mark-requires : tie.Need-mark-requires
 mark-requires c κs =
     let p = c .before .before .before in long-enough _ _ _ (low (p .before .before)) (zeroed p)
-
-cast-t16 : tie.Need-cast-t16
-cast-t16 c = search needs
-
-same-length : tie.Need-same-length
-same-length c = search needs
 
 returns-3 : tie.Need-returns-3
 returns-3 c =
@@ -67,5 +52,5 @@ returns-3 c =
 pub set-up-spec : {M : Type 1} → statement M
 set-up-spec =
     tie.close
-    (tie.spec sizes-ok-requires returns size-of-requires returns-2 slice-relend-prefix-clear slice-aggregate-clear clear-requires
-    mark-requires cast-t16 same-length returns-3)
+    (tie.spec (λ c κs. search needs) returns size-of-requires returns-2 (λ c. search needs) slice-aggregate-clear (λ c κs. search needs)
+    mark-requires (λ c. search needs) (λ c. search needs) returns-3)

@@ -13,23 +13,11 @@ nodes c = times-le _ _ 4096 132 (omega arith) (c .node-words .ensures .2)
 pages : (c : tie.After-page-words) → c .before .to-index2 .result * c .page-words .result ≤ 4096 * 257
 pages c = times-le _ _ 4096 257 (omega arith) (c .page-words .ensures .1)
 
-to-index-requires : tie.Need-to-index-requires
-to-index-requires c κs = search needs
-
-node-words-requires : tie.Need-node-words-requires
-node-words-requires c κs = search needs
-
 mul-result : tie.Need-mul-result
 mul-result c = omega (arith, nodes c)
 
 add-result : tie.Need-add-result
 add-result c = omega (arith, nodes c)
-
-to-index-requires-2 : tie.Need-to-index-requires-2
-to-index-requires-2 c κs = search needs
-
-page-words-requires : tie.Need-page-words-requires
-page-words-requires c κs = search needs
 
 mul-result-2 : tie.Need-mul-result-2
 mul-result-2 c = omega (arith, pages c)
@@ -48,5 +36,5 @@ returns c =
 pub size-of-spec : {M : Type 1} → statement M
 size-of-spec =
     tie.close
-    (tie.spec to-index-requires node-words-requires mul-result add-result to-index-requires-2 page-words-requires mul-result-2 add-result-2
-    returns)
+    (tie.spec (λ c κs. search needs) (λ c κs. search needs) mul-result add-result (λ c κs. search needs) (λ c κs. search needs) mul-result-2
+    add-result-2 returns)

@@ -31,5 +31,4 @@ returns-8 : tie.Need-returns-8
 returns-8 c = sizes-last _ _ _ _ (search needs)
 
 pub sizes-ok-spec : {M : Type 1} → statement M
-sizes-ok-spec =
-    tie.close (tie.spec returns returns-2 returns-3 returns-4 returns-5 returns-6 returns-7 returns-8)
+sizes-ok-spec = tie.close (tie.spec returns returns-2 returns-3 returns-4 returns-5 returns-6 returns-7 returns-8)

@@ -5,18 +5,6 @@ use Rattle.totals.proofs.Laws.{updated-taken, updated-kept}
 use Rattle.totals.proofs.updated.Statement.{statement}
 use Rattle.totals.proofs.updated.Tie as tie
 
-add-count : tie.Need-add-count
-add-count c = search needs
-
-worth-of-requires : tie.Need-worth-of-requires
-worth-of-requires c κs = search needs
-
-add-total : tie.Need-add-total
-add-total c = search needs
-
-is-earlier-requires : tie.Need-is-earlier-requires
-is-earlier-requires c κs = search needs
-
 returns : tie.Need-returns
 returns c =
     rw (c .before .before .before .worth-of .ensures .0)
@@ -28,4 +16,4 @@ returns-2 c =
     (sym (updated-kept _ _ _ (sym (c .before .is-earlier .ensures) ∙ c .if1 .left)))
 
 pub updated-spec : {M : Type 1} → statement M
-updated-spec = tie.close (tie.spec add-count worth-of-requires add-total is-earlier-requires returns returns-2)
+updated-spec = tie.close (tie.spec (λ c. search needs) (λ c κs. search needs) (λ c. search needs) (λ c κs. search needs) returns returns-2)

@@ -5,15 +5,6 @@ use Rattle.totals.proofs.Laws.{worth-replied}
 use Rattle.totals.proofs.worth_of.Statement.{statement}
 use Rattle.totals.proofs.worth_of.Tie as tie
 
-balance-requires : tie.Need-balance-requires
-balance-requires c κs = search needs
-
-enum-known-answer : tie.Need-enum-known-answer
-enum-known-answer c = search needs
-
-widen-requires : tie.Need-widen-requires
-widen-requires c κs = search needs
-
 enum-told : tie.Need-enum-told
 enum-told c = search needs
 
@@ -28,4 +19,4 @@ returns-2 : tie.Need-returns-2
 returns-2 c = (worth-replied _ _ (c .enum-told .given .1) (c .before .before .balance .ensures), search needs)
 
 pub worth-of-spec : {M : Type 1} → statement M
-worth-of-spec = tie.close (tie.spec balance-requires enum-known-answer widen-requires enum-told returns returns-2)
+worth-of-spec = tie.close (tie.spec (λ c κs. search needs) (λ c. search needs) (λ c κs. search needs) enum-told returns returns-2)
