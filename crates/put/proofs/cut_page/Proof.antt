@@ -15,10 +15,16 @@ room c =
     let p = c .before .before .pre in
     room-for (a .f) (a .capacity) (c .words-of .result) (a .n) (length (a .part .now)) (c .words-of .ensures .0) (p .1) (p .0)
 
+cast-part : tie.Need-cast-part
+cast-part c = search needs
+
 slice-write-part : tie.Need-slice-write-part
 slice-write-part c =
     let a = c .before .args in
     omega (arith, room-for (a .f) (a .capacity) _ 0 (length (a .part .now)) refl (c .before .pre .1) (omega arith))
+
+words-of-requires : tie.Need-words-of-requires
+words-of-requires c κs = search needs
 
 mul-rest : tie.Need-mul-rest
 mul-rest c = omega (arith, room c)
@@ -34,6 +40,12 @@ sub-clear c = simp length-set (omega (arith, room c))
 
 part-clear-start : tie.Need-part-clear-start
 part-clear-start c = simp length-set (omega (arith, room c))
+
+part-clear-end : tie.Need-part-clear-end
+part-clear-end c = search needs
+
+clear-requires : tie.Need-clear-requires
+clear-requires c κs = search needs
 
 same-length : tie.Need-same-length
 same-length c =
@@ -54,5 +66,16 @@ returns c =
 pub cut-page-spec : {M : Type 1} → statement M
 cut-page-spec =
     tie.close
-    (tie.spec (λ c. search needs) slice-write-part (λ c κs. search needs) mul-rest add-rest mul-clear sub-clear part-clear-start
-    (λ c. search needs) (λ c κs. search needs) same-length returns)
+    (tie.spec
+    cast-part
+    slice-write-part
+    words-of-requires
+    mul-rest
+    add-rest
+    mul-clear
+    sub-clear
+    part-clear-start
+    part-clear-end
+    clear-requires
+    same-length
+    returns)

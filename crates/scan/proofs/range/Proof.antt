@@ -28,11 +28,23 @@ list-is : (c : tie.After-list)
     ≡ listing (ranged (a .f) (a .store .now) (headOf (a .store .now)) (a .low) (a .high) (length (a .out .now) / words (a .f)))
 list-is c = rw (c .before .before .head-of .ensures, c .before .words-of .ensures .0) at (c .list .ensures .0)
 
+head-ok-requires : tie.Need-head-ok-requires
+head-ok-requires c κs = search needs
+
 returns : tie.Need-returns
 returns c = range-head _ _ _ _ _ (failed (c .before .head-ok .ensures) (c .if1 .taken))
 
 returns-2 : tie.Need-returns-2
 returns-2 c = range-order _ _ _ _ _ (passed (c .before .before .head-ok .ensures) (c .before .if1 .left)) (c .if2 .taken)
+
+head-of-requires : tie.Need-head-of-requires
+head-of-requires c κs = search needs
+
+words-of-requires : tie.Need-words-of-requires
+words-of-requires c κs = search needs
+
+div-room : tie.Need-div-room
+div-room c = search needs
 
 list-requires : tie.Need-list-requires
 list-requires c κs =
@@ -60,6 +72,9 @@ fill-requires c κs =
       rw head (range-length (a .f) _ _ _ (a .out .now) (head-sound t) (in-order t) _ (list-is l) (not-false _ (c .before .if3 .left))),
     )
 
+same-length : tie.Need-same-length
+same-length c = search needs
+
 returns-4 : tie.Need-returns-4
 returns-4 c =
     let l = c .before .before .before .before .before .before in
@@ -71,5 +86,15 @@ returns-4 c =
 pub range-spec : {M : Type 1} → statement M
 range-spec =
     tie.close
-    (tie.spec (λ c κs. search needs) returns returns-2 (λ c κs. search needs) (λ c κs. search needs) (λ c. search needs) list-requires
-    returns-3 fill-requires (λ c. search needs) returns-4)
+    (tie.spec
+    head-ok-requires
+    returns
+    returns-2
+    head-of-requires
+    words-of-requires
+    div-room
+    list-requires
+    returns-3
+    fill-requires
+    same-length
+    returns-4)

@@ -34,16 +34,31 @@ sum-is c =
     (rw (c .before .before .before .head-of .ensures, c .before .before .widen .ensures .0, c .before .widen2 .ensures .0) at
     (c .sum .ensures))
 
+head-ok-requires : tie.Need-head-ok-requires
+head-ok-requires c κs = search needs
+
 returns : tie.Need-returns
 returns c = summary-head _ _ _ _ _ (failed (c .before .head-ok .ensures) (c .if1 .taken))
 
 returns-2 : tie.Need-returns-2
 returns-2 c = summary-order _ _ _ _ _ (head-sound (c .before)) (c .if2 .taken)
 
+lawful-day-requires : tie.Need-lawful-day-requires
+lawful-day-requires c κs = search needs
+
 returns-3 : tie.Need-returns-3
 returns-3 c =
     summary-day _ _ _ _ _ (head-sound (c .before .before .before)) (c .before .before .if2 .left)
     (failed (c .before .lawful-day .ensures) (c .if3 .taken))
+
+head-of-requires : tie.Need-head-of-requires
+head-of-requires c κs = search needs
+
+widen-requires : tie.Need-widen-requires
+widen-requires c κs = search needs
+
+widen-requires-2 : tie.Need-widen-requires-2
+widen-requires-2 c κs = search needs
 
 sum-requires : tie.Need-sum-requires
 sum-requires c κs =
@@ -60,5 +75,15 @@ returns-5 c =
 pub summary-spec : {M : Type 1} → statement M
 summary-spec =
     tie.close
-    (tie.spec (λ c κs. search needs) returns returns-2 (λ c κs. search needs) returns-3 (λ c κs. search needs) (λ c κs. search needs)
-    (λ c κs. search needs) sum-requires returns-4 returns-5)
+    (tie.spec
+    head-ok-requires
+    returns
+    returns-2
+    lawful-day-requires
+    returns-3
+    head-of-requires
+    widen-requires
+    widen-requires-2
+    sum-requires
+    returns-4
+    returns-5)
