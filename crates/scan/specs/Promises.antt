@@ -1,13 +1,15 @@
 -- What is promised of range and summary on any words, each as a type; proofs/Promises.antt proves them.
 --   RangeAscends   == a range's records ascend and are from low to high
 --   RangeMore      == the first key not written that a range names is not above high
+--   RangeOnward    == a range's records have keys above 0 and not below low, so they are few; a key not written lies behind a full output
+--   SummaryCount   == a summary counts at most as many records as there are keys to high
 --   RangeInside    == a range writes only the words of its records
 --   SummaryKey     == the key that a summary names is not above high
 --   RangeRefusals  == a rangeRefused range replies zeros and leaves the output
 --   SummaryRefusals == a rangeRefused summary replies zeros
 use mathlib.Core.Path.{_≡_}
 use mathlib.Core.List.{List}
-use Prim.Native.Nat.{ℕ, _*_, _≤_}
+use Prim.Native.Nat.{ℕ, _+_, _-_, _*_, _≤_, _<_}
 use lib.ListN.{length, drop}
 use Rattle.lists.specs.Lists.{All}
 use Rattle.lists.specs.Keyed.{Sorted}
@@ -26,6 +28,18 @@ RangeAscends =
 
 abbrev pub RangeMore : Type 0
 RangeMore = (f : Format) (s : List ℕ) (low high : ℕ) (out : List ℕ) → rangeOf f s low high out .reply .more ≤ high
+
+-- (low − 1 keys above 0 lie below low)
+abbrev pub RangeOnward : Type 0
+RangeOnward =
+    (f : Format) (s : List ℕ) (h : Head) (low high room : ℕ) → low ≤ high
+    → let r = ranged f s h low high room in
+    (length (r .items) ≤ room)
+    × (low - 1 + length (r .items) ≤ high)
+    × ((r .more ≡ 0 → ⊥) → (low - 1 + length (r .items) < r .more) × (length (r .items) ≡ room))
+
+abbrev pub SummaryCount : Type 0
+SummaryCount = (f : Format) (s : List ℕ) (low high today : ℕ) → summaryOf f s low high today .count ≤ high
 
 -- "it fills a lent output slice with as many whole records as fit, leaves its other words"
 abbrev pub RangeInside : Type 0
