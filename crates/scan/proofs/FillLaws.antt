@@ -21,7 +21,7 @@ use Rattle.search.specs.declared.Sought.the-variants.{Record, Nothing, Damaged}
 use Rattle.search.specs.Next.{nextOf}
 use Rattle.scan.specs.declared.Listing.{Listing}
 use Rattle.page.specs.Page.{itemWords, flat}
-use Rattle.page.proofs.Flat.{plot-words, length-flat, flat-last}
+use Rattle.page.proofs.Flat.{plot-words, length-item, length-flat, flat-last}
 use Rattle.scan.specs.Range.{Ranged, also, rangeFrom, ranged, listing, firsts, rangeRefused, listed, rangeOf}
 use Rattle.scan.proofs.RangeLaws.{from-damaged, from-nothing, from-passed, from-full, from-last, from-on}
 
@@ -55,24 +55,29 @@ length-filled f its m out t e h q =
     ap length q ∙ length-append (flat f its) (drop (words f * m) out)
     ∙ rw (length-drop, length-flat f its, e) (omega arith)
 
+-- elements X written at the end of those that stand before
+pub append-at : (at : ℕ) (pre X out first last : List ℕ) → out ≡ pre ++ drop at first → length pre ≡ at
+    → last ≡ X ++ drop (length X) (take (length out - at) (drop at out))
+    → take at out ++ (last ++ drop (length out - at) (drop at out)) ≡ (pre ++ X) ++ drop (at + length X) first
+append-at at pre X out first last o n e =
+    let B = drop at first in
+    let front : take at out ≡ pre = ap (take at) o ∙ take-at pre B at n in
+    let back : drop at out ≡ B = ap (drop at) o ∙ drop-at pre B at n in
+    let rest : length out - at ≡ length B = omega (arith, ap length o, length-append pre B) in
+    let whole : take (length out - at) (drop at out) ≡ B = rw (back, rest) (take-length B) in
+    let none : drop (length out - at) (drop at out) ≡ [] = rw (back, rest) (drop-length B) in
+    rw (front, none, e, whole, ← drop-drop (length X) at first) (simp (append-nil, append-assoc))
+
 -- one record more, at the end of those written
 pub fill-more : (f : Format) (its : List Item) (it : Item) (i at : ℕ) (out first last : List ℕ)
     → out ≡ flat f its ++ drop (words f * i) first → length its ≡ i → at ≡ words f * i
     → last ≡ itemWords f it ++ drop (words f) (take (length out - at) (drop at out))
     → take at out ++ (last ++ drop (length out - at) (drop at out)) ≡ flat f (its ++ (it ∷ [])) ++ drop (words f * (i + 1)) first
 fill-more f its it i at out first last o l a e =
-    let A = flat f its in
-    let B = drop (words f * i) first in
-    let n : length A ≡ at = length-flat f its ∙ rw l (sym a) in
-    let front : take at out ≡ A = ap (take at) o ∙ take-at A B at n in
-    let back : drop at out ≡ B = ap (drop at) o ∙ drop-at A B at n in
-    let rest : length out - at ≡ length B = omega (arith, ap length o, length-append A B) in
-    let whole : take (length out - at) (drop at out) ≡ B = rw (back, rest) (take-length B) in
-    let none : drop (length out - at) (drop at out) ≡ [] = rw (back, rest) (drop-length B) in
-    let next : words f * i + words f ≡ words f * (i + 1) = omega arith in
-    let tail : drop (words f) B ≡ drop (words f * (i + 1)) first =
-    drop-drop (words f) (words f * i) first ∙ ap (λ (m : ℕ). drop m first) next in
-    rw (front, none, e, whole, flat-last f its it, ← tail) (simp (append-nil, append-assoc))
+    let w = length-item f it in
+    let next : at + length (itemWords f it) ≡ words f * (i + 1) = omega arith in
+    append-at at (flat f its) (itemWords f it) out first last (o ∙ rw (← a)) (length-flat f its ∙ rw l (sym a)) (e ∙ rw w)
+    ∙ rw (flat-last f its it, ← next)
 
 -- the walk, one record on
 pub walk-more : (f : Format) (s : List ℕ) (h : Head) (strict : Bool) (k i n : ℕ) (its all : List Item) (it : Item) → i < n

@@ -147,11 +147,13 @@ range-onward f s h low high room l =
     (a .fits, rw lead-false at (a .few (omega (arith, lead-false))), λ n. rw lead-false at (a .behind n))
 
 -- what holds of a refusal and of each walk holds of range's reply and words
-range-rule :
+pub range-rule :
     (P : After → Type 0) (f : Format) (s : List ℕ) (low high : ℕ) (out : List ℕ) →
-    ((n : ℕ) → P (record { reply = rangeRefused n; words = out })) →
+    ((n : ℕ) → (n ≡ 0 → ⊥) → P (record { reply = rangeRefused n; words = out })) →
     (let r = ranged f s (headOf s) low high (length out / words f) in
-    P (record {
+    low ≤ high
+    → r .ok ≡ true
+    → P (record {
       reply = record { number = 0; count = length (r .items); more = r .more };
       words = flat f (r .items) ++ drop (words f * length (r .items)) out;
     })) →
@@ -161,17 +163,17 @@ range-rule P f s low high out refused walked =
     by-cases (headRule f s)
     (λ r.
     by-cases (ltb high low)
-    (λ o. rw (r, o, rangeOf) (refused 7))
+    (λ o. rw (r, o, rangeOf) (refused 7 (λ z. omega arith)))
     (λ o.
     by-cases (ranged f s (headOf s) low high (length out / words f) .ok)
-    (λ k. rw (r, o, k, rangeOf, listed) walked)
-    (λ k. rw (r, o, k, rangeOf, listed) (refused 9))))
-    (λ r. rw (r, rangeOf) (refused 3))
+    (λ k. rw (r, o, k, rangeOf, listed) (walked (ltb-false high low o) k))
+    (λ k. rw (r, o, k, rangeOf, listed) (refused 9 (λ z. omega arith)))))
+    (λ r. rw (r, rangeOf) (refused 3 (λ z. omega arith)))
 
 pub range-more : RangeMore
 range-more f s low high out =
-    range-rule (λ a. a .reply .more ≤ high) f s low high out (λ n. omega arith)
-    (range-runs f s (headOf s) high low (length out / words f) .more)
+    range-rule (λ a. a .reply .more ≤ high) f s low high out (λ n z. omega arith)
+    (λ l k. range-runs f s (headOf s) high low (length out / words f) .more)
 
 pub range-inside : RangeInside
 range-inside f s low high out =
@@ -179,15 +181,15 @@ range-inside f s low high out =
     let room = records-fit f (length out) (length its) (range-runs f s (headOf s) high low (length out / words f) .fits) in
     range-rule
     (λ a. (length (a .words) ≡ length out) × (drop (words f * a .reply .count) (a .words) ≡ drop (words f * a .reply .count) out)) f s low
-    high out (λ n. (refl, refl)) (
+    high out (λ n z. (refl, refl)) (λ l k. (
       length-filled f its (length its) out _ refl room refl,
       drop-at (flat f its) (drop (words f * length its) out) (words f * length its) (length-flat f its),
-    )
+    ))
 
 pub range-refusals : RangeRefusals
 range-refusals f s low high out =
     range-rule (λ a. (a .reply .number ≡ 0 → ⊥) → (a .reply ≡ rangeRefused (a .reply .number)) × (a .words ≡ out)) f s low high out
-    (λ n z. (refl, refl)) (λ z. absurd (z refl))
+    (λ n i z. (refl, refl)) (λ l k z. absurd (z refl))
 
 -- what each record of the walk keeps holds of the totals at the end: P of the largest key passed and the totals so far, R of the totals
 module _ (f : Format) (s : List ℕ) (h : Head) (high today : ℕ) (P : ℕ → Totals → Type 0) (R : Totals → Type 0) (none : R noTotals)

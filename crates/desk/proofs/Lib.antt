@@ -1,0 +1,5 @@
+pub mod Sample
+pub mod ListingLaws
+pub mod LineLaws
+pub mod PartLaws
+pub mod ServeLaws

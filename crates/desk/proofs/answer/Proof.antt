@@ -1,0 +1,79 @@
+-- Each arm is one case of the definition.
+use borrow.Author.Needs.{needs}
+use mathlib.Core.Path.{_≡_, refl, sym, ap, _∙_}
+use mathlib.Core.List.{List}
+use Prim.Native.Nat.{ℕ, _^_, _≤_, _<_}
+use native.Mathlib.Omega.{arith}
+use Rattle.lines.specs.declared.Request.{Request}
+use Rattle.scan.specs.Summary.{SummaryReply}
+use Rattle.scan.proofs.Promises.{summary-count}
+use Rattle.desk.specs.declared.Outcome.{Outcome}
+use Rattle.desk.specs.declared.Outcome.the-variants.{Line}
+use Rattle.desk.specs.Replies.{setUpTold, enterTold, findTold, nextTold, summaryTold}
+use Rattle.desk.specs.Transcript.{answered}
+use Rattle.desk.proofs.answer.Statement.{statement}
+use Rattle.desk.proofs.answer.Tie as tie
+
+told-as : (s : List ℕ) {t : List ℕ} {r q : Request} {a b : Outcome} → r ≡ q → a ≡ b → t ≡ answered s q .words
+    → b ≡ answered s q .outcome → (a ≡ answered s r .outcome) × (t ≡ answered s r .words)
+told-as s e l w o = (l ∙ o ∙ sym (ap (λ r. answered s r .outcome) e), w ∙ sym (ap (λ r. answered s r .words) e))
+
+narrow : {r q : SummaryReply} {high : ℕ} → r ≡ q → q .count ≤ high → high < 2 ^ 32 → r .count < 2 ^ 32
+narrow e l h = omega (arith, ap (λ (r : SummaryReply). r .count) e)
+
+summary-told-requires : tie.Need-summary-told-requires
+summary-told-requires c κs = narrow (c .summary .ensures) (summary-count _ _ _ _ _) (omega arith)
+
+returns : tie.Need-returns
+unfolding answered
+returns c =
+    let s = c .before .before .before .before .before .before .before .before .before .args .store .now in
+    let e = c .before .before .before .set-up .ensures in
+    told-as s (c .before .before .before .before .before .before .request .given .1) (ap Line (c .set-up-told .ensures ∙ ap setUpTold (e .0))) (e .1) refl
+
+returns-2 : tie.Need-returns-2
+unfolding answered
+returns-2 c =
+    let s = c .before .before .before .before .before .before .before .before .before .args .store .now in
+    let e = c .before .before .before .enter .ensures in
+    told-as s (c .before .before .before .before .before .before .request2 .given .1) (ap Line (c .enter-told .ensures ∙ ap enterTold (e .0))) (e .1) refl
+
+returns-3 : tie.Need-returns-3
+unfolding answered
+returns-3 c =
+    let s = c .before .before .before .before .before .before .before .args .store .now in
+    told-as s (c .before .before .before .before .request3 .given .1) (ap Line (c .find-told .ensures ∙ ap findTold (c .before .find .ensures))) refl refl
+
+returns-4 : tie.Need-returns-4
+unfolding answered
+returns-4 c =
+    let s = c .before .before .before .before .before .before .before .args .store .now in
+    told-as s (c .before .before .before .before .request4 .given .1) (ap Line (c .next-told .ensures ∙ ap nextTold (c .before .next .ensures))) refl refl
+
+returns-5 : tie.Need-returns-5
+unfolding answered
+returns-5 c =
+    let s = c .before .before .before .before .before .before .args .store .now in
+    told-as s (c .before .before .before .request5 .given .1) (c .open-range .ensures) refl refl
+
+returns-6 : tie.Need-returns-6
+unfolding answered
+returns-6 c =
+    let s = c .before .before .before .before .before .before .before .args .store .now in
+    told-as s (c .before .before .before .before .request6 .given .1) (ap Line (c .summary-told .ensures ∙ ap summaryTold (c .before .summary .ensures)))
+    refl refl
+
+returns-7 : tie.Need-returns-7
+unfolding answered
+returns-7 c =
+    let s = c .before .before .before .args .store .now in
+    told-as s (c .enum-told .given .1) refl refl refl
+
+pub answer-spec : {M : Type 1} → statement M
+answer-spec =
+    tie.close
+    (tie.spec (λ c. search needs) (λ c κs. search needs) (λ c κs. search needs) (λ c. search needs) (λ c κs. search needs)
+    (λ c κs. search needs) (λ c. search needs) (λ c κs. search needs) (λ c κs. search needs) (λ c. search needs) (λ c κs. search needs)
+    (λ c κs. search needs) (λ c. search needs) (λ c κs. search needs) (λ c. search needs) (λ c κs. search needs) summary-told-requires
+    (λ c. search needs) (λ c. search needs) returns (λ c. search needs) returns-2 (λ c. search needs) returns-3 (λ c. search needs)
+    returns-4 (λ c. search needs) returns-5 (λ c. search needs) returns-6 returns-7)

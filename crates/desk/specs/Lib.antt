@@ -1,0 +1,5 @@
+pub mod Replies
+pub mod Listing
+pub mod Transcript
+pub mod Serving
+pub mod Sample

@@ -1,0 +1,47 @@
+-- The reply line that an operation's answer gets. Document 01, "The counter program".
+--   told kind n r  == the reply r where the number n is 0, else the line of the number n alone
+--   setUpTold, enterTold, findTold, nextTold, summaryTold == an operation's answer as a reply
+--   listedTold it  == a record in a listing; listedLines its: a line for each
+use mathlib.Core.Bool.{true, false}
+use mathlib.Core.List.{List, [], _∷_, _++_}
+use Prim.Native.Nat.{ℕ}
+use lib.Dec.{eqb}
+use Rattle.lines.specs.declared.Reply.{Reply}
+use Rattle.lines.specs.declared.Reply.the-variants.{SetUpDone, Entered, Found, NextIs, Listed, Totals, Refused}
+use Rattle.lines.specs.Reply.{replyLine}
+use Rattle.tree.specs.Book.{}
+use Rattle.store.specs.declared.Item.{Item}
+use Rattle.store.specs.SetUp.{}
+use Rattle.search.specs.Find.{}
+use Rattle.scan.specs.Summary.{SummaryReply}
+
+-- "Each reply is kind, answer (2 columns each), four fields. .. Other fields are 0."
+unfoldable pub told : ℕ → ℕ → Reply → Reply
+told kind n r = elim (eqb n 0) [ true ↦ r | false ↦ Refused kind n ]
+
+-- "Set-up gives the size."
+unfoldable pub setUpTold : Rattle.store.specs.SetUp.Reply → Reply
+setUpTold a = told 0 (a .number) (SetUpDone (a .size))
+
+-- "Enter gives key, levels, nodes taken, pages taken."
+unfoldable pub enterTold : Rattle.tree.specs.Book.Reply → Reply
+enterTold a = told 1 (a .number) (Entered (a .key) (a .levels) (a .nodes) (a .pages))
+
+-- "Find and next give the record."
+unfoldable pub findTold : Rattle.search.specs.Find.Reply → Reply
+findTold a = told 2 (a .number) (Found (a .item .key) (a .item .price) (a .item .lease) (a .item .last))
+
+unfoldable pub nextTold : Rattle.search.specs.Find.Reply → Reply
+nextTold a = told 3 (a .number) (NextIs (a .item .key) (a .item .price) (a .item .lease) (a .item .last))
+
+-- "Summary gives count, total in 20 columns, earliest key."
+unfoldable pub summaryTold : SummaryReply → Reply
+summaryTold a = told 5 (a .number) (Totals (a .count) (a .total) (a .key))
+
+-- "Range gives a line a record"
+abbrev pub listedTold : Item → Reply
+listedTold it = Listed (it .key) (it .price) (it .lease) (it .last)
+
+unfoldable pub listedLines : List Item → List ℕ
+listedLines [] = []
+listedLines (it ∷ its) = replyLine (listedTold it) ++ listedLines its

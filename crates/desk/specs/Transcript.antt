@@ -1,0 +1,84 @@
+-- What the counter program writes, for every input. Document 01, "The counter program".
+--   Outcome              == a request's reply: one line, or a listing in parts
+--   Answered, answered s r == the outcome of the request r on the store s, and the words after it
+--   outcomeBytes s o     == the bytes of an outcome, on the words after it
+--   Served, served s line input == the bytes replied to the input, on the store s with the bytes of a line so far; and the words at the end
+--   before bytes a       == bytes in front of a
+--   ending line          == the reply to bytes after the last 0A
+--   transcript input     == the bytes that the program writes
+use mathlib.Core.Bool.{true, false}
+use mathlib.Core.List.{List, [], _∷_, _++_}
+use Prim.Native.Nat.{ℕ}
+use lib.Dec.{eqb}
+use lib.ListN.{replicate}
+use Rattle.lines.specs.declared.Request.{Request}
+use Rattle.lines.specs.declared.Request.the-variants.{SetUp, Enter, Find, Next, Range, Summary, Wrong}
+use Rattle.lines.specs.declared.Reply.the-variants.{Refused, WrongLine}
+use Rattle.lines.specs.Request.{parsed}
+use Rattle.lines.specs.Reply.{lineFeed, replyLine}
+use Rattle.store.specs.declared.Format.the-variants.{Plots}
+use Rattle.store.specs.SetUp.{setUp}
+use Rattle.search.specs.Find.{findReply}
+use Rattle.search.specs.Next.{nextReply}
+use Rattle.scan.specs.Summary.{summaryOf}
+use Rattle.insert.specs.Enter.{enterOf}
+use Rattle.desk.specs.declared.Outcome.{Outcome}
+use Rattle.desk.specs.declared.Outcome.the-variants.{Line, Parts}
+use Rattle.desk.specs.Replies.{setUpTold, enterTold, findTold, nextTold, summaryTold}
+use Rattle.desk.specs.Listing.{surveyed, carried}
+
+pub record Answered : Type 0 where
+  pub outcome : Outcome
+  pub words : List ℕ
+
+-- a refused range is one line; else its records are counted, and listed from low on
+unfoldable pub opened : List ℕ → ℕ → ℕ → Outcome
+opened s low high =
+    elim (eqb (surveyed s low high .number) 0) [
+      | true ↦ Parts (record { active = true; at = low; high = high; count = surveyed s low high .count })
+      | false ↦ Line (Refused 4 (surveyed s low high .number))
+    ]
+
+-- "The kind selects: 0 set-up (θ, C, N, P), 1 enter, 2 find, 3 next, 4 range (low, high), 5 summary (low, high, today)"; "A wrong line
+-- replies kind 99, answer 2."
+unfoldable pub answered : List ℕ → Request → Answered
+answered s (SetUp θ C N P) = let a = setUp Plots θ C N P s in record { outcome = Line (setUpTold (a .reply)); words = a .words }
+answered s (Enter k p l d) =
+    let a = enterOf Plots s (record { key = k; price = p; lease = l; last = d }) in
+    record { outcome = Line (enterTold (a .reply)); words = a .words }
+answered s (Find k) = record { outcome = Line (findTold (findReply Plots s k)); words = s }
+answered s (Next k) = record { outcome = Line (nextTold (nextReply Plots s k)); words = s }
+answered s (Range low high) = record { outcome = opened s low high; words = s }
+answered s (Summary low high today) = record { outcome = Line (summaryTold (summaryOf Plots s low high today)); words = s }
+answered s Wrong = record { outcome = Line WrongLine; words = s }
+
+unfoldable pub outcomeBytes : List ℕ → Outcome → List ℕ
+outcomeBytes s (Line r) = replyLine r
+outcomeBytes s (Parts l) = carried s l
+
+pub record Served : Type 0 where
+  pub bytes : List ℕ
+  pub words : List ℕ
+
+abbrev pub before : List ℕ → Served → Served
+before bytes a = record { bytes = bytes ++ a .bytes; words = a .words }
+
+-- "Bytes after the last 0A are one wrong line."
+unfoldable pub ending : List ℕ → List ℕ
+ending [] = []
+ending (b ∷ bs) = replyLine WrongLine
+
+-- "then byte 0A hexadecimal": it ends a line, which is answered on the words that the line before left
+unfoldable pub served : List ℕ → List ℕ → List ℕ → Served
+served s line [] = record { bytes = ending line; words = s }
+served s line (b ∷ bs) =
+    elim (eqb b lineFeed) [
+      | true ↦
+          let a = answered s (parsed line) in
+          before (outcomeBytes (a .words) (a .outcome)) (served (a .words) [] bs)
+      | false ↦ served s (line ++ b ∷ []) bs
+    ]
+
+-- "It reads standard input into a store of 8,192 words, all zero at the start."
+unfoldable pub transcript : List ℕ → List ℕ
+transcript input = served (replicate 8192 0) [] input .bytes
