@@ -5,18 +5,21 @@ use Prim.Native.Nat.{ℕ, zero, suc, _+_, _-_, _*_, _≤_, _<_}
 use native.Mathlib.Omega.{arith}
 use native.Mathlib.Numerals.{add-one}
 use lib.ListN.{length, take, drop, length-append, length-take, length-drop}
-use lib.Dec.{leb}
-use borrow.Author.Tests.{le-leb}
+use lib.Dec.{leb, eqb}
+use borrow.Author.Tests.{le-leb, leb-true}
 use Rattle.lists.proofs.Cases.{by-cases}
 use Rattle.lists.specs.Lists.{tab}
 use Rattle.lists.proofs.Tests.{length-tab, tab-last}
 use Rattle.lines.specs.declared.Reply.{Reply}
+use Rattle.lines.specs.declared.Reply.the-variants.{WrongLine}
 use Rattle.lines.specs.Reply.{After, replyLine, written}
 use Rattle.lines.proofs.Promises.{reply-fits}
 use Rattle.store.specs.declared.Item.{Item}
 use Rattle.scan.proofs.FillLaws.{append-at}
+use Rattle.desk.specs.declared.Desk.{Desk}
 use Rattle.desk.specs.Replies.{listedTold, listedLines}
 use Rattle.desk.specs.Listing.{itemFrom, itemsOf}
+use Rattle.desk.specs.Serving.{finished}
 
 pub length-lines : (its : List Item) → length (listedLines its) ≡ 45 * length its
 unfolding listedLines
@@ -112,3 +115,15 @@ written-most r out = by-cases (leb 45 (length out)) (λ e. rw (e, written) (omeg
 
 pub written-small : {n : ℕ} (r : Reply) (out : List ℕ) → n ≡ written r out .count → n ≤ 45
 written-small r out e = omega (arith, written-most r out)
+
+pub written-within : (r : Reply) (out : List ℕ) → written r out .count ≤ length out
+unfolding written
+written-within r out =
+    by-cases (leb 45 (length out)) (λ e. rw (e, written) (leb-true 45 (length out) e)) (λ e. rw (e, written) (omega arith))
+
+pub finished-within : {n : ℕ} (d : Desk) (out : List ℕ) → n ≡ finished d out .count → n ≤ length out
+unfolding finished
+finished-within {n} d out c =
+    by-cases (eqb (d .held) 0)
+    (λ e. omega (arith, rw (e, finished) at c))
+    (λ e. omega (arith, rw (e, finished) at c, written-within WrongLine out))
