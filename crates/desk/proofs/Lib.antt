@@ -3,3 +3,5 @@ pub mod ListingLaws
 pub mod LineLaws
 pub mod PartLaws
 pub mod ServeLaws
+pub mod OneListing
+pub mod Clerk

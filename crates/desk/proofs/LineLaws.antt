@@ -27,7 +27,7 @@ length-lines [] = refl
 length-lines (it ∷ its) =
     length-append (replyLine (listedTold it)) (listedLines its) ∙ omega (arith, reply-fits (listedTold it), length-lines its)
 
-lines-append : (xs ys : List Item) → listedLines (xs ++ ys) ≡ listedLines xs ++ listedLines ys
+pub lines-append : (xs ys : List Item) → listedLines (xs ++ ys) ≡ listedLines xs ++ listedLines ys
 unfolding listedLines
 lines-append [] ys = refl
 lines-append (x ∷ xs) ys =

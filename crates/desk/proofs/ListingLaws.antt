@@ -13,6 +13,7 @@ use lib.Dec.{eqb}
 use lib.ListN.{length, drop, replicate, length-replicate}
 use borrow.Author.Tests.{eq-eqb, ne-eqb, eqb-true, eqb-false}
 use Rattle.lists.proofs.Cases.{by-cases}
+use Rattle.lines.specs.declared.Reply.the-variants.{Refused}
 use Rattle.store.specs.declared.Format.the-variants.{Plots}
 use Rattle.store.specs.Format.{words}
 use Rattle.store.specs.Head.{headOf}
@@ -22,7 +23,9 @@ use Rattle.scan.proofs.Promises.{range-rule, range-more, range-onward}
 use Rattle.desk.specs.declared.Survey.{Survey}
 use Rattle.desk.specs.declared.Listing.{Listing}
 use Rattle.desk.specs.Listing.{partRecords, partOf, partItems, counted, surveyOf, surveyFrom, surveyed, noListing, listingAfter}
+use Rattle.desk.specs.declared.Outcome.the-variants.{Line, Parts}
 use Rattle.desk.specs.Listing.{partLines, carriedFrom, carried}
+use Rattle.desk.specs.Transcript.{opened}
 
 pub record PartFacts (low high : ℕ) (p : RangeReply) : Type 0 where
   pub few : p .count ≤ partRecords
@@ -85,7 +88,7 @@ pub counted-refused : (n : ℕ) (a : Survey) → (a .number ≡ 0 → ⊥) → c
 unfolding counted
 counted-refused n a e = rw (ne-eqb (a .number) 0 e, counted)
 
-survey-done : (p : RangeReply) (n : ℕ) → p .number ≡ 0 → surveyOf p n ≡ record { number = 0; count = n }
+pub survey-done : (p : RangeReply) (n : ℕ) → p .number ≡ 0 → surveyOf p n ≡ record { number = 0; count = n }
 unfolding surveyOf
 survey-done p n e = rw (eq-eqb (p .number) 0 e, surveyOf)
 
@@ -155,6 +158,10 @@ module _ (s : List ℕ) (high : ℕ) where
       → surveyRest n p ≡ surveyRest (n + q .count) q
   rest-turn n p q h e = rest-next n p h ∙ ap (λ (r : RangeReply). surveyRest (n + r .count) r) (sym e)
 
+  pub rest-more : (n : ℕ) (p : RangeReply) → (p .more ≡ 0 → ⊥) → surveyRest n p ≡ counted n (surveyed s (p .more) high)
+  unfolding surveyRest
+  rest-more n p h = rw (ne-eqb (p .more) 0 h, surveyRest)
+
   pub rest-done : (n : ℕ) (p : RangeReply) → p .more ≡ 0 → surveyRest n p ≡ surveyOf p n
   unfolding surveyRest
   rest-done n p e = rw (eq-eqb (p .more) 0 e, surveyRest)
@@ -173,6 +180,36 @@ left-falls low high q h l f =
       | yes e ↦ rw (ne-eqb low 0 h, eq-eqb (q .more) 0 e, leftAt) (omega arith)
       | no e ↦ let o = f .onward e in let g = f .more in rw (left-more high low h, left-more high (q .more) e) (omega arith)
     ]
+
+-- the survey decides how a range is answered
+module _ (s : List ℕ) (low high : ℕ) (a : Survey) (e : a ≡ surveyed s low high) where
+  is-done : surveyed s low high .number ≡ 0
+      → Parts (record { active = true; at = low; high = high; count = surveyed s low high .count }) ≡ opened s low high
+  unfolding opened
+  is-done z = rw (eq-eqb _ 0 z, opened)
+
+  is-refused : (surveyed s low high .number ≡ 0 → ⊥) → Line (Refused 4 (surveyed s low high .number)) ≡ opened s low high
+  unfolding opened
+  is-refused z = rw (ne-eqb _ 0 z, opened)
+
+  pub opened-parts : a .number ≡ 0 → Parts (record { active = true; at = low; high = high; count = a .count }) ≡ opened s low high
+  opened-parts z =
+      ap (λ (n : ℕ). Parts (record { active = true; at = low; high = high; count = n })) (ap (λ (x : Survey). x .count) e)
+      ∙ is-done (sym (ap (λ (x : Survey). x .number) e) ∙ z)
+
+  pub opened-refused : (a .number ≡ 0 → ⊥) → Line (Refused 4 (a .number)) ≡ opened s low high
+  opened-refused z =
+      ap (λ (n : ℕ). Line (Refused 4 n)) (ap (λ (x : Survey). x .number) e) ∙ is-refused (λ n. z (ap (λ (x : Survey). x .number) e ∙ n))
+
+-- a range whose first call is refused
+pub first-refused : (s : List ℕ) (low high n : ℕ) → (n ≡ 0 → ⊥) → partOf s low high .reply ≡ rangeRefused n
+    → Line (Refused 4 n) ≡ opened s low high
+first-refused s low high n nonzero r =
+    let number = ap (λ (a : RangeReply). a .number) r in
+    let c : surveyed s low high ≡ record { number = n; count = 0 } =
+    survey-turn s high low ∙ rest-done s high _ _ (ap (λ (a : RangeReply). a .more) r)
+    ∙ survey-refused _ _ (λ z. nonzero (sym number ∙ z)) ∙ ap (λ (i : ℕ). record { number = i; count = 0 }) number in
+    opened-refused s low high (record { number = n; count = 0 }) (sym c) nonzero
 
 -- the parts
 

@@ -65,11 +65,11 @@ part-done s low high narrow =
     Plots s low high (replicate (4 * partRecords) 0) (λ n i z. absurd (i z))
     (λ l k z. (ap length same, items-flat its _ keys ∙ same))
 
-end-last : (more count : ℕ) → more ≡ 0 → partEnd more count ≡ replyLine (RangeEnd count)
+pub end-last : (more count : ℕ) → more ≡ 0 → partEnd more count ≡ replyLine (RangeEnd count)
 unfolding partEnd
 end-last more count e = rw (eq-eqb more 0 e, partEnd)
 
-end-none : (more count : ℕ) → (more ≡ 0 → ⊥) → partEnd more count ≡ []
+pub end-none : (more count : ℕ) → (more ≡ 0 → ⊥) → partEnd more count ≡ []
 unfolding partEnd
 end-none more count e = rw (ne-eqb more 0 e, partEnd)
 

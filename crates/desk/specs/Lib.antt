@@ -3,3 +3,4 @@ pub mod Listing
 pub mod Transcript
 pub mod Serving
 pub mod Sample
+pub mod Clerk

@@ -1,7 +1,7 @@
 -- The promises hold, by the laws of columns and of lines.
-use Rattle.lines.specs.Promises.{ColumnFits, ColumnPlain, FormatThenParse, ParseThenFormat, ReplyFits}
+use Rattle.lines.specs.Promises.{ColumnFits, ColumnPlain, FormatThenParse, ParseThenFormat, FieldsFit, ReplyFits}
 use Rattle.lines.proofs.ColumnLaws as columns
-use Rattle.lines.proofs.RequestLaws.{line-parsed, line-kept}
+use Rattle.lines.proofs.RequestLaws.{line-parsed, line-kept, fields-small}
 use Rattle.lines.proofs.ReplyLaws.{length-reply}
 
 pub column-fits : ColumnFits
@@ -15,6 +15,9 @@ format-then-parse = line-parsed
 
 pub parse-then-format : ParseThenFormat
 parse-then-format = line-kept
+
+pub fields-fit : FieldsFit
+fields-fit = fields-small
 
 pub reply-fits : ReplyFits
 reply-fits = length-reply

@@ -6,7 +6,7 @@ use Prim.Native.Nat.{ℕ, zero, suc, _+_, _*_, _^_, _≤_, _<_}
 use native.Mathlib.Omega.{arith}
 use lib.Dec.{ltb, eqb}
 use lib.ListN.{length, drop, getD, length-append, drop-of-length-le}
-use borrow.Author.Tests.{eq-eqb, eqb-true, lt-ltb}
+use borrow.Author.Tests.{eq-eqb, eqb-true, lt-ltb, ltb-true}
 use Rattle.lists.specs.Lists.{All, part}
 use Rattle.lists.proofs.Cases.{by-cases}
 use Rattle.lists.proofs.Tests.{and-true, and-three, untrue}
@@ -197,3 +197,39 @@ line-parsed (Next a) h = parsed-line 3 a 0 0 0 (omega arith) (h .0) (h .1 .0) (h
 line-parsed (Range a b) h = parsed-line 4 a b 0 0 (omega arith) (h .0) (h .1 .0) (h .1 .1 .0) (h .1 .1 .1 .0)
 line-parsed (Summary a b c) h = parsed-line 5 a b c 0 (omega arith) (h .0) (h .1 .0) (h .1 .1 .0) (h .1 .1 .1 .0)
 line-parsed Wrong h = parsed-line 99 0 0 0 0 (omega arith) (h .0) (h .1 .0) (h .1 .1 .0) (h .1 .1 .1 .0)
+
+-- the fields are 32-bit numbers
+abbrev Small : Request → Type 0
+Small r = All (λ n. n < 2 ^ 32) (fieldsOf r)
+
+number-small : (bs : List ℕ) → isNumber bs ≡ true → numberOf bs < 2 ^ 32
+unfolding isNumber
+number-small bs e = ltb-true (numberOf bs) (2 ^ 32) (and-true (plain (skipped bs)) (ltb (numberOf bs) (2 ^ 32)) e .1)
+
+none : 0 < 2 ^ 32
+none = omega arith
+
+unused-small : (r : Request) (t : Bool) → Small r → Small (unused r t)
+unfolding unused
+unused-small r true s = s
+unused-small r false s = (none, (none, (none, (none, tt))))
+
+request-small : (k a b c d : ℕ) → a < 2 ^ 32 → b < 2 ^ 32 → c < 2 ^ 32 → d < 2 ^ 32 → Small (requestOf k a b c d)
+unfolding requestOf
+request-small zero a b c d p q r s = (p, (q, (r, (s, tt))))
+request-small (suc zero) a b c d p q r s = (p, (q, (r, (s, tt))))
+request-small (suc (suc zero)) a b c d p q r s = unused-small (Find a) _ (p, (none, (none, (none, tt))))
+request-small (suc (suc (suc zero))) a b c d p q r s = unused-small (Next a) _ (p, (none, (none, (none, tt))))
+request-small (suc (suc (suc (suc zero)))) a b c d p q r s = unused-small (Range a b) _ (p, (q, (none, (none, tt))))
+request-small (suc (suc (suc (suc (suc zero))))) a b c d p q r s = unused-small (Summary a b c) _ (p, (q, (r, (none, tt))))
+request-small (suc (suc (suc (suc (suc (suc k)))))) a b c d p q r s = (none, (none, (none, (none, tt))))
+
+pub fields-small : (bs : List ℕ) → Small (parsed bs)
+unfolding parsed
+fields-small bs =
+    by-cases (wellFormed bs)
+    (λ e.
+    let f = formed-facts bs e in
+    rw (e, parsed)
+    (request-small _ _ _ _ _ (number-small _ (f .first)) (number-small _ (f .second)) (number-small _ (f .third)) (number-small _ (f .fourth))))
+    (λ e. rw (e, parsed) (none, (none, (none, (none, tt)))))

@@ -3,6 +3,7 @@
 --   ColumnPlain      == and, if it has at most w digits, no leading zero, blanks before, and its own value
 --   FormatThenParse  == the line of a request parses to that request
 --   ParseThenFormat  == a line that parses is the line of what it parses to, so no two lines mean the same request
+--   FieldsFit        == the fields of what a line parses to are 32-bit numbers
 --   ReplyFits        == a reply line has 45 bytes
 use mathlib.Core.Path.{_≡_}
 use mathlib.Core.Bool.{true}
@@ -28,6 +29,9 @@ FormatThenParse = (r : Request) → All (λ n. n < 2 ^ 32) (fieldsOf r) → pars
 
 abbrev pub ParseThenFormat : Type 0
 ParseThenFormat = (bs : List ℕ) → (parsed bs ≡ Wrong → ⊥) → requestLine (parsed bs) ≡ bs
+
+abbrev pub FieldsFit : Type 0
+FieldsFit = (bs : List ℕ) → All (λ n. n < 2 ^ 32) (fieldsOf (parsed bs))
 
 abbrev pub ReplyFits : Type 0
 ReplyFits = (r : Reply) → length (replyLine r) ≡ 45

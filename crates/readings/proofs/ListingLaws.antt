@@ -228,7 +228,7 @@ module _ (f : Format) (s : List ℕ) (h : Head) (S : List Item) where
       start : low ≤ high → high < 2 ^ width f → (rest : List Item) × Start f s h low high S rest
       start p q = let r = from-key low S sorted in (r .1, start-at p q (r .0) (r .1) (r .2) (r .3) (r .4))
 
-    ranged-is : (low high room : ℕ) → low ≤ high → high < 2 ^ width f → ranged f s h low high room ≡ rangedIn S low high room
+    pub ranged-is : (low high room : ℕ) → low ≤ high → high < 2 ^ width f → ranged f s h low high room ≡ rangedIn S low high room
     unfolding ranged rangedIn
     ranged-is low high room p q =
         let r = start low high p q in

@@ -26,11 +26,11 @@ use Rattle.page.specs.Schema.{keyOf}
 use Rattle.represent.specs.Rep.{Rep, Holds}
 use Rattle.readings.specs.Listing.{firstWhere, findIn, nextIn, within, summaryIn}
 use Rattle.readings.specs.Clauses.{Clauses}
-use Rattle.readings.specs.Promises.{Sound, FindReads, NextReads, RangeReads, SummaryReads, FindZero, NextZero, OwnBitsLead}
-use Rattle.readings.specs.Promises.{Summarised, SummaryOutright, NoDamage, ClausesHold}
+use Rattle.readings.specs.Promises.{Sound, FindReads, NextReads, RangeReads, RangedReads, SummaryReads, FindZero, NextZero}
+use Rattle.readings.specs.Promises.{OwnBitsLead, Summarised, SummaryOutright, NoDamage, ClausesHold}
 use Rattle.readings.proofs.FirstLaws.{first-none, first-beyond, all-mem, found-own}
 use Rattle.readings.proofs.Records.{records, records-are}
-use Rattle.readings.proofs.ListingLaws.{NextIs, range-is, summary-is, within-sorted, within-all}
+use Rattle.readings.proofs.ListingLaws.{NextIs, ranged-is, range-is, summary-is, within-sorted, within-all}
 use Rattle.readings.proofs.EarliestLaws.{earliest-read}
 use Rattle.readings.proofs.ListingLaws.{find-sound, next-sound, range-sound, summary-sound}
 use Rattle.represent.proofs.Passes.{pages-pass}
@@ -76,6 +76,9 @@ module _ (f : Format) (s : List ℕ) (S : List Item) where
 
   pub range-reads : RangeReads f s S
   range-reads h low high out q = range-is f s S (next-holds h) (h .sorted) (bounded h) (head-passes f s S h) low high out q
+
+  pub ranged-reads : RangedReads f s S
+  ranged-reads h low high room p q = ranged-is f s (headOf s) S (next-holds h) (h .sorted) (bounded h) low high room p q
 
   no-zero : Holds f s S → All (λ it. it .key ≡ 0 → ⊥) S
   no-zero h =

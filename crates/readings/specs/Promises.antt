@@ -1,5 +1,6 @@
 -- What is promised of the readings of a store that holds a set, each as a type; proofs/Promises.antt proves them.
 --   FindReads, NextReads, RangeReads, SummaryReads == the readings are those of the ascending list
+--   RangedReads      == so are the records that a range lists
 --   Summarised its today a == a is the summary of the records its: how many, their balances together, the earliest key
 --   SummaryOutright  == a summary that is not refused is that of the held records from low to high
 --   FindZero         == find with the key 0, which no record has, gives none
@@ -18,13 +19,14 @@ use Rattle.plot.specs.Plot.{lawfulDay}
 use Rattle.store.specs.declared.Format.{Format}
 use Rattle.store.specs.declared.Item.{Item}
 use Rattle.store.specs.Format.{width}
+use Rattle.store.specs.Head.{headOf}
 use Rattle.totals.specs.Promises.{worths, EarliestOf}
 use Rattle.search.specs.Find.{noItem, soughtReply, findReply}
 use Rattle.search.specs.Next.{nextReply}
-use Rattle.scan.specs.Range.{rangeOf}
+use Rattle.scan.specs.Range.{ranged, rangeOf}
 use Rattle.scan.specs.Summary.{SummaryReply, summaryOf}
 use Rattle.represent.specs.Rep.{Holds}
-use Rattle.readings.specs.Listing.{firstOf, findIn, nextIn, within, rangeIn, summaryIn}
+use Rattle.readings.specs.Listing.{firstOf, findIn, nextIn, within, rangedIn, rangeIn, summaryIn}
 use Rattle.readings.specs.Clauses.{Clauses}
 
 -- "count, total balance (64 bits), and the key of the earliest last day among leased records (lease days above 0, ended ones too), 0 if
@@ -49,6 +51,10 @@ module _ (f : Format) (s : List ℕ) (S : List Item) where
 
   abbrev pub RangeReads : Type 0
   RangeReads = Holds f s S → (low high : ℕ) (out : List ℕ) → high < 2 ^ width f → rangeOf f s low high out ≡ rangeIn f S low high out
+
+  abbrev pub RangedReads : Type 0
+  RangedReads =
+      Holds f s S → (low high room : ℕ) → low ≤ high → high < 2 ^ width f → ranged f s (headOf s) low high room ≡ rangedIn S low high room
 
   abbrev pub SummaryReads : Type 0
   SummaryReads = Holds f s S → (low high today : ℕ) → high < 2 ^ width f → summaryOf f s low high today ≡ summaryIn S low high today
