@@ -5,3 +5,4 @@ pub mod PartLaws
 pub mod ServeLaws
 pub mod OneListing
 pub mod Clerk
+pub mod Delivery

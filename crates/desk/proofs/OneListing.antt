@@ -210,7 +210,7 @@ module _ (s : List ℕ) (S : List Item) (h : Holds Plots s S) (high : ℕ) (q : 
       ∙ lines-done s (at count low) (ap (λ (a : RangeReply). a .number) r)
       ∙ ap (λ (bs : List ℕ). listedLines (partItems s low high) ++ bs) (end-last _ count more)
       ∙ ap (λ (its : List Item). listedLines its ++ replyLine (RangeEnd count))
-        (items-are low p ∙ sym (append-nil _) ∙ sym (parts (W low) [] e))
+      (items-are low p ∙ sym (append-nil _) ∙ sym (parts (W low) [] e))
   lists-by count low p (x ∷ xs) e ih =
       let r = reply-is low p in
       let b = behind low x xs e in
@@ -224,9 +224,9 @@ module _ (s : List ℕ) (S : List Item) (h : Holds Plots s S) (high : ℕ) (q : 
       ∙ ap (λ (k : ℕ). partLines s (at count low) ++ carried s (at count k)) more
       ∙ ap (λ (bs : List ℕ). partLines s (at count low) ++ bs) (ih (x .key) (omega arith) (b .below))
       ∙ ap (λ (bs : List ℕ). bs ++ (listedLines (W (x .key)) ++ end))
-        (lines-done s (at count low) (ap (λ (a : RangeReply). a .number) r)
-        ∙ ap (λ (bs : List ℕ). listedLines (partItems s low high) ++ bs) (end-none _ count (λ z. b .above (sym more ∙ z))) ∙ append-nil _
-        ∙ ap listedLines (items-are low p))
+      (lines-done s (at count low) (ap (λ (a : RangeReply). a .number) r)
+      ∙ ap (λ (bs : List ℕ). listedLines (partItems s low high) ++ bs) (end-none _ count (λ z. b .above (sym more ∙ z))) ∙ append-nil _
+      ∙ ap listedLines (items-are low p))
       ∙ ap (λ (its : List Item). listedLines (take partRecords (W low)) ++ (listedLines its ++ end)) (b .rest)
       ∙ sym (append-assoc (listedLines (take partRecords (W low))) (listedLines (x ∷ xs)) end)
       ∙ ap (λ (bs : List ℕ). bs ++ end) (sym (lines-append (take partRecords (W low)) (x ∷ xs)) ∙ ap listedLines (sym (parts (W low) (x ∷ xs) e)))

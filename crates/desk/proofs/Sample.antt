@@ -1,6 +1,5 @@
 -- The sample holds: antt computes it.
-use mathlib.Core.Bool.{true}
-use mathlib.Core.Path.{_≡_, refl}
+use mathlib.Core.Path.{refl}
 use Rattle.lists.specs.Bits.{bit}
 use Rattle.lists.specs.Lists.{replaced, part, tab, every, greatest}
 use Rattle.lists.specs.Keyed.{contains, insert}
@@ -32,13 +31,13 @@ use Rattle.insert.specs.Enter.{undamaged, enteredWords, done, enterOf}
 use Rattle.lines.specs.Columns.{digit, skipped, plain, value, numberOf, isNumber, byteAt, column}
 use Rattle.lines.specs.Request.{requestLine, fieldOf, unused, requestOf, wellFormed, parsed}
 use Rattle.lines.specs.Reply.{fourFields, summaryFields, replyLine}
-use Rattle.lines.specs.Checks.{bytes, same}
+use Rattle.lines.specs.Checks.{bytes}
 use Rattle.desk.specs.Replies.{told, setUpTold, enterTold, findTold, summaryTold}
 use Rattle.desk.specs.Transcript.{answered, outcomeBytes, ending, served, transcript}
-use Rattle.desk.specs.Sample.{request, response}
+use Rattle.desk.specs.Sample.{request, response, Sampled}
 
-pub sample : same (transcript request) response ≡ true
-unfolding bytes same request response transcript served bit replaced part tab every greatest contains insert isWord lawfulDay lawfulTerm
+pub sampled : Sampled
+unfolding bytes request response transcript served bit replaced part tab every greatest contains insert isWord lawfulDay lawfulTerm
     lawful daysLeft amount balanceReply logBelow levelBound rounds pagesAt bump bumpCost width words zeros headOf nodeWords pageWords size nodeStart
     pageStart pageAt lawfulSizes lawfulCounts headRule setUpWords setUp failing sameRun runRule goodRuns runTest linkRule pointerLow
     pointerHigh nodeRule entryNumber itemAt itemWords flat lawfulItem inTurn goesOn checkedOf ordered pageRule agrees above firstFrom
@@ -49,4 +48,4 @@ unfolding bytes same request response transcript served bit replaced part tab ev
     neighbourOk pathIn parted roundOf placed roundsFor planOf wayOf undamaged enteredWords done enterOf digit skipped plain value numberOf
     isNumber byteAt column requestLine fieldOf unused requestOf wellFormed parsed fourFields summaryFields replyLine told setUpTold
     enterTold findTold summaryTold answered outcomeBytes ending
-sample = refl
+sampled = refl

@@ -183,10 +183,10 @@ module _ (s l t out out' : List ℕ) (n : ℕ) (q : Request) (o : Outcome) (p : 
 
 -- what is served in one turn
 
-before-twice : (xs ys : List ℕ) (a : Served) → before (xs ++ ys) a ≡ before xs (before ys a)
+pub before-twice : (xs ys : List ℕ) (a : Served) → before (xs ++ ys) a ≡ before xs (before ys a)
 before-twice xs ys a = ap (λ (b : List ℕ). record { bytes = b; words = a .words }) (append-assoc xs ys (a .bytes))
 
-rest-quiet : (s : List ℕ) (d : Desk) (bs : List ℕ) → d .listing .active ≡ false → restOf s d bs ≡ served s (lineOf d) bs
+pub rest-quiet : (s : List ℕ) (d : Desk) (bs : List ℕ) → d .listing .active ≡ false → restOf s d bs ≡ served s (lineOf d) bs
 unfolding restOf
 rest-quiet s d bs e = rw (none-carried s (d .listing) e)
 
@@ -228,11 +228,11 @@ module _ (s : List ℕ) (d next : Desk) (input : List ℕ) (n : ℕ) (quiet : d 
             ∙ ap (λ (bs : List ℕ). served s (lineOf next) (bs ++ more)) feed
             ∙ served-feed s (lineOf next) (drop (n + 1) input ++ more)
             ∙ ap (λ (w : List ℕ). before (outcomeBytes w (answered s (parsed (lineOf next)) .outcome)) (served w [] (drop (n + 1) input ++ more)))
-              (sym (a .words))
+            (sym (a .words))
             ∙ ap (λ (bs : List ℕ). before bs (served t [] (drop (n + 1) input ++ more))) (a .says)
             ∙ before-twice (take (r .put) out') (carried t (r .desk .listing)) _
             ∙ ap (λ (l : List ℕ). before (take (r .put) out') (before (carried t (r .desk .listing)) (served t l (drop (n + 1) input ++ more))))
-              (sym (a .empty))
+            (sym (a .empty))
             ∙ ap (λ (i : ℕ). before (take (r .put) out') (restOf t (r .desk) (drop i input ++ more))) (sym (a .taken));
         long = a .long;
         stays = a .stays;
@@ -254,7 +254,7 @@ serves-part s d input out out' left put active e len same o =
           ap (λ (bs : List ℕ). before bs (served s (take (d .held) (d .line)) (input ++ more))) (carried-turn s (d .listing) active)
           ∙ before-twice X (carried s (listingAfter s (d .listing))) _
           ∙ ap (λ (bs : List ℕ). before bs (before (carried s (listingAfter s (d .listing))) (served s (take (d .held) (d .line)) (input ++ more))))
-            (sym front)
+          (sym front)
           ∙ ap (λ (x : Listing). before (take put out') (before (carried s x) (served s (take (d .held) (d .line)) (input ++ more)))) (sym e);
       long = same;
       stays = ap (drop put) o ∙ drop-at X _ put (sym len);
@@ -286,9 +286,10 @@ pub goes-on-room : (d : Desk) (left room : ℕ) → goesOn d left room ≡ true
     → (partBytes ≤ room) × ((d .listing .active ≡ true) ⊎ (1 ≤ left))
 unfolding goesOn
 goes-on-room d left room e =
-    let a = and-true (leb partBytes room) (d .listing .active || ltb 0 left) e in
-    (leb-true partBytes room (a .0),
-    by-cases (d .listing .active) (λ l. inl l) (λ l. inr (omega (arith, ltb-true 0 left (sym (rw l) ∙ a .1)))))
+    let a = and-true (leb partBytes room) (d .listing .active || ltb 0 left) e in (
+      leb-true partBytes room (a .0),
+      by-cases (d .listing .active) (λ l. inl l) (λ l. inr (omega (arith, ltb-true 0 left (sym (rw l) ∙ a .1)))),
+    )
 
 -- one turn more
 module _ (s : List ℕ) (d : Desk) (input out t o u part o' : List ℕ) (r q : Progress) (done : Serves s d input out t o r)
@@ -313,9 +314,9 @@ module _ (s : List ℕ) (d : Desk) (input out t o u part o' : List ℕ) (r q : P
         says = λ more.
             done .says more
             ∙ ap (before (take (r .put) o))
-              (ap (λ (xs : List ℕ). restOf t (r .desk) (xs ++ more)) (sym rest) ∙ step .says more
-              ∙ ap (λ (xs : List ℕ). before (take (q .put) part) (restOf u (q .desk) (drop (q .taken) xs ++ more))) rest
-              ∙ ap (λ (xs : List ℕ). before (take (q .put) part) (restOf u (q .desk) (xs ++ more))) (drop-drop (q .taken) (r .taken) input))
+            (ap (λ (xs : List ℕ). restOf t (r .desk) (xs ++ more)) (sym rest) ∙ step .says more
+            ∙ ap (λ (xs : List ℕ). before (take (q .put) part) (restOf u (q .desk) (drop (q .taken) xs ++ more))) rest
+            ∙ ap (λ (xs : List ℕ). before (take (q .put) part) (restOf u (q .desk) (xs ++ more))) (drop-drop (q .taken) (r .taken) input))
             ∙ sym (before-twice (take (r .put) o) (take (q .put) part) _)
             ∙ ap (λ (xs : List ℕ). before xs (restOf u (q .desk) (drop (r .taken + q .taken) input ++ more))) (sym front);
         long = ap length whole ∙ length-append (take (r .put) o) part ∙ omega (arith, done .put, done .long);

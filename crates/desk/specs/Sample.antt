@@ -1,9 +1,12 @@
 -- The sample of document 01, "The counter program".
 --   request   == its input
 --   response  == its output
+--   Sampled   == the program writes the one on the other
+use mathlib.Core.Path.{_≡_}
 use mathlib.Core.List.{List, _++_}
 use Prim.Native.Nat.{ℕ}
 use Rattle.lines.specs.Checks.{bytes}
+use Rattle.desk.specs.Transcript.{transcript}
 
 unfoldable pub request : List ℕ
 request =
@@ -16,3 +19,6 @@ response =
     bytes " 0 0        68         0         0         0\n" ++ bytes " 1 02147483648         1         1         1\n"
     ++ bytes " 1 03221225472         2         3         2\n" ++ bytes " 1 01073741824         2         3         3\n"
     ++ bytes " 2 03221225472     90000         0         0\n" ++ bytes " 5 0         3              6844621073741824\n"
+
+abbrev pub Sampled : Type 0
+Sampled = transcript request ≡ response

@@ -9,20 +9,24 @@
 --                        is still to be written, is what was to be written; whatever input follows
 --   Finishes          == it has come to the end of the input, or the output has no room for a part
 --   finished d out    == the bytes after the last line
+--   Run s d input bytes t e == calls of serve, one after another, on the words s and the desk d, each on bytes that come next in the input;
+--                        they take all of it, put the bytes, and leave the words t and the desk e
+--   Delivered         == however the input comes and the output goes, the bytes put, with the reply to an unfinished line, are the transcript
+--   EndPut            == finish puts that reply
 use mathlib.Core.Path.{_≡_}
 use mathlib.Core.Bool.{Bool, true, false, _&&_, _||_}
 use mathlib.Core.List.{List, [], _∷_, _++_}
 use mathlib.Core.Logic.{_⊎_}
 use Prim.Native.Nat.{ℕ, suc, _+_, _≤_, _<_}
 use lib.Dec.{leb, ltb, eqb}
-use lib.ListN.{length, take, drop}
+use lib.ListN.{length, take, drop, replicate}
 use Rattle.lines.specs.declared.Reply.the-variants.{WrongLine}
 use Rattle.lines.specs.Request.{parsed}
 use Rattle.lines.specs.Reply.{lineFeed, After, written}
 use Rattle.desk.specs.declared.Desk.{Desk}
 use Rattle.desk.specs.declared.Progress.{Progress}
-use Rattle.desk.specs.Listing.{partBytes, carried}
-use Rattle.desk.specs.Transcript.{answered, outcomeBytes, Served, before, served}
+use Rattle.desk.specs.Listing.{partBytes, noListing, carried}
+use Rattle.desk.specs.Transcript.{answered, outcomeBytes, Served, before, ending, served, transcript}
 
 unfoldable pub lineOf : Desk → List ℕ
 lineOf d = take (d .held) (d .line)
@@ -67,3 +71,18 @@ Finishes input out r =
 -- "Bytes after the last 0A are one wrong line."
 unfoldable pub finished : Desk → List ℕ → After
 finished d out = elim (eqb (d .held) 0) [ true ↦ record { count = 0; bytes = out } | false ↦ written WrongLine out ]
+
+pub data Run : List ℕ → Desk → List ℕ → List ℕ → List ℕ → Desk → Type 0 where
+  over : {s : List ℕ} {d : Desk} → Run s d [] [] s d
+  call : {s : List ℕ} {d : Desk} {t bytes u : List ℕ} {e : Desk} (chunk more out out' : List ℕ) (r : Progress) → Serves s d chunk out t out' r
+      → Run t (r .desk) (drop (r .taken) chunk ++ more) bytes u e → Run s d (chunk ++ more) (take (r .put) out' ++ bytes) u e
+
+abbrev pub Delivered : Type 0
+Delivered =
+    (input bytes t : List ℕ) (d e : Desk) → lineOf d ≡ [] → d .listing ≡ noListing → Run (replicate 8192 0) d input bytes t e
+    → e .listing .active ≡ false → bytes ++ ending (lineOf e) ≡ transcript input
+
+abbrev pub EndPut : Type 0
+EndPut =
+    (d : Desk) (out : List ℕ) → length (d .line) ≡ 43 → 45 ≤ length out
+    → take (finished d out .count) (finished d out .bytes) ≡ ending (lineOf d)

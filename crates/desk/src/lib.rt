@@ -80,7 +80,12 @@ fn enter_told(a: EnterAnswer) -> Reply
     ensures { λ r. ⌜ r ≡ enterTold (enterReply a) ⌝ }
 {
     match a {
-        EnterAnswer::Entered(key, levels, nodes, pages) => Reply::Entered(key, levels, nodes, pages),
+        EnterAnswer::Entered(key, levels, nodes, pages) => Reply::Entered(
+            key,
+            levels,
+            nodes,
+            pages,
+        ),
         EnterAnswer::EnterHeadBroken => Reply::Refused(1, 3),
         EnterAnswer::RecordOutside => Reply::Refused(1, 6),
         EnterAnswer::EnterDamaged => Reply::Refused(1, 9),
@@ -356,6 +361,17 @@ fn add_to(d: Desk, bytes: &[u8]) -> Desk
     }
 }
 
+// A desk that holds no byte of a line.
+fn fresh(listing: Listing) -> Desk
+    ensures { λ r. ⌜ (lineOf r ≡ []) × (r .listing ≡ listing) ⌝ }
+{
+    Desk {
+        line: [0; 43],
+        held: 0,
+        listing,
+    }
+}
+
 // Answers the line that is held: with one line, or by opening a listing.
 fn answer_line(store: &mut [u32], d: Desk, taken: usize, out: &mut [u8]) -> Progress
     requires { ⌜ (d .held ≤ 43) × (partBytes ≤ length (now out)) ⌝ }
@@ -368,21 +384,13 @@ fn answer_line(store: &mut [u32], d: Desk, taken: usize, out: &mut [u8]) -> Prog
         Outcome::Line(reply) => {
             let put = lines::write(out, reply);
             Progress {
-                desk: Desk {
-                    line,
-                    held: 0,
-                    listing: no_listing(),
-                },
+                desk: fresh(no_listing()),
                 taken,
                 put,
             }
         }
         Outcome::Parts(listing) => Progress {
-            desk: Desk {
-                line,
-                held: 0,
-                listing,
-            },
+            desk: fresh(listing),
             taken,
             put: 0,
         },
@@ -466,11 +474,7 @@ fn goes_on(d: Desk, left: usize, room: usize) -> bool
 pub fn start() -> Desk
     ensures { λ r. ⌜ (lineOf r ≡ []) × (r .listing ≡ noListing) ⌝ }
 {
-    Desk {
-        line: [0; 43],
-        held: 0,
-        listing: no_listing(),
-    }
+    fresh(no_listing())
 }
 
 // Puts the reply to bytes after the last 0A, and says how many bytes it has.

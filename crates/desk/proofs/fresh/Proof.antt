@@ -1,0 +1,13 @@
+-- Nothing is held.
+use borrow.Author.Needs.{needs}
+use mathlib.Core.Path.{refl}
+use Rattle.desk.specs.Serving.{lineOf}
+use Rattle.desk.proofs.fresh.Statement.{statement}
+use Rattle.desk.proofs.fresh.Tie as tie
+
+returns : tie.Need-returns
+unfolding lineOf
+returns c = (refl, refl)
+
+pub fresh-spec : {M : Type 1} → statement M
+fresh-spec = tie.close (tie.spec returns)
