@@ -1,15 +1,15 @@
 -- The reply words of an exported operation: the values of its answer at the front of a lent slice. On a refusal the values are zeros.
---   filled vs out  == out with the values vs at its front, as far as they fit; its other words stay
---   valuesOf a     == the values of an answer that is to be written
---   Says a n vs    == that answer has the number n and the values vs
---   sizeValues r   == of set-up: the size
---   enterValues r  == of enter: the key, the levels, the nodes taken, the pages taken
---   recordValues r == of find and next: the key, the price, the lease days, the last day
---   rangeValues r  == of range: the count, the first key not written
+--   filled vs out   == out with the values vs at its front, as far as they fit; its other words stay
+--   valuesOf a      == the values of an answer that is to be written
+--   Says a n vs     == that answer has the number n and the values vs
+--   sizeValues r    == of set-up: the size
+--   enterValues r   == of enter: the key, the levels, the nodes taken, the pages taken
+--   recordValues r  == of find and next: the key, the price, the lease days, the last day
+--   rangeValues r   == of range: the count, the first key not written
 --   summaryValues r == of summary: the count, the total balance, the key of the earliest last day
 --   balanceValues r == of balance: the balance
---   keyValues r    == of a label's key: the key
---   labelValues r  == of a key's label: the section, the row, the place
+--   keyValues r     == of a label's key: the key
+--   labelValues r   == of a key's label: the section, the row, the place
 use mathlib.Core.Path.{_≡_}
 use mathlib.Core.List.{List, [], _∷_}
 use Prim.Native.Nat.{ℕ}
@@ -23,7 +23,7 @@ use Rattle.scan.specs.Range.{RangeReply}
 use Rattle.scan.specs.Summary.{SummaryReply}
 use Rattle.exports.specs.declared.Answer.{Answer}
 
--- "leaves its other words": a short slice is written as far as it goes, a longer one keeps its other words
+-- A short slice is written as far as it goes, and a longer one keeps its other words.
 unfoldable pub filled : List ℕ → List ℕ → List ℕ
 filled [] out = out
 filled (v ∷ vs) [] = []

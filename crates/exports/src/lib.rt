@@ -26,16 +26,16 @@ ghost use Rattle.exports.specs.Reply.{filled, valuesOf, Says, sizeValues
 ghost use Rattle.exports.specs.Reply.{summaryValues, balanceValues, keyValues, labelValues};
 
 // An answer in numbers: its own number, and the first `count` of four values.
-pub struct Answer {
-    pub number: u32,
-    pub count: u32,
-    pub first: u64,
-    pub second: u64,
-    pub third: u64,
-    pub fourth: u64,
+struct Answer {
+    number: u32,
+    count: u32,
+    first: u64,
+    second: u64,
+    third: u64,
+    fourth: u64,
 }
 
-// A refusal: zeros.
+// An answer whose values are zeros: none, or a refusal.
 fn zeros(number: u32, count: u32) -> Answer
     ensures { λ r. ⌜ r ≡ record { number = number; count = count; first = 0; second = 0; third = 0; fourth = 0 } ⌝ }
 {
