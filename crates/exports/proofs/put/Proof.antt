@@ -1,0 +1,12 @@
+-- A word past the end is not set.
+use borrow.Author.Needs.{needs}
+use mathlib.Core.Path.{sym}
+use lib.Seq.{set-out}
+use Rattle.exports.proofs.put.Statement.{statement}
+use Rattle.exports.proofs.put.Tie as tie
+
+returns : tie.Need-returns
+returns c = sym (set-out _ _ _ (c .if1 .taken))
+
+pub put-spec : {M : Type 1} → statement M
+put-spec = tie.close (tie.spec returns (λ c. search needs) (λ c. search needs) (λ c. search needs) (λ c. search needs))
