@@ -1,0 +1,225 @@
+//! Damaged stores: every call answers as the literal reading does, a refused one changes nothing, and what an accepted
+//! entry has stored is found.
+
+mod common;
+
+use common::literal::Literal;
+use common::{new_store, record, Keys, Rng};
+use plain::{enter, find, next, range, summary};
+
+/// Some other value for a word: near the old one, small, or anything.
+fn other(word: u32, store: &[u32], rng: &mut Rng) -> u32 {
+    match rng.below(6) {
+        0 => word.wrapping_add(1),
+        1 => word.wrapping_sub(1),
+        2 => word ^ 1 << rng.below(32),
+        3 => rng.below(12),
+        4 => store[rng.below(store.len() as u32) as usize],
+        _ => rng.word(),
+    }
+}
+
+/// Changes one place of a store, mostly a block in use.
+fn damage(store: &mut [u32], rng: &mut Rng) {
+    let [theta, capacity, nodes, _, nodes_taken, pages_taken, ..] = *store else { unreachable!() };
+    let node_words = 4 + (2usize << theta.min(6));
+    let page_words = 1 + 4 * capacity.min(64) as usize;
+    let node = 16 + rng.below(nodes_taken.clamp(1, nodes)) as usize * node_words;
+    let page = 16 + nodes as usize * node_words + rng.below(pages_taken.max(1)) as usize * page_words;
+    if node + node_words > store.len() || page + page_words > store.len() || theta > 6 {
+        let at = rng.below(store.len() as u32) as usize;
+        store[at] = other(store[at], store, rng);
+        return;
+    }
+    match rng.below(10) {
+        // A whole run is let to point elsewhere, so that the node keeps its rule.
+        0..=2 => {
+            let depth = store[node].min(theta);
+            let entry = rng.below(1 << depth) as usize;
+            let h = store[node + 4 + 2 * entry].min(depth);
+            let length = 1usize << (depth - h);
+            let first = entry / length * length;
+            let bound = 1 + if store[node + 1] == 1 { pages_taken } else { nodes_taken };
+            let pointer = rng.below(bound);
+            for entry in first..first + length {
+                store[node + 5 + 2 * entry] = pointer;
+            }
+        }
+        // A link leads elsewhere.
+        3 => store[node + 2 + rng.below(2) as usize] = rng.below(nodes_taken + 1),
+        // Another level, count or depth.
+        4 => {
+            let at = rng.one_of(&[node, node + 1, page, 4, 5, 6, 7]);
+            store[at] = other(store[at], store, rng);
+        }
+        5 => {
+            let at = node + rng.below(node_words as u32) as usize;
+            store[at] = other(store[at], store, rng);
+        }
+        // A key changes, perhaps in its place.
+        6 | 7 => {
+            let count = store[page].clamp(1, capacity);
+            let at = page + 1 + 4 * rng.below(count) as usize;
+            store[at] = match rng.below(3) {
+                0 => store[at].wrapping_add(rng.below(5)),
+                1 => store[at] ^ 1 << rng.below(32),
+                _ => other(store[at], store, rng),
+            };
+        }
+        8 => {
+            let at = page + rng.below(page_words as u32) as usize;
+            store[at] = other(store[at], store, rng);
+        }
+        _ => {
+            let at = rng.below(store.len() as u32) as usize;
+            store[at] = other(store[at], store, rng);
+        }
+    }
+}
+
+/// Compares every call on a store with the literal reading. Returns the number of answers that are not 3 or 9.
+fn compare(store: &[u32], rng: &mut Rng, held: &[u32], seen: &mut [u64; 12]) {
+    let literal = Literal::new(store);
+    let mut key = || match rng.below(4) {
+        0 => rng.word(),
+        1 => rng.one_of(&[0, 1, u32::MAX]),
+        _ => rng.one_of(held).wrapping_add(rng.below(3)).wrapping_sub(1),
+    };
+    let (sought, a, b, new) = (key(), key(), key(), key());
+    let found = find(store, sought);
+    assert_eq!((found.number, found.record), literal.find(sought));
+    seen[found.number as usize] += 1;
+    let above = next(store, sought);
+    assert_eq!((above.number, above.record), literal.next(sought));
+    seen[above.number as usize] += 1;
+
+    let (low, high) = (a.min(b), a.max(b));
+    let mut out = vec![3; rng.below(60) as usize];
+    let expected = literal.range(low, high, &out);
+    let listed = range(store, low, high, &mut out);
+    assert_eq!((listed.number, listed.count, listed.more, out), expected);
+    seen[listed.number as usize] += 1;
+    let today = rng.below(100_100);
+    let sheet = summary(store, low, high, today);
+    assert_eq!((sheet.number, sheet.count, sheet.total, sheet.key), literal.summary(low, high, today));
+    seen[sheet.number as usize] += 1;
+
+    let record = record(new, rng);
+    let mut changed = store.to_vec();
+    let mut literal = literal;
+    let entered = enter(&mut changed, record);
+    let reply = (entered.number, entered.key, entered.levels, entered.nodes, entered.pages);
+    assert_eq!(reply, literal.enter(record));
+    assert!(changed == literal.words);
+    seen[entered.number as usize] += 1;
+    if entered.number == 0 {
+        let found = find(&changed, new);
+        assert_eq!((found.number, found.record), (0, record));
+    } else {
+        assert!(changed == store);
+    }
+}
+
+#[test]
+fn damaged_stores() {
+    let mut seen = [0; 12];
+    for seed in 0..1_500 {
+        let mut rng = Rng(seed ^ 0x5eed_0000_0000);
+        let theta = 1 + rng.below(6).min(rng.below(6));
+        let capacity = rng.one_of(&[1, 2, 3, 4, 8]);
+        let (nodes, pages) = rng.one_of(&[(20, 12), (60, 60), (300, 60)]);
+        let mut store = new_store(theta, capacity, nodes, pages);
+        let mut keys = Keys::new(rng.below(Keys::KINDS), &mut rng);
+        let mut held = vec![1];
+        for _ in 0..5 + rng.below(60) {
+            let key = keys.draw(&mut rng);
+            if enter(&mut store, record(key, &mut rng)).number == 0 {
+                held.push(key);
+            }
+        }
+        for _ in 0..25 {
+            let mut damaged = store.clone();
+            for _ in 0..1 + rng.below(3) {
+                damage(&mut damaged, &mut rng);
+            }
+            for _ in 0..4 {
+                compare(&damaged, &mut rng, &held, &mut seen);
+            }
+        }
+    }
+    println!("answers by number: {seen:?}");
+    for number in [0, 1, 3, 6, 8, 9, 10] {
+        assert!(seen[number] > 100, "{seen:?}");
+    }
+}
+
+/// Entries go on in a damaged store: whatever is accepted is found.
+#[test]
+fn entering_on() {
+    for seed in 0..1_500 {
+        let mut rng = Rng(seed ^ 0xface_0000_0000);
+        let theta = 1 + rng.below(4);
+        let capacity = rng.one_of(&[1, 2, 4]);
+        let mut store = new_store(theta, capacity, 100, 60);
+        let mut keys = Keys::new(rng.below(Keys::KINDS), &mut rng);
+        for at in 0..80 {
+            if at >= 20 && at % 10 == 0 {
+                damage(&mut store, &mut rng);
+            }
+            let key = keys.draw(&mut rng);
+            let record = record(key, &mut rng);
+            let mut literal = Literal::new(&store);
+            let before = store.clone();
+            let answer = enter(&mut store, record);
+            assert_eq!(answer.number, literal.enter(record).0);
+            assert!(store == literal.words);
+            if answer.number == 0 {
+                assert_eq!((find(&store, key).number, find(&store, key).record), (0, record));
+            } else {
+                assert!(store == before);
+            }
+        }
+    }
+}
+
+/// Words of no store at all.
+#[test]
+fn any_words() {
+    let mut rng = Rng(11);
+    let mut seen = [0; 12];
+    for _ in 0..20_000 {
+        let length = rng.below(400) as usize;
+        let mut store: Vec<u32> = (0..length).map(|_| if rng.chance(70) { rng.below(4) } else { rng.word() }).collect();
+        if length > 16 && rng.chance(90) {
+            let head = [1 + rng.below(3), 1 + rng.below(3), 1 + rng.below(8), 1 + rng.below(8), 1 + rng.below(3), rng.below(3), 1, 1 + rng.below(3)];
+            store[..8].copy_from_slice(&head);
+            store[8..16].fill(0);
+        }
+        compare(&store, &mut rng, &[1, 2, 3, 1 << 31], &mut seen);
+    }
+}
+
+/// Every single word of a small store changed, in many ways.
+#[test]
+fn each_word() {
+    let mut rng = Rng(12);
+    let mut seen = [0; 12];
+    for (theta, capacity) in [(1, 1), (2, 2), (3, 1), (6, 3)] {
+        let mut store = new_store(theta, capacity, 40, 40);
+        let mut held = vec![1];
+        let mut keys = Keys::new(0, &mut rng);
+        for _ in 0..25 {
+            let key = keys.draw(&mut rng);
+            if enter(&mut store, record(key, &mut rng)).number == 0 {
+                held.push(key);
+            }
+        }
+        for at in 0..store.len() {
+            for _ in 0..3 {
+                let mut damaged = store.clone();
+                damaged[at] = other(damaged[at], &store, &mut rng);
+                compare(&damaged, &mut rng, &held, &mut seen);
+            }
+        }
+    }
+}
