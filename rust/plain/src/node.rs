@@ -11,13 +11,12 @@ const ENTRIES: usize = 4;
 /// An entry: local depth and pointer.
 type Entry = [u32; 2];
 
-/// Where `tz[i]` is the number of trailing zeros of i + 1: entries i and i + 1 are in one aligned run of 2^s just when
-/// s is above it.
-const BOUNDARY: [u32; 64] = {
+/// Trailing zeros of each entry number: entries i - 1 and i are in one aligned run of 2^s just when s is above those of i.
+const ALIGNED: [u32; 64] = {
     let mut table = [0; 64];
     let mut i = 0;
     while i < 64 {
-        table[i] = (i as u32 + 1).trailing_zeros();
+        table[i] = (i as u32).trailing_zeros();
         i += 1;
     }
     table
@@ -47,26 +46,27 @@ pub fn rule(node: &[u32], level: u32, head: &Head) -> bool {
     }
 }
 
-/// Aligned runs of equal entries, the largest local depth H, pointers from least to most, zeros after.
+/// Aligned runs of equal entries, the largest local depth H, pointers from least to most, zeros after; of a node whose
+/// links are lawful.
+///
+/// Comparisons are differences whose top bit is set where they fail, gathered without a branch.
 #[inline]
 fn body_ok(node: &[u32], least: u32, most: u32) -> bool {
     let depth = node[DEPTH];
-    let (used, rest) = node[ENTRIES..].split_at(2 << depth);
-    let entries: &[Entry] = used.as_chunks().0;
-    let [mut h, mut pointer] = entries[0];
-    let mut largest = h;
-    let mut furthest = pointer.wrapping_sub(least);
-    let mut torn = false;
-    // Each two neighbours in one run of either of them are equal; so every run is.
-    for (next, boundary) in entries[1..].iter().zip(&BOUNDARY) {
-        let differ = (next[0] ^ h) | (next[1] ^ pointer);
-        torn |= (differ != 0) & (next[0].min(h).wrapping_add(*boundary) < depth);
-        [h, pointer] = *next;
-        largest = largest.max(h);
-        furthest = furthest.max(pointer.wrapping_sub(least));
+    // The links stand where an entry before the first one would; no run holds both.
+    let (used, rest) = node[BACK..].split_at(2 + (2 << depth));
+    let pairs: &[Entry] = used.as_chunks().0;
+    let (mut outside, mut smaller, mut torn) = (0, u32::MAX, 0);
+    for ((before, &[h, pointer]), aligned) in pairs.iter().zip(&pairs[1..]).zip(&ALIGNED) {
+        outside |= h | depth.wrapping_sub(h) | pointer.wrapping_sub(least) | most.wrapping_sub(pointer);
+        smaller &= h.wrapping_sub(depth);
+        // Two neighbours that are in one run of either of them are equal; so every run is.
+        let apart = depth.wrapping_sub(*aligned);
+        let together = (h.wrapping_sub(apart) | before[0].wrapping_sub(apart)) as i32 >> 31;
+        torn |= together as u32 & ((h ^ before[0]) | (pointer ^ before[1]));
     }
     let zeros = rest.iter().fold(0, |all, word| all | word);
-    !torn && largest == depth && furthest <= most - least && zeros == 0
+    (outside | smaller) as i32 >= 0 && torn | zeros == 0
 }
 
 /// The next `depth` bits of the key after `used` ones; used + depth is at most 32.

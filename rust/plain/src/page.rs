@@ -1,6 +1,6 @@
 //! Page blocks: the rule of a visited page, its records, and what enter writes into it.
 
-use crate::money::term_ok;
+use crate::money::term_fault;
 use crate::node::{agree, bit};
 
 /// A record's words: key, price, lease days, last day.
@@ -21,14 +21,14 @@ pub fn visit(page: &[u32]) -> Option<&[Row]> {
         return None;
     }
     let (rows, rest) = all.split_at(count);
-    let mut before = 0;
-    let mut sound = true;
+    let (mut before, mut ascending, mut outside) = (0, true, 0);
     for &[key, _, lease, last] in rows {
-        sound &= (key > before) & term_ok(lease, last);
+        ascending &= key > before;
         before = key;
+        outside |= term_fault(lease, last);
     }
     let zeros = rest.as_flattened().iter().fold(0, |all, word| all | word);
-    (sound && zeros == 0).then_some(rows)
+    (ascending && outside as i32 >= 0 && zeros == 0).then_some(rows)
 }
 
 /// Whether all keys agree with a key in the used bits; ascending keys do if the first and the last do.

@@ -179,33 +179,35 @@ fn walk<const CHECKED: bool>(
 ) -> Result<(), Damaged> {
     let mut bound = Bound::From(low);
     let mut place = descend::<CHECKED>(store, head, low, |_, _, _| ())?;
-    let mut visited = 0;
+    // The page where the last next ended, and its records.
+    let (mut number, mut rows): (u32, &[Row]) = (0, &[]);
     loop {
         if place.pointer != 0 {
-            let key = bound.key();
-            let rows = if !CHECKED {
-                page::rows(head.page(store, place.pointer))
-            } else if place.pointer != visited {
-                own_page(store, head, &place, key)?
-            } else {
-                let rows = page::rows(head.page(store, visited));
-                if !page::all_agree(rows, key, place.used()) {
+            let asked = if place.pointer == number {
+                // Its first record is the one that was reached.
+                if CHECKED && !page::all_agree(rows, bound.key(), place.used()) {
                     return Err(Damaged);
                 }
-                rows
+                &rows[1..]
+            } else {
+                let own = match CHECKED {
+                    true => own_page(store, head, &place, bound.key())?,
+                    false => page::rows(head.page(store, place.pointer)),
+                };
+                &own[bound.passed(own)..]
             };
-            let rows = &rows[bound.passed(rows)..];
-            if let Some(last) = rows.last() {
-                let within = if last[0] <= high { rows } else { &rows[..page::up_to(rows, high)] };
-                if !within.is_empty() && !take(within) || last[0] >= high {
+            if let Some(&[last, ..]) = asked.last() {
+                let within = if last <= high { asked } else { &asked[..page::up_to(asked, high)] };
+                if !within.is_empty() && !take(within) || last >= high {
                     return Ok(());
                 }
-                bound = Bound::Above(last[0]);
+                bound = Bound::Above(last);
             }
         }
-        let Some((number, rows)) = onward::<CHECKED>(store, head, &place, bound)? else {
-            return Ok(());
-        };
+        match onward::<CHECKED>(store, head, &place, bound)? {
+            Some(reached) => (number, rows) = reached,
+            None => return Ok(()),
+        }
         let key = rows[0][0];
         if key > high || !take(&rows[..1]) || key == high {
             return Ok(());
@@ -216,7 +218,6 @@ fn walk<const CHECKED: bool>(
             descend::<CHECKED>(store, head, key, |_, _, _| ())?
         };
         bound = Bound::Above(key);
-        visited = number;
     }
 }
 
@@ -272,17 +273,17 @@ pub fn summary(store: &[u32], low: u32, high: u32, today: u32) -> Summary {
         return refused(answer::OUTSIDE);
     }
     let mut sheet = Summary::default();
-    let mut earliest = u32::MAX;
+    // The earliest last day with its key below it in one number; of equal days the lowest key is less.
+    let mut earliest = u64::MAX;
     let summed = walk::<true>(store, &head, low, high, |rows| {
         sheet.count += rows.len() as u64;
         for &[key, price, lease, last] in rows {
-            sheet.total += u64::from(amount(price, lease, last, today));
-            if lease != 0 && last < earliest {
-                earliest = last;
-                sheet.key = key;
-            }
+            sheet.total += amount(price, lease, last, today);
+            let ended = u64::from(last) << 32 | u64::from(key);
+            earliest = earliest.min(if lease == 0 { u64::MAX } else { ended });
         }
         true
     });
+    sheet.key = if earliest == u64::MAX { 0 } else { earliest as u32 };
     if summed.is_ok() { sheet } else { refused(answer::DAMAGED) }
 }
