@@ -61,14 +61,13 @@ fn entered(store: &mut [u32], record: Record) -> Result<Head, u32> {
     path.node[0] = place.pointer;
     path.used[0] = place.used();
 
-    let rows = match place.pointer {
-        0 => &[],
+    let (rows, at) = match place.pointer {
+        0 => (&[][..], 0),
         _ => own_page(store, &head, &place, key).map_err(|_| answer::DAMAGED)?,
     };
     if !neighbour_ok(store, &head, &place) {
         return Err(answer::DAMAGED);
     }
-    let at = page::below(rows, key);
     if rows.get(at).is_some_and(|row| row[0] == key) {
         return Err(answer::HELD);
     }

@@ -39,9 +39,8 @@ impl Head {
             root: words[6],
             levels: words[7],
         };
-        let zeros = words[8..].iter().fold(0, |all, word| all | word);
         let lawful = head.sizes_ok()
-            && zeros == 0
+            && all_zero(&words[8..])
             && (1..=head.nodes).contains(&head.nodes_taken)
             && head.pages_taken <= head.pages
             && (1..=head.nodes_taken).contains(&head.root)
@@ -123,6 +122,20 @@ impl Head {
         let (first, second) = store.split_at_mut(self.page_start(high));
         (self.page_mut(first, low), &mut second[..self.page_words()])
     }
+}
+
+/// Whether words that are not in use are zero: an or-fold of eight words at a time.
+#[inline]
+pub fn all_zero(words: &[u32]) -> bool {
+    let (eights, rest) = words.as_chunks::<8>();
+    let mut lanes = [0; 8];
+    for eight in eights {
+        for (lane, word) in lanes.iter_mut().zip(eight) {
+            *lane |= word;
+        }
+    }
+    let fold = |words: &[u32]| words.iter().fold(0, |all, word| all | word);
+    fold(&lanes) | fold(rest) == 0
 }
 
 /// Clears the store's size and takes node 1 as root, with one null entry. Refused with 4 or 5.

@@ -1,6 +1,6 @@
 //! Node blocks: the rule of a visited node, its entries, and the ways in which enter changes it.
 
-use crate::head::Head;
+use crate::head::{all_zero, Head};
 
 pub const DEPTH: usize = 0;
 pub const LEVEL: usize = 1;
@@ -65,8 +65,7 @@ fn body_ok(node: &[u32], least: u32, most: u32) -> bool {
         let together = (h.wrapping_sub(apart) | before[0].wrapping_sub(apart)) as i32 >> 31;
         torn |= together as u32 & ((h ^ before[0]) | (pointer ^ before[1]));
     }
-    let zeros = rest.iter().fold(0, |all, word| all | word);
-    (outside | smaller) as i32 >= 0 && torn | zeros == 0
+    (outside | smaller) as i32 >= 0 && torn == 0 && all_zero(rest)
 }
 
 /// The next `depth` bits of the key after `used` ones; used + depth is at most 32.

@@ -1,5 +1,6 @@
 //! Page blocks: the rule of a visited page, its records, and what enter writes into it.
 
+use crate::head::all_zero;
 use crate::money::term_fault;
 use crate::node::{agree, bit};
 
@@ -12,23 +13,24 @@ pub fn rows(page: &[u32]) -> &[Row] {
     &page[1..].as_chunks().0[..page[0] as usize]
 }
 
-/// The records of a visited page: 1 to C lawful ones, ascending, and zeros after. None if the page is damaged.
+/// The records of a visited page, and how many keys are below a key: 1 to C lawful ones, ascending, and zeros after.
+/// None if the page is damaged.
 #[inline]
-pub fn visit(page: &[u32]) -> Option<&[Row]> {
+pub fn visit(page: &[u32], sought: u32) -> Option<(&[Row], usize)> {
     let count = page[0] as usize;
     let all: &[Row] = page[1..].as_chunks().0;
     if count == 0 || count > all.len() {
         return None;
     }
     let (rows, rest) = all.split_at(count);
-    let (mut before, mut ascending, mut outside) = (0, true, 0);
+    let (mut before, mut ascending, mut outside, mut below) = (0, true, 0, 0);
     for &[key, _, lease, last] in rows {
         ascending &= key > before;
         before = key;
         outside |= term_fault(lease, last);
+        below += u32::from(key < sought);
     }
-    let zeros = rest.as_flattened().iter().fold(0, |all, word| all | word);
-    (ascending && outside as i32 >= 0 && zeros == 0).then_some(rows)
+    (ascending && outside as i32 >= 0 && all_zero(rest.as_flattened())).then_some((rows, below as usize))
 }
 
 /// Whether all keys agree with a key in the used bits; ascending keys do if the first and the last do.

@@ -61,12 +61,12 @@ impl Bound {
         }
     }
 
-    /// How many of a page's records are not asked for.
+    /// How many of a page's records are not asked for, where so many are below the key.
     #[inline]
-    fn passed(self, rows: &[Row]) -> usize {
+    fn passed(self, rows: &[Row], below: usize) -> usize {
         match self {
-            Bound::Above(key) => page::up_to(rows, key),
-            Bound::From(key) => page::below(rows, key),
+            Bound::Above(key) => below + usize::from(rows.get(below).is_some_and(|row| row[0] == key)),
+            Bound::From(_) => below,
         }
     }
 
@@ -93,8 +93,7 @@ fn find_under<'a>(store: &'a [u32], head: &Head, key: u32) -> Result<Option<&'a 
     if place.pointer == 0 {
         return Ok(None);
     }
-    let rows = own_page(store, head, &place, key)?;
-    let at = page::below(rows, key);
+    let (rows, at) = own_page(store, head, &place, key)?;
     Ok(rows.get(at).filter(|row| row[0] == key))
 }
 
@@ -110,8 +109,8 @@ pub fn next(store: &[u32], key: u32) -> Found {
 fn next_under<'a>(store: &'a [u32], head: &Head, bound: Bound) -> Result<Option<&'a Row>, Damaged> {
     let place = descend::<true>(store, head, bound.key(), |_, _, _| ())?;
     if place.pointer != 0 {
-        let rows = own_page(store, head, &place, bound.key())?;
-        if let Some(row) = rows.get(bound.passed(rows)) {
+        let (rows, below) = own_page(store, head, &place, bound.key())?;
+        if let Some(row) = rows.get(bound.passed(rows, below)) {
             return Ok(Some(row));
         }
     }
@@ -120,9 +119,9 @@ fn next_under<'a>(store: &'a [u32], head: &Head, bound: Bound) -> Result<Option<
 
 /// Visits the key's own page.
 #[inline]
-pub fn own_page<'a>(store: &'a [u32], head: &Head, place: &Place, key: u32) -> Result<&'a [Row], Damaged> {
-    let rows = page::visit(head.page(store, place.pointer)).ok_or(Damaged)?;
-    if page::all_agree(rows, key, place.used()) { Ok(rows) } else { Err(Damaged) }
+pub fn own_page<'a>(store: &'a [u32], head: &Head, place: &Place, key: u32) -> Result<(&'a [Row], usize), Damaged> {
+    let (rows, below) = page::visit(head.page(store, place.pointer), key).ok_or(Damaged)?;
+    if page::all_agree(rows, key, place.used()) { Ok((rows, below)) } else { Err(Damaged) }
 }
 
 /// The number and the records of the first page behind the place's run, over runs and forward links.
@@ -156,8 +155,8 @@ fn onward<'a, const CHECKED: bool>(
     if !CHECKED {
         return Ok(Some((pointer, page::rows(page))));
     }
-    match page::visit(page) {
-        Some(rows) if bound.admits(rows[0][0]) => Ok(Some((pointer, rows))),
+    match page::visit(page, 0) {
+        Some((rows, _)) if bound.admits(rows[0][0]) => Ok(Some((pointer, rows))),
         _ => Err(Damaged),
     }
 }
@@ -190,11 +189,13 @@ fn walk<const CHECKED: bool>(
                 }
                 &rows[1..]
             } else {
-                let own = match CHECKED {
-                    true => own_page(store, head, &place, bound.key())?,
-                    false => page::rows(head.page(store, place.pointer)),
+                let (own, below) = if CHECKED {
+                    own_page(store, head, &place, bound.key())?
+                } else {
+                    let own = page::rows(head.page(store, place.pointer));
+                    (own, page::below(own, bound.key()))
                 };
-                &own[bound.passed(own)..]
+                &own[bound.passed(own, below)..]
             };
             if let Some(&[last, ..]) = asked.last() {
                 let within = if last <= high { asked } else { &asked[..page::up_to(asked, high)] };

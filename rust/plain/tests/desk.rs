@@ -32,6 +32,24 @@ fn money() {
     assert_eq!(value(0, 1, 1, 100_000), (6, 0));
 }
 
+/// The quotient is exact: products around every kind of multiple of the lease days.
+#[test]
+fn exact_quotients() {
+    let mut rng = Rng(2);
+    for round in 0..2_000_000u32 {
+        let lease = if round % 2 == 0 { 36_525 - rng.below(30) } else { 1 + rng.below(36_525) };
+        let days = if round % 3 == 0 { lease - rng.below(lease.min(4)) } else { 1 + rng.below(lease) };
+        let price = match round % 5 {
+            0 => u32::MAX - rng.below(100),
+            // Just below a multiple.
+            1 => (u64::from(rng.word()) / u64::from(lease) * u64::from(lease)).saturating_sub(1) as u32,
+            _ => rng.word(),
+        };
+        let exact = u64::from(price) * u64::from(days) / u64::from(lease);
+        assert_eq!(u64::from(balance(price, lease, days, 0).value), exact, "{price} {days} {lease}");
+    }
+}
+
 #[test]
 fn labels() {
     assert_eq!((key_of(1, 0, 0).number, key_of(1, 0, 0).key), (0, 16_777_216));
