@@ -223,3 +223,64 @@ fn each_word() {
         }
     }
 }
+
+/// Links that lead back: as many links as nodes are taken may be followed, and no more.
+#[test]
+fn circles() {
+    let high = (1 << 31) + 5;
+    for taken in 1..=5 {
+        for found in [true, false] {
+            // Terminal nodes 1, .., taken in a circle; the run of keys below 2^31 leads to a page of a key above.
+            let mut store = new_store(1, 1, 5, 1);
+            store[4] = taken;
+            store[5] = 1;
+            for number in 1..=taken {
+                let before = if number == 1 { taken } else { number - 1 };
+                let after = if number == taken { 1 } else { number + 1 };
+                let at = 16 + 8 * (number as usize - 1);
+                store[at..at + 8].copy_from_slice(&[0, 1, before, after, 0, 0, 0, 0]);
+            }
+            store[16] = 1;
+            store[20..24].copy_from_slice(&[1, u32::from(found), 1, 0]);
+            store[16 + 5 * 8..].copy_from_slice(&[1, high, 9, 0, 0]);
+            let literal = Literal::new(&store);
+            for key in [high - 1, high, u32::MAX] {
+                let answer = next(&store, key);
+                assert_eq!((answer.number, answer.record), literal.next(key));
+                assert_eq!(answer.number, if found && key < high { 0 } else { 9 });
+                let mut out = [3; 8];
+                let expected = literal.range(key, u32::MAX, &out);
+                let listed = range(&store, key, u32::MAX, &mut out);
+                assert_eq!((listed.number, listed.count, listed.more, out.to_vec()), expected);
+            }
+        }
+    }
+}
+
+/// Damage behind what a range reads is not met; damage before its end is, and then nothing is written.
+#[test]
+fn reads_no_further() {
+    let mut store = new_store(2, 1, 8, 8);
+    for key in [1 << 30, 2 << 30, 3 << 30] {
+        assert_eq!(enter(&mut store, plain::Record { key, price: 1, lease: 0, last: 0 }).number, 0);
+    }
+    // Page 3 holds the last key; its count is damaged.
+    let page = 16 + 8 * 12 + 2 * 5;
+    assert_eq!(store[page + 1], 3 << 30);
+    store[page] = 2;
+    let listed = |low, high, words: usize| {
+        let mut out = vec![5; words];
+        let answer = range(&store, low, high, &mut out);
+        assert_eq!(Literal::new(&store).range(low, high, &vec![5; words]), (answer.number, answer.count, answer.more, out));
+        (answer.number, answer.count, answer.more)
+    };
+    assert_eq!(listed(0, 2 << 30, 8), (0, 2, 0));
+    assert_eq!(listed(0, 2 << 30, 4), (0, 1, 2 << 30));
+    assert_eq!(listed(0, u32::MAX, 4), (0, 1, 2 << 30));
+    assert_eq!(listed(0, u32::MAX, 8), (9, 0, 0));
+    assert_eq!(listed(0, (2 << 30) + 1, 8), (9, 0, 0));
+    assert_eq!(listed(0, (2 << 30) - 1, 8), (0, 1, 0));
+    assert_eq!(summary(&store, 0, 2 << 30, 0).number, 0);
+    assert_eq!(summary(&store, 0, (2 << 30) + 1, 0).number, 9);
+    assert_eq!((next(&store, 1 << 30).number, next(&store, 2 << 30).number), (0, 9));
+}
