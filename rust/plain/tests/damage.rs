@@ -284,3 +284,53 @@ fn reads_no_further() {
     assert_eq!(summary(&store, 0, (2 << 30) + 1, 0).number, 9);
     assert_eq!((next(&store, 1 << 30).number, next(&store, 2 << 30).number), (0, 9));
 }
+
+/// A key that is sought in its own stretch and stands behind it: at low it is read, above it not.
+#[test]
+fn low_elsewhere() {
+    let mut store = new_store(1, 1, 1, 1);
+    // The lower run is null, the upper one leads to a page of a lower key.
+    store[5] = 1;
+    store[16] = 1;
+    store[20..24].copy_from_slice(&[1, 0, 1, 1]);
+    store[24..].copy_from_slice(&[1, 77, 9, 0, 0]);
+    let literal = Literal::new(&store);
+    for (low, high, words, expected) in
+        [(77, 77, 4, (0, 1, 0)), (77, 77, 3, (0, 0, 77)), (77, 78, 4, (9, 0, 0)), (77, 78, 0, (0, 0, 77)), (76, 77, 4, (0, 1, 0)), (78, 79, 4, (9, 0, 0))]
+    {
+        let mut out = vec![5; words];
+        let answer = range(&store, low, high, &mut out);
+        assert_eq!((answer.number, answer.count, answer.more), expected, "{low} to {high}");
+        assert_eq!(literal.range(low, high, &vec![5; words]), (answer.number, answer.count, answer.more, out));
+    }
+    assert_eq!((summary(&store, 77, 77, 0).number, summary(&store, 77, 77, 0).count), (0, 1));
+    assert_eq!((find(&store, 77).number, next(&store, 77).number, next(&store, 76).number), (1, 9, 0));
+}
+
+/// The bits used before a node and its depth together are at most 32.
+#[test]
+fn too_many_bits() {
+    let mut store = new_store(6, 1, 76, 2);
+    for key in [u32::MAX - 1, u32::MAX] {
+        assert_eq!(enter(&mut store, plain::Record { key, price: 1, lease: 0, last: 0 }).number, 0);
+    }
+    // The root doubles with every local depth one higher: each node below has one bit less.
+    let root = 16 + 132 * (store[6] as usize - 1);
+    let size = 1 << store[root];
+    store[root] += 1;
+    for entry in (0..2 * size).rev() {
+        let [h, pointer] = [store[root + 4 + entry / 2 * 2], store[root + 5 + entry / 2 * 2]];
+        store[root + 4 + 2 * entry] = h + 1;
+        store[root + 5 + 2 * entry] = pointer;
+    }
+    let literal = Literal::new(&store);
+    for key in [0, 1, 1 << 31, u32::MAX - 2, u32::MAX - 1, u32::MAX] {
+        assert_eq!((find(&store, key).number, find(&store, key).record), literal.find(key));
+        assert_eq!((next(&store, key).number, next(&store, key).record), literal.next(key));
+    }
+    assert_eq!((find(&store, u32::MAX).number, next(&store, u32::MAX).number), (9, 9));
+    let record = plain::Record { key: u32::MAX - 2, price: 1, lease: 0, last: 0 };
+    let before = store.clone();
+    assert_eq!(enter(&mut store, record).number, 9);
+    assert!(store == before);
+}
