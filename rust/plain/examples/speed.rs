@@ -44,7 +44,7 @@ fn main() {
             let records: Vec<Record> = keys
                 .iter()
                 .map(|&key| {
-                    let lease = if random(&mut state) % 4 == 0 { 0 } else { 1 + random(&mut state) % 36_525 };
+                    let lease = if random(&mut state).is_multiple_of(4) { 0 } else { 1 + random(&mut state) % 36_525 };
                     let last = if lease == 0 { 0 } else { random(&mut state) % 100_000 };
                     Record { key, price: random(&mut state), lease, last }
                 })

@@ -1,7 +1,7 @@
 //! A plain checker of whole stores, written apart from the operations: rules by the words, the tree of a set from its
 //! records, and two stores compared block numbers apart.
 
-/// A set's tree: all keys with one prefix are a stretch.
+/// A stretch: all keys with one prefix.
 #[derive(Clone, Copy, Debug, PartialEq, Eq)]
 pub struct Stretch {
     /// The prefix, followed by zeros.
@@ -289,7 +289,11 @@ pub fn same_tree(a: &[u32], b: &[u32]) -> bool {
     // A link leads to the same place among the terminal nodes.
     let places = |store: &Store, terminals: &[u32]| -> Vec<[Option<usize>; 2]> {
         let place = |link: u32| terminals.iter().position(|&number| number == link && link != 0);
-        terminals.iter().map(|&number| store.node(number as usize)).map(|node| [place(node[2]), place(node[3])]).collect()
+        terminals
+            .iter()
+            .map(|&number| store.node(number as usize))
+            .map(|node| [place(node[2]), place(node[3])])
+            .collect()
     };
     places(&a, &terminals_a) == places(&b, &terminals_b)
 }
@@ -318,7 +322,8 @@ fn same_nodes(
     let size = 2usize.pow(first[0]);
     let (mut at, mut same) = (0, first[4 + 2 * size..] == second[4 + 2 * size..]);
     while at < size && same {
-        let [h, pointer_a, other_h, pointer_b] = [first[4 + 2 * at], first[5 + 2 * at], second[4 + 2 * at], second[5 + 2 * at]];
+        let [h, pointer_a, other_h, pointer_b] =
+            [first[4 + 2 * at], first[5 + 2 * at], second[4 + 2 * at], second[5 + 2 * at]];
         if h != other_h || h > first[0] {
             return false;
         }
@@ -327,9 +332,8 @@ fn same_nodes(
             return false;
         }
         // Both have the same runs.
-        same = (at..at + length).all(|i| {
-            first[4 + 2 * i..6 + 2 * i] == [h, pointer_a] && second[4 + 2 * i..6 + 2 * i] == [h, pointer_b]
-        });
+        same = (at..at + length)
+            .all(|i| first[4 + 2 * i..6 + 2 * i] == [h, pointer_a] && second[4 + 2 * i..6 + 2 * i] == [h, pointer_b]);
         same &= if level > 1 {
             same_nodes(a, b, pointer_a, pointer_b, level - 1, terminals_a, terminals_b)
         } else if pointer_a == 0 || pointer_b == 0 {

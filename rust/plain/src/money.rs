@@ -39,7 +39,11 @@ pub const DAY_MOST: u32 = 99_999;
 
 /// Lease days 0 with last day 0, or lease days 1 to 36,525 and a day number.
 pub fn term_ok(lease: u32, last: u32) -> bool {
-    if lease == 0 { last == 0 } else { lease <= LEASE_MOST && day_ok(last) }
+    if lease == 0 {
+        last == 0
+    } else {
+        lease <= LEASE_MOST && day_ok(last)
+    }
 }
 
 /// The same without a branch: a word whose top bit is set where the term is not lawful.

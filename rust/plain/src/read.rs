@@ -100,16 +100,17 @@ fn find_under<'a>(store: &'a [u32], head: &Head, key: u32) -> Result<Option<&'a 
 /// The record with the smallest key above the given one, or none (1). Refused with 3 or 9.
 pub fn next(store: &[u32], key: u32) -> Found {
     match Head::read(store) {
-        Some(head) => Found::of(next_under(store, &head, Bound::Above(key))),
+        Some(head) => Found::of(next_under(store, &head, key)),
         None => Found::refused(answer::HEAD),
     }
 }
 
 #[inline]
-fn next_under<'a>(store: &'a [u32], head: &Head, bound: Bound) -> Result<Option<&'a Row>, Damaged> {
-    let place = descend::<true>(store, head, bound.key(), |_, _, _| ())?;
+fn next_under<'a>(store: &'a [u32], head: &Head, key: u32) -> Result<Option<&'a Row>, Damaged> {
+    let bound = Bound::Above(key);
+    let place = descend::<true>(store, head, key, |_, _, _| ())?;
     if place.pointer != 0 {
-        let (rows, below) = own_page(store, head, &place, bound.key())?;
+        let (rows, below) = own_page(store, head, &place, key)?;
         if let Some(row) = rows.get(bound.passed(rows, below)) {
             return Ok(Some(row));
         }
@@ -121,7 +122,11 @@ fn next_under<'a>(store: &'a [u32], head: &Head, bound: Bound) -> Result<Option<
 #[inline]
 pub fn own_page<'a>(store: &'a [u32], head: &Head, place: &Place, key: u32) -> Result<(&'a [Row], usize), Damaged> {
     let (rows, below) = page::visit(head.page(store, place.pointer), key).ok_or(Damaged)?;
-    if page::all_agree(rows, key, place.used()) { Ok((rows, below)) } else { Err(Damaged) }
+    if page::all_agree(rows, key, place.used()) {
+        Ok((rows, below))
+    } else {
+        Err(Damaged)
+    }
 }
 
 /// The number and the records of the first page behind the place's run, over runs and forward links.
@@ -286,5 +291,9 @@ pub fn summary(store: &[u32], low: u32, high: u32, today: u32) -> Summary {
         true
     });
     sheet.key = if earliest == u64::MAX { 0 } else { earliest as u32 };
-    if summed.is_ok() { sheet } else { refused(answer::DAMAGED) }
+    if summed.is_ok() {
+        sheet
+    } else {
+        refused(answer::DAMAGED)
+    }
 }

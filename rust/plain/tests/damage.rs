@@ -77,7 +77,7 @@ fn damage(store: &mut [u32], rng: &mut Rng) {
     }
 }
 
-/// Compares every call on a store with the literal reading. Returns the number of answers that are not 3 or 9.
+/// Compares every call on a store with the literal reading, and counts the answers by number.
 fn compare(store: &[u32], rng: &mut Rng, held: &[u32], seen: &mut [u64; 12]) {
     let literal = Literal::new(store);
     let mut key = || match rng.below(4) {
@@ -191,7 +191,16 @@ fn any_words() {
         let length = rng.below(400) as usize;
         let mut store: Vec<u32> = (0..length).map(|_| if rng.chance(70) { rng.below(4) } else { rng.word() }).collect();
         if length > 16 && rng.chance(90) {
-            let head = [1 + rng.below(3), 1 + rng.below(3), 1 + rng.below(8), 1 + rng.below(8), 1 + rng.below(3), rng.below(3), 1, 1 + rng.below(3)];
+            let head = [
+                1 + rng.below(3),
+                1 + rng.below(3),
+                1 + rng.below(8),
+                1 + rng.below(8),
+                1 + rng.below(3),
+                rng.below(3),
+                1,
+                1 + rng.below(3),
+            ];
             store[..8].copy_from_slice(&head);
             store[8..16].fill(0);
         }
@@ -271,7 +280,10 @@ fn reads_no_further() {
     let listed = |low, high, words: usize| {
         let mut out = vec![5; words];
         let answer = range(&store, low, high, &mut out);
-        assert_eq!(Literal::new(&store).range(low, high, &vec![5; words]), (answer.number, answer.count, answer.more, out));
+        assert_eq!(
+            Literal::new(&store).range(low, high, &vec![5; words]),
+            (answer.number, answer.count, answer.more, out)
+        );
         (answer.number, answer.count, answer.more)
     };
     assert_eq!(listed(0, 2 << 30, 8), (0, 2, 0));
@@ -295,9 +307,14 @@ fn low_elsewhere() {
     store[20..24].copy_from_slice(&[1, 0, 1, 1]);
     store[24..].copy_from_slice(&[1, 77, 9, 0, 0]);
     let literal = Literal::new(&store);
-    for (low, high, words, expected) in
-        [(77, 77, 4, (0, 1, 0)), (77, 77, 3, (0, 0, 77)), (77, 78, 4, (9, 0, 0)), (77, 78, 0, (0, 0, 77)), (76, 77, 4, (0, 1, 0)), (78, 79, 4, (9, 0, 0))]
-    {
+    for (low, high, words, expected) in [
+        (77, 77, 4, (0, 1, 0)),
+        (77, 77, 3, (0, 0, 77)),
+        (77, 78, 4, (9, 0, 0)),
+        (77, 78, 0, (0, 0, 77)),
+        (76, 77, 4, (0, 1, 0)),
+        (78, 79, 4, (9, 0, 0)),
+    ] {
         let mut out = vec![5; words];
         let answer = range(&store, low, high, &mut out);
         assert_eq!((answer.number, answer.count, answer.more), expected, "{low} to {high}");

@@ -72,9 +72,17 @@ fn labels() {
 
 #[test]
 fn setting_up() {
-    for (theta, capacity, nodes, pages) in
-        [(0, 1, 1, 1), (7, 1, 1, 1), (1, 0, 1, 1), (1, 65, 1, 1), (1, 1, 0, 1), (1, 1, 4097, 1), (1, 1, 1, 0), (1, 1, 1, 4097), (u32::MAX, u32::MAX, u32::MAX, u32::MAX)]
-    {
+    for (theta, capacity, nodes, pages) in [
+        (0, 1, 1, 1),
+        (7, 1, 1, 1),
+        (1, 0, 1, 1),
+        (1, 65, 1, 1),
+        (1, 1, 0, 1),
+        (1, 1, 4097, 1),
+        (1, 1, 1, 0),
+        (1, 1, 1, 4097),
+        (u32::MAX, u32::MAX, u32::MAX, u32::MAX),
+    ] {
         let mut store = vec![5; 100];
         let answer = set_up(&mut store, theta, capacity, nodes, pages);
         assert_eq!((answer.number, answer.size), (4, 0));
@@ -89,7 +97,10 @@ fn setting_up() {
         let answer = set_up(&mut store, theta, capacity, nodes, pages);
         assert_eq!((answer.number, answer.size as usize), (0, size));
         assert_eq!(store[size..], [5; 3]);
-        assert_eq!(store[..22], [[theta, capacity, nodes, pages, 1, 0, 1, 1].as_slice(), &[0; 8], &[0, 1, 0, 0, 0, 0]].concat());
+        assert_eq!(
+            store[..22],
+            [[theta, capacity, nodes, pages, 1, 0, 1, 1].as_slice(), &[0; 8], &[0, 1, 0, 0, 0, 0]].concat()
+        );
         checker::canonical(&store).unwrap();
         // The empty set: 1 level, 1 node, 0 pages.
         assert_eq!(store[4..8], [1, 0, 1, 1]);

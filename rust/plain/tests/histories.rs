@@ -165,7 +165,9 @@ fn any_order() {
 /// Large stores, checked now and then.
 #[test]
 fn large() {
-    for (theta, capacity, kind, entries) in [(6, 24, 0, 50_000), (6, 64, 6, 60_000), (3, 16, 1, 20_000), (1, 8, 0, 6_000), (2, 1, 0, 2_000)] {
+    for (theta, capacity, kind, entries) in
+        [(6, 24, 0, 50_000), (6, 64, 6, 60_000), (3, 16, 1, 20_000), (1, 8, 0, 6_000), (2, 1, 0, 2_000)]
+    {
         let mut rng = Rng(u64::from(theta * 100 + capacity));
         let mut keys = Keys::new(kind, &mut rng);
         let mut store = common::new_store(theta, capacity, 4096, 4096);

@@ -41,18 +41,20 @@ impl Literal {
     }
 
     fn page_at(&self, number: u32) -> usize {
-        16 + self.words[2] as usize * (4 + (2 << self.theta())) + (number as usize - 1) * (1 + 4 * self.words[1] as usize)
+        16 + self.words[2] as usize * (4 + (2 << self.theta()))
+            + (number as usize - 1) * (1 + 4 * self.words[1] as usize)
     }
 
     pub fn head_ok(&self) -> bool {
         if self.words.len() < 16 {
             return false;
         }
-        let [theta, capacity, nodes, pages, nodes_taken, pages_taken, root, levels] = *self.words.first_chunk().unwrap();
-        if theta < 1 || theta > 6 || capacity < 1 || capacity > 64 {
+        let [theta, capacity, nodes, pages, nodes_taken, pages_taken, root, levels] =
+            *self.words.first_chunk().unwrap();
+        if !(1..=6).contains(&theta) || !(1..=64).contains(&capacity) {
             return false;
         }
-        if nodes < 1 || nodes > 4096 || pages < 1 || pages > 4096 {
+        if !(1..=4096).contains(&nodes) || !(1..=4096).contains(&pages) {
             return false;
         }
         let mut f = 0;
@@ -167,7 +169,11 @@ impl Literal {
         }
         let records = self.records(descent.pointer);
         let agree = records.iter().all(|record| (0..descent.used).all(|i| bit(record.key, i) == bit(key, i)));
-        if agree { Ok(records) } else { Err(Damaged) }
+        if agree {
+            Ok(records)
+        } else {
+            Err(Damaged)
+        }
     }
 
     pub fn find(&self, key: u32) -> (u32, Record) {
@@ -208,7 +214,11 @@ impl Literal {
                         return Err(Damaged);
                     }
                     let records = self.records(page);
-                    return if records.iter().all(|record| asked(record.key)) { Ok(Some(records[0])) } else { Err(Damaged) };
+                    return if records.iter().all(|record| asked(record.key)) {
+                        Ok(Some(records[0]))
+                    } else {
+                        Err(Damaged)
+                    };
                 }
             }
             let forward = self.words[at + 3];

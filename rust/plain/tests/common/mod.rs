@@ -23,7 +23,7 @@ impl Rng {
 
     /// A number below `bound`.
     pub fn below(&mut self, bound: u32) -> u32 {
-        (u64::from(self.word()) * u64::from(bound) >> 32) as u32
+        ((u64::from(self.word()) * u64::from(bound)) >> 32) as u32
     }
 
     pub fn one_of<T: Copy>(&mut self, choices: &[T]) -> T {
