@@ -111,7 +111,7 @@ fn history(seed: u64) {
 
 #[test]
 fn many_histories() {
-    for seed in 0..4_000 {
+    for seed in 0..3_000 {
         history(seed);
     }
 }
