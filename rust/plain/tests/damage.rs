@@ -23,9 +23,10 @@ fn other(word: u32, store: &[u32], rng: &mut Rng) -> u32 {
 fn damage(store: &mut [u32], rng: &mut Rng) {
     let [theta, capacity, nodes, _, nodes_taken, pages_taken, ..] = *store else { unreachable!() };
     let node_words = 4 + (2usize << theta.min(6));
-    let page_words = 1 + 4 * capacity.min(64) as usize;
-    let node = 16 + rng.below(nodes_taken.clamp(1, nodes)) as usize * node_words;
-    let page = 16 + nodes as usize * node_words + rng.below(pages_taken.max(1)) as usize * page_words;
+    let capacity = capacity.clamp(1, 64);
+    let page_words = 1 + 4 * capacity as usize;
+    let node = 16 + rng.below(nodes_taken.clamp(1, nodes.max(1))) as usize * node_words;
+    let page = 16 + nodes as usize * node_words + rng.below(pages_taken.clamp(1, 1 << 20)) as usize * page_words;
     if node + node_words > store.len() || page + page_words > store.len() || theta > 6 {
         let at = rng.below(store.len() as u32) as usize;
         store[at] = other(store[at], store, rng);
@@ -39,14 +40,14 @@ fn damage(store: &mut [u32], rng: &mut Rng) {
             let h = store[node + 4 + 2 * entry].min(depth);
             let length = 1usize << (depth - h);
             let first = entry / length * length;
-            let bound = 1 + if store[node + 1] == 1 { pages_taken } else { nodes_taken };
+            let bound = if store[node + 1] == 1 { pages_taken } else { nodes_taken }.saturating_add(1);
             let pointer = rng.below(bound);
             for entry in first..first + length {
                 store[node + 5 + 2 * entry] = pointer;
             }
         }
         // A link leads elsewhere.
-        3 => store[node + 2 + rng.below(2) as usize] = rng.below(nodes_taken + 1),
+        3 => store[node + 2 + rng.below(2) as usize] = rng.below(nodes_taken.saturating_add(1)),
         // Another level, count or depth.
         4 => {
             let at = rng.one_of(&[node, node + 1, page, 4, 5, 6, 7]);
