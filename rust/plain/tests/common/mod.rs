@@ -1,0 +1,114 @@
+//! What the tests share: a random generator, keys of several kinds, lawful records.
+#![allow(dead_code)]
+
+pub mod literal;
+
+use plain::Record;
+
+/// splitmix64.
+pub struct Rng(pub u64);
+
+impl Rng {
+    pub fn next(&mut self) -> u64 {
+        self.0 = self.0.wrapping_add(0x9e37_79b9_7f4a_7c15);
+        let mut z = self.0;
+        z = (z ^ z >> 30).wrapping_mul(0xbf58_476d_1ce4_e5b9);
+        z = (z ^ z >> 27).wrapping_mul(0x94d0_49bb_1331_11eb);
+        z ^ z >> 31
+    }
+
+    pub fn word(&mut self) -> u32 {
+        (self.next() >> 32) as u32
+    }
+
+    /// A number below `bound`.
+    pub fn below(&mut self, bound: u32) -> u32 {
+        ((u64::from(self.word()) * u64::from(bound)) >> 32) as u32
+    }
+
+    pub fn one_of<T: Copy>(&mut self, choices: &[T]) -> T {
+        choices[self.below(choices.len() as u32) as usize]
+    }
+
+    pub fn chance(&mut self, percent: u32) -> bool {
+        self.below(100) < percent
+    }
+
+    pub fn shuffle<T>(&mut self, list: &mut [T]) {
+        for i in (1..list.len()).rev() {
+            list.swap(i, self.below(i as u32 + 1) as usize);
+        }
+    }
+}
+
+/// Keys of one kind: 0 uniform, 1 bursts of neighbours, 2 long shared prefixes, 3 extremes, 4 few bits, 5 ascending,
+/// 6 mixed.
+pub struct Keys {
+    kind: u32,
+    last: u32,
+    prefix: u32,
+}
+
+impl Keys {
+    pub const KINDS: u32 = 7;
+
+    pub fn new(kind: u32, rng: &mut Rng) -> Keys {
+        Keys { kind, last: rng.word(), prefix: rng.word() }
+    }
+
+    pub fn draw(&mut self, rng: &mut Rng) -> u32 {
+        let kind = if self.kind == 6 { rng.below(6) } else { self.kind };
+        self.last = match kind {
+            0 => rng.word(),
+            1 if rng.chance(10) => rng.word(),
+            1 => self.last.wrapping_add(rng.below(7)).wrapping_sub(2),
+            2 => {
+                let kept = rng.one_of(&[8, 16, 20, 24, 28, 30]);
+                (self.prefix >> (32 - kept) << (32 - kept)) | rng.word() >> kept
+            }
+            3 => match rng.below(4) {
+                0 => rng.below(20),
+                1 => u32::MAX - rng.below(20),
+                2 => (1 << 31) - 10 + rng.below(20),
+                _ => 1 << rng.below(32),
+            },
+            4 => rng.below(64) << 26 | rng.below(4),
+            _ => self.last.wrapping_add(rng.below(1 << 20)),
+        };
+        self.last
+    }
+}
+
+/// A record with some lawful price and term.
+pub fn record(key: u32, rng: &mut Rng) -> Record {
+    let price = if rng.chance(20) { u32::MAX - rng.below(3) } else { rng.word() >> rng.below(32) };
+    if rng.chance(30) {
+        return Record { key, price, lease: 0, last: 0 };
+    }
+    let (days, day) = (1 + rng.below(36_525), rng.below(100_000));
+    let lease = rng.one_of(&[1, 2, 36_525, days]);
+    let last = rng.one_of(&[0, 99_999, 46_000, day]);
+    Record { key, price, lease, last }
+}
+
+/// A record outside its limits.
+pub fn unlawful(key: u32, rng: &mut Rng) -> Record {
+    match rng.below(4) {
+        0 => Record { key: 0, price: 1, lease: 0, last: 0 },
+        1 => Record { key, price: 1, lease: 36_526, last: 5 },
+        2 => Record { key, price: 1, lease: 0, last: 1 },
+        _ => Record { key, price: 1, lease: 10, last: 100_000 },
+    }
+}
+
+/// The words of a store of these sizes.
+pub fn size(theta: u32, capacity: u32, nodes: u32, pages: u32) -> usize {
+    (16 + nodes * (4 + (2 << theta)) + pages * (1 + 4 * capacity)) as usize
+}
+
+/// A new store of exactly its size.
+pub fn new_store(theta: u32, capacity: u32, nodes: u32, pages: u32) -> Vec<u32> {
+    let mut store = vec![7; size(theta, capacity, nodes, pages)];
+    assert_eq!(plain::set_up(&mut store, theta, capacity, nodes, pages).number, 0);
+    store
+}
