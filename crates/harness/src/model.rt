@@ -1,0 +1,257 @@
+// The plain sorted list: the count, then four words for each record, keys ascending, zeros after the last.
+use crate::calls;
+use crate::calls::Call;
+use crate::calls::Reply;
+use crate::words;
+use crate::words::put;
+use plot::Record;
+use store::to_index;
+use store::widen;
+use store::word;
+ghost use Prim.Native.Nat.{_<_};
+
+// A summary so far: count, total, earliest last day and its key.
+struct Sheet {
+    count: u64,
+    total: u64,
+    last: u32,
+    key: u32,
+}
+
+// How many records there are.
+pub fn size(list: &[u32]) -> u32 {
+    word(list, 0)
+}
+
+// The first word of a record.
+fn place(i: u32) -> usize
+    ensures { λ r. ⌜ r < 34359738368 ⌝ }
+{
+    1 + 4 * to_index(i)
+}
+
+// The record at a place, zeros past the end.
+pub fn record_at(list: &[u32], i: u32) -> Record {
+    let at = place(i);
+    Record {
+        key: word(list, at),
+        price: word(list, at + 1),
+        lease: word(list, at + 2),
+        last: word(list, at + 3),
+    }
+}
+
+fn put_record(list: &mut [u32], i: u32, record: Record) {
+    let at = place(i);
+    put(list, at, record.key);
+    put(list, at + 1, record.price);
+    put(list, at + 2, record.lease);
+    put(list, at + 3, record.last);
+}
+
+// How many keys are below a key.
+pub fn rank(list: &[u32], key: u32) -> u32 {
+    let n = size(list);
+    let mut i: u32 = 0;
+    while i < n {
+        if word(list, place(i)) >= key {
+            return i;
+        }
+        i += 1;
+    }
+    n
+}
+
+// How many keys are at most a key.
+fn rank_after(list: &[u32], key: u32) -> u32 {
+    if key == 4294967295 {
+        return size(list);
+    }
+    rank(list, key + 1)
+}
+
+// Moves the records from a place on up by one.
+fn make_room(list: &mut [u32], at: u32) {
+    let mut i: u32 = size(list);
+    while at < i {
+        let record = record_at(list, i - 1);
+        put_record(list, i, record);
+        i -= 1;
+    }
+}
+
+// Puts a record in order.
+pub fn insert(list: &mut [u32], record: Record) {
+    let n = size(list);
+    let at = rank(list, record.key);
+    if n < 4294967295 {
+        make_room(list, at);
+        put_record(list, at, record);
+        put(list, 0, n + 1);
+    }
+}
+
+// Puts a record at the end.
+pub fn append(list: &mut [u32], record: Record) {
+    let n = size(list);
+    put_record(list, n, record);
+    put(list, 0, words::sum(n, 1));
+}
+
+// Moves the records after a place down by one.
+fn close_up(list: &mut [u32], at: u32) {
+    let n = size(list);
+    let mut i: u32 = at;
+    while i < n {
+        let record = record_at(list, i + 1);
+        put_record(list, i, record);
+        i += 1;
+    }
+}
+
+// Takes the record with a key out.
+pub fn remove(list: &mut [u32], key: u32) {
+    let n = size(list);
+    let at = rank(list, key);
+    if n > 0 {
+        close_up(list, at);
+        put(list, 0, n - 1);
+    }
+}
+
+// Whether a key is held.
+pub fn holds(list: &[u32], key: u32) -> bool {
+    key != 0 && record_at(list, rank(list, key)).key == key
+}
+
+// Whether a record is within its limits.
+pub fn lawful(record: Record) -> bool {
+    if record.key == 0 {
+        return false;
+    }
+    if record.lease == 0 {
+        return record.last == 0;
+    }
+    record.lease < 36526 && record.last < 100000
+}
+
+// The days of a lease that are left.
+fn days_left(record: Record, today: u32) -> u32 {
+    if record.last <= today {
+        return 0;
+    }
+    if record.last - today > record.lease {
+        return record.lease;
+    }
+    record.last - today
+}
+
+// Price × days left / lease days, 0 if perpetual.
+pub fn balance(record: Record, today: u32) -> u64 {
+    let days = widen(record.lease);
+    if days == 0 {
+        return 0;
+    }
+    words::product(record.price, days_left(record, today)) / days
+}
+
+fn find(list: &[u32], key: u32) -> Reply {
+    if holds(list, key) {
+        return calls::held(record_at(list, rank(list, key)));
+    }
+    calls::refusal(1)
+}
+
+fn next(list: &[u32], key: u32) -> Reply {
+    let at = rank_after(list, key);
+    if at < size(list) {
+        return calls::held(record_at(list, at));
+    }
+    calls::refusal(1)
+}
+
+// How many records stand from low to high.
+fn between(list: &[u32], low: u32, high: u32) -> u32 {
+    let first = rank(list, low);
+    let end = rank_after(list, high);
+    if end < first {
+        return 0;
+    }
+    end - first
+}
+
+fn range(list: &[u32], low: u32, high: u32, room: u32) -> Reply {
+    if low > high {
+        return calls::refusal(7);
+    }
+    let n = between(list, low, high);
+    let fit = room / 4;
+    if n <= fit {
+        return calls::listing(n, 0);
+    }
+    let more = record_at(list, words::sum(rank(list, low), fit));
+    calls::listing(fit, more.key)
+}
+
+// A sheet with one record more.
+fn added(sheet: Sheet, record: Record, today: u32) -> Sheet {
+    let earlier = record.lease > 0 && (sheet.key == 0 || record.last < sheet.last);
+    Sheet {
+        count: words::sum64(sheet.count, 1),
+        total: words::sum64(sheet.total, balance(record, today)),
+        last: if earlier { record.last } else { sheet.last },
+        key: if earlier { record.key } else { sheet.key },
+    }
+}
+
+fn sheet_over(list: &[u32], low: u32, high: u32, today: u32) -> Sheet {
+    let end = rank_after(list, high);
+    let mut i: u32 = rank(list, low);
+    let mut sheet = Sheet {
+        count: 0,
+        total: 0,
+        last: 0,
+        key: 0,
+    };
+    while i < end {
+        sheet = added(sheet, record_at(list, i), today);
+        i += 1;
+    }
+    sheet
+}
+
+fn summary(list: &[u32], low: u32, high: u32, today: u32) -> Reply {
+    if low > high {
+        return calls::refusal(7);
+    }
+    if today > 99999 {
+        return calls::refusal(6);
+    }
+    let sheet = sheet_over(list, low, high, today);
+    calls::done(sheet.count, sheet.total, widen(sheet.key), 0)
+}
+
+// The reply to a reading of the list: find, next, range with an output of so many words, or summary.
+pub fn reply_to(list: &[u32], call: Call) -> Reply {
+    let kind = call.kind;
+    match kind {
+        calls::FIND => find(list, call.a),
+        calls::NEXT => next(list, call.a),
+        calls::RANGE => range(list, call.a, call.b, call.c),
+        _ => summary(list, call.a, call.b, call.c),
+    }
+}
+
+// Whether words are the list's records from low on.
+pub fn lists(list: &[u32], low: u32, out: &[u32], count: u32) -> bool {
+    let from = place(rank(list, low));
+    let n = 4 * to_index(count);
+    let mut i: usize = 0;
+    while i < n {
+        if word(out, i) != word(list, from + i) {
+            return false;
+        }
+        i += 1;
+    }
+    true
+}

@@ -1,0 +1,16 @@
+-- The loop counts up to its end, and what is lent keeps its length.
+use borrow.Author.Needs.{needs}
+use mathlib.Core.Path.{_≡_}
+use Prim.Native.Nat.{_-_}
+use lib.ListN.{length}
+use Rattle.trials.proofs.broken.put_path.Statement.{statement}
+use Rattle.trials.proofs.broken.put_path.Tie as tie
+
+abbrev Inv-loop : tie.InvT-loop
+Inv-loop store₀ n₀ store n = length store ≡ length store₀
+
+abbrev μ-loop : tie.MeasureT-loop
+μ-loop store₀ n₀ store n = 6 - n
+
+pub put-path-spec : {M : Type 1} → statement M
+put-path-spec = tie.close (tie.spec Inv-loop μ-loop (λ c. search needs) (λ c. search needs) (λ c κs. search needs) (λ c. search needs) (λ c. search needs) (λ c. search needs) (λ c. search needs) (λ c. search needs))

@@ -1,0 +1,22 @@
+// Trials of the plot index: the desk checks that are not proved, random sets against a plain sorted list, orders of entry,
+// refusals, stores broken in one rule, and stores damaged at random. A line for each group; a further one for each trial that fails.
+mod broken; // group 5
+mod damage; // group 6
+mod desk; // group 1
+mod orders; // group 3
+mod refusals; // group 4
+mod sets; // group 2
+
+fn main() {
+    let mut store = [0u32; 16384];
+    let mut other = [0u32; 16384];
+    let mut list = [0u32; 2048];
+    let mut drawn = [0u32; 2048];
+    let mut tally = [0u64; 16];
+    desk::run(&mut store, &mut tally);
+    sets::run(&mut store, &mut list, &mut tally);
+    orders::run(&mut other, &mut store, &mut list, &mut drawn, &mut tally);
+    refusals::run(&mut store, &mut tally);
+    broken::run(&mut other, &mut store, &mut tally);
+    damage::run(&mut other, &mut store, &mut list, &mut drawn, &mut tally);
+}
