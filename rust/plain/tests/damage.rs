@@ -4,7 +4,7 @@
 mod common;
 
 use common::literal::Literal;
-use common::{damage, new_store, other, record, Keys, Rng};
+use common::{circle, damage, elsewhere, new_store, other, record, too_deep, Keys, Rng};
 use plain::{enter, find, next, range, summary};
 
 /// Compares every call on a store with the literal reading, and counts the answers by number.
@@ -169,19 +169,7 @@ fn circles() {
     let high = (1 << 31) + 5;
     for taken in 1..=5 {
         for found in [true, false] {
-            // Terminal nodes 1, .., taken in a circle; the run of keys below 2^31 leads to a page of a key above.
-            let mut store = new_store(1, 1, 5, 1);
-            store[4] = taken;
-            store[5] = 1;
-            for number in 1..=taken {
-                let before = if number == 1 { taken } else { number - 1 };
-                let after = if number == taken { 1 } else { number + 1 };
-                let at = 16 + 8 * (number as usize - 1);
-                store[at..at + 8].copy_from_slice(&[0, 1, before, after, 0, 0, 0, 0]);
-            }
-            store[16] = 1;
-            store[20..24].copy_from_slice(&[1, u32::from(found), 1, 0]);
-            store[16 + 5 * 8..].copy_from_slice(&[1, high, 9, 0, 0]);
+            let store = circle(taken, found, high);
             let literal = Literal::new(&store);
             for key in [high - 1, high, u32::MAX] {
                 let answer = next(&store, key);
@@ -230,12 +218,7 @@ fn reads_no_further() {
 /// A key that is sought in its own stretch and stands behind it: at low it is read, above it not.
 #[test]
 fn low_elsewhere() {
-    let mut store = new_store(1, 1, 1, 1);
-    // The lower run is null, the upper one leads to a page of a lower key.
-    store[5] = 1;
-    store[16] = 1;
-    store[20..24].copy_from_slice(&[1, 0, 1, 1]);
-    store[24..].copy_from_slice(&[1, 77, 9, 0, 0]);
+    let store = elsewhere();
     let literal = Literal::new(&store);
     for (low, high, words, expected) in [
         (77, 77, 4, (0, 1, 0)),
@@ -257,19 +240,7 @@ fn low_elsewhere() {
 /// The bits used before a node and its depth together are at most 32.
 #[test]
 fn too_many_bits() {
-    let mut store = new_store(6, 1, 76, 2);
-    for key in [u32::MAX - 1, u32::MAX] {
-        assert_eq!(enter(&mut store, plain::Record { key, price: 1, lease: 0, last: 0 }).number, 0);
-    }
-    // The root doubles with every local depth one higher: each node below has one bit less.
-    let root = 16 + 132 * (store[6] as usize - 1);
-    let size = 1 << store[root];
-    store[root] += 1;
-    for entry in (0..2 * size).rev() {
-        let [h, pointer] = [store[root + 4 + entry / 2 * 2], store[root + 5 + entry / 2 * 2]];
-        store[root + 4 + 2 * entry] = h + 1;
-        store[root + 5 + 2 * entry] = pointer;
-    }
+    let mut store = too_deep();
     let literal = Literal::new(&store);
     for key in [0, 1, 1 << 31, u32::MAX - 2, u32::MAX - 1, u32::MAX] {
         assert_eq!((find(&store, key).number, find(&store, key).record), literal.find(key));

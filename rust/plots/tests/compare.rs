@@ -4,7 +4,7 @@
 #[path = "../../plain/tests/common/mod.rs"]
 mod common;
 
-use common::{damage, other, record, size, unlawful, Keys, Rng};
+use common::{circle, damage, elsewhere, other, record, size, too_deep, unlawful, Keys, Rng};
 use plain::Record;
 use plots::{ffi, Label, Sizes, Store};
 use std::ops::Range;
@@ -508,4 +508,29 @@ fn each_word() {
         }
     }
     println!("each word changed: {} calls", counts.calls());
+}
+
+/// Stores made by hand: links in a circle, a key outside its stretch, nodes below the last bit of a key.
+#[test]
+fn made_stores() {
+    let mut counts = Counts::default();
+    let rng = &mut Rng(0x3ade_0000_0000);
+    let high = (1 << 31) + 5;
+    let mut stores = vec![(elsewhere(), 77), (too_deep(), u32::MAX - 1)];
+    for taken in 1..=5 {
+        stores.extend([true, false].map(|found| (circle(taken, found, high), high)));
+    }
+    for (words, key) in stores {
+        let mut calls = Calls { keys: Keys::new(6, rng), held: vec![key] };
+        for key in [0, 1, key - 1, key, key + 1, u32::MAX] {
+            for call in [Call::Find(key), Call::Next(key), Call::Enter(record(key, rng))] {
+                Pair::new(&words).call(call, rng, &mut counts);
+            }
+        }
+        for _ in 0..2_000 {
+            let call = calls.draw(rng);
+            Pair::new(&words).call(call, rng, &mut counts);
+        }
+    }
+    println!("stores made by hand: {} calls", counts.calls());
 }

@@ -183,3 +183,48 @@ pub fn damage(store: &mut [u32], rng: &mut Rng) {
         }
     }
 }
+
+/// Terminal nodes 1, .., taken in a circle; the run of keys below 2^31 leads to a page of the key `high` above, or is null.
+pub fn circle(taken: u32, found: bool, high: u32) -> Vec<u32> {
+    let mut store = new_store(1, 1, 5, 1);
+    store[4] = taken;
+    store[5] = 1;
+    for number in 1..=taken {
+        let before = if number == 1 { taken } else { number - 1 };
+        let after = if number == taken { 1 } else { number + 1 };
+        let at = 16 + 8 * (number as usize - 1);
+        store[at..at + 8].copy_from_slice(&[0, 1, before, after, 0, 0, 0, 0]);
+    }
+    store[16] = 1;
+    store[20..24].copy_from_slice(&[1, u32::from(found), 1, 0]);
+    store[16 + 5 * 8..].copy_from_slice(&[1, high, 9, 0, 0]);
+    store
+}
+
+/// A node whose lower run is null; the upper one leads to a page of the lower key 77.
+pub fn elsewhere() -> Vec<u32> {
+    let mut store = new_store(1, 1, 1, 1);
+    store[5] = 1;
+    store[16] = 1;
+    store[20..24].copy_from_slice(&[1, 0, 1, 1]);
+    store[24..].copy_from_slice(&[1, 77, 9, 0, 0]);
+    store
+}
+
+/// The two highest keys at theta 6 and one record a page, the root doubled with every local depth one higher: each node below
+/// has one bit less.
+pub fn too_deep() -> Vec<u32> {
+    let mut store = new_store(6, 1, 76, 2);
+    for key in [u32::MAX - 1, u32::MAX] {
+        assert_eq!(plain::enter(&mut store, Record { key, price: 1, lease: 0, last: 0 }).number, 0);
+    }
+    let root = 16 + 132 * (store[6] as usize - 1);
+    let size = 1 << store[root];
+    store[root] += 1;
+    for entry in (0..2 * size).rev() {
+        let [h, pointer] = [store[root + 4 + entry / 2 * 2], store[root + 5 + entry / 2 * 2]];
+        store[root + 4 + 2 * entry] = h + 1;
+        store[root + 5 + 2 * entry] = pointer;
+    }
+    store
+}
