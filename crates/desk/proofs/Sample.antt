@@ -12,20 +12,22 @@ use Rattle.store.specs.Format.{width, words}
 use Rattle.store.specs.Head.{zeros, headOf, nodeWords, pageWords, size, nodeStart, pageStart, pageAt, lawfulSizes, lawfulCounts, headRule}
 use Rattle.store.specs.SetUp.{setUpWords, setUp}
 use Rattle.store.specs.Tests.{failing}
-use Rattle.node.specs.Node.{sameRun, runRule, goodRuns, runTest, linkRule, pointerLow, pointerHigh, nodeRule, entryNumber}
+use Rattle.store.specs.Head.{nodeAt}
+use Rattle.node.specs.Node.{runRule, goodRuns, linkRule, pointerLow, pointerHigh, nodeRule, entryNumber}
 use Rattle.page.specs.Page.{itemAt, itemWords, flat, lawfulItem, inTurn, goesOn, checkedOf, ordered, pageRule, agrees, above, firstFrom}
 use Rattle.page.specs.Page.{firstAbove}
 use Rattle.page.specs.Schema.{unlawful}
 use Rattle.totals.specs.Totals.{noTotals, worth, earlier, updatedOf}
 use Rattle.search.specs.Descent.{noSteps, damagedNode, entryVisit, stepOf, lost, stepTaken, descend, descent}
 use Rattle.search.specs.Find.{soundPage, inPage, findOf, checked, findReply}
-use Rattle.search.specs.Next.{firstPointer, runAfter, visitAfter, linked, onward, hop, follow, afterOwn, fromDescent, nextOf}
+use Rattle.search.specs.Next.{firstPointer, runAfter, visitAfter, linked, onward, hop, reach, visited, behind, afterOwn}
+use Rattle.search.specs.Next.{fromDescent, nextOf}
 use Rattle.scan.specs.Summary.{damage, sumFrom, summed, summaryOf}
 use Rattle.split.specs.Block.{kept, block, overRun, halves, halveRun, double, grow, half, lower, upper, aim, top}
 use Rattle.split.specs.Block as blocks
 use Rattle.split.specs.Frame.{putNode, putPage, putHead, putPagesTaken}
 use Rattle.split.specs.Round.{putBoth, grown, splitNode, relink, splitFirst, newRoot, climb, round, aimAt}
-use Rattle.represent.specs.Image.{pageImage, nodeImage, nodeAt}
+use Rattle.represent.specs.Image.{pageImage, nodeImage}
 use Rattle.insert.specs.Enter.{itemsIn, ownItems, ownPasses, neighbourOk, pathIn, parted, roundOf, placed, roundsFor, planOf, wayOf}
 use Rattle.insert.specs.Enter.{undamaged, enteredWords, done, enterOf}
 use Rattle.lines.specs.Columns.{digit, skipped, plain, value, numberOf, isNumber, byteAt, column}
@@ -39,10 +41,10 @@ use Rattle.desk.specs.Sample.{request, response, Sampled}
 pub sampled : Sampled
 unfolding bytes request response transcript served bit replaced part tab every greatest contains insert isWord lawfulDay lawfulTerm
     lawful daysLeft amount balanceReply logBelow levelBound rounds pagesAt bump bumpCost width words zeros headOf nodeWords pageWords size nodeStart
-    pageStart pageAt lawfulSizes lawfulCounts headRule setUpWords setUp failing sameRun runRule goodRuns runTest linkRule pointerLow
+    pageStart pageAt lawfulSizes lawfulCounts headRule setUpWords setUp failing runRule goodRuns linkRule pointerLow
     pointerHigh nodeRule entryNumber itemAt itemWords flat lawfulItem inTurn goesOn checkedOf ordered pageRule agrees above firstFrom
     firstAbove unlawful noTotals worth earlier updatedOf noSteps damagedNode entryVisit stepOf lost stepTaken descend descent soundPage
-    inPage findOf checked findReply firstPointer runAfter visitAfter linked onward hop follow afterOwn fromDescent nextOf damage sumFrom
+    inPage findOf checked findReply firstPointer runAfter visitAfter linked onward hop reach visited behind afterOwn fromDescent nextOf damage sumFrom
     summed summaryOf kept block overRun halves halveRun double grow half lower upper aim top blocks.linked putNode putPage putHead
     putPagesTaken putBoth grown splitNode relink splitFirst newRoot climb round aimAt pageImage nodeImage nodeAt itemsIn ownItems ownPasses
     neighbourOk pathIn parted roundOf placed roundsFor planOf wayOf undamaged enteredWords done enterOf digit skipped plain value numberOf

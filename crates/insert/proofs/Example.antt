@@ -12,25 +12,26 @@ use Rattle.tree.specs.Carry.{bump, bumpCost}
 use Rattle.tree.specs.Book.{logBelow, levelBound}
 use Rattle.store.specs.Format.{width, words}
 use Rattle.store.specs.Head.{zeros, headOf, nodeWords, pageWords, size, nodeStart, pageStart, pageAt, lawfulSizes, lawfulCounts, headRule}
-use Rattle.node.specs.Node.{sameRun, runRule, goodRuns, linkRule, pointerLow, pointerHigh, nodeRule, entryNumber}
+use Rattle.node.specs.Node.{runRule, goodRuns, linkRule, pointerLow, pointerHigh, nodeRule, entryNumber}
 use Rattle.page.specs.Page.{itemAt, itemWords, flat, lawfulItem, ordered, pageRule, agrees}
 use Rattle.page.specs.Schema.{unlawful}
 use Rattle.search.specs.Descent.{noSteps, damagedNode, entryVisit, stepOf, lost, stepTaken, descend, descent}
 use Rattle.search.specs.Find.{soundPage}
-use Rattle.represent.specs.Image.{pageImage, nodeAt}
+use Rattle.represent.specs.Image.{pageImage}
 use Rattle.represent.specs.Example.{stored}
 use Rattle.split.specs.Frame.{putNode, putPage, putHead, putPagesTaken}
 use Rattle.split.specs.Round.{grown, climb, round}
 use Rattle.split.specs.Block.{kept, block, overRun, halves, halveRun, double, grow}
 use Rattle.insert.specs.Enter.{itemsIn, ownItems, ownPasses, neighbourOk, pathIn, parted, roundOf, placed, roundsFor, planOf, done}
 use Rattle.store.specs.Tests.{failing}
+use Rattle.store.specs.Head.{nodeAt}
 use Rattle.insert.specs.Enter.{wayOf, undamaged, enteredWords, enterOf}
 use Rattle.insert.specs.Example.{NeighbourTested, ClearedBreaks}
 
 pub neighbour-tested : NeighbourTested
 unfolding stored lawful isWord lawfulTerm lawfulDay bit replaced part tab every greatest contains insert rounds pagesAt bump bumpCost
     logBelow
-    levelBound width words zeros headOf nodeWords pageWords size nodeStart pageStart pageAt lawfulSizes lawfulCounts headRule sameRun
+    levelBound width words zeros headOf nodeWords pageWords size nodeStart pageStart pageAt lawfulSizes lawfulCounts headRule
     runRule
     goodRuns linkRule pointerLow pointerHigh nodeRule entryNumber itemAt lawfulItem ordered pageRule agrees noSteps damagedNode entryVisit
     stepOf lost stepTaken descend descent soundPage itemWords flat pageImage nodeAt putNode putPage putHead putPagesTaken grown climb

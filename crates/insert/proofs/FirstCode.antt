@@ -11,13 +11,11 @@ use lib.ListN.{length}
 use Rattle.lists.specs.Lists.{replaced}
 use Rattle.store.specs.declared.Format.{Format}
 use Rattle.store.specs.declared.Head.{Head}
-use Rattle.store.specs.Head.{word, headOf, nodeWords, nodeStart}
+use Rattle.store.specs.Head.{word, headOf, nodeWords, nodeStart, nodeAt}
 use Rattle.store.proofs.HeadLaws.{sizes-limits}
 use Rattle.node.specs.Node.{backWord, forwardWord}
-use Rattle.represent.specs.Image.{nodeAt}
 use Rattle.represent.specs.Rep.{Sized}
-use Rattle.represent.proofs.ImageLaws.{part-word}
-use Rattle.represent.proofs.Places.{node-fits}
+use Rattle.store.proofs.Places.{part-word, node-fits}
 use Rattle.split.specs.Frame.{nodeOf, putNode, putHead}
 use Rattle.split.specs.Round.{Place, putBoth, relink, splitFirst, takeNode}
 use Rattle.split.specs.Insertion.{wordStore}

@@ -96,8 +96,8 @@ module _ (f : Format) (key : ℕ) (t : List ℕ) (ok : Sized f t) (nodes-in : he
         let H : ℕ = height (y .trie) in
         let i : ℕ = entryNumber (width f) key used H in
         let at = stands-entry narrow in
-        let v = visit-entry f t h key (suc l) n used (nodeStart h n) refl H i d next stands-rule (sym (shown .depth)) (y .room) refl
-        (entry-below (width f) key used H) (sym (ap (λ x. x .0) at)) (sym (ap (λ x. x .1) at)) .0 in
+        let v = visit-entry f t h key (suc l) n used H i d next stands-rule (sym (shown .depth)) (y .room) refl
+        (sym (ap (λ x. x .0) at)) (sym (ap (λ x. x .1) at)) in
         let more : List Step = stepTaken steps (suc l - 1) n used (record { ok = true; entry = i; depth = d; pointer = next }) in (
           more,
           sym (turn-on f t h key (suc l) n used steps _ v (omega arith) _ refl refl)

@@ -24,19 +24,19 @@ use Rattle.tree.proofs.NodePromises.{at-key}
 use Rattle.store.specs.declared.Format.{Format}
 use Rattle.store.specs.declared.Head.{Head}
 use Rattle.store.specs.Format.{width}
-use Rattle.store.specs.Head.{word, zeros, headOf, nodeWords, nodeStart}
+use Rattle.store.specs.Head.{word, zeros, headOf, nodeWords, nodeStart, nodeAt}
 use Rattle.node.specs.Node.{depthWord, backWord, forwardWord, entryDepth, entryPointer, entryOf, linkRule, pointerLow}
 use Rattle.node.specs.Node.{pointerHigh, nodeRule, entryNumber}
 use Rattle.node.proofs.NodeLaws.{link-1, link-above, low-above, high-1, high-above, node-facts}
 use Rattle.node.proofs.RunWalk.{good-facts}
 use Rattle.node.proofs.EntryNumber.{entry-index}
 use Rattle.node.proofs.Promises.{node-is-trie}
-use Rattle.represent.specs.Image.{nodeImage, nodeAt, NodeIs}
+use Rattle.represent.specs.Image.{nodeImage, NodeIs}
 use Rattle.represent.specs.Labelled.{occ}
 use Rattle.represent.specs.Rep.{Sized}
 use Rattle.represent.proofs.ImageLaws.{Shown, image-shown}
 use Rattle.represent.proofs.LabelLaws.{ind-other}
-use Rattle.represent.proofs.Places.{node-fits}
+use Rattle.store.proofs.Places.{node-fits}
 use Rattle.split.specs.Frame.{nodeOf}
 use Rattle.split.proofs.Lengths.{length-nodeImage}
 use Rattle.insert.proofs.InsideEnter.{node-word}

@@ -4,7 +4,7 @@
 use mathlib.Core.Path.{_≡_, refl, sym, ap, ap₂, _∙_, subst}
 use mathlib.Core.Bool.{true, false}
 use mathlib.Core.List.{List, [], _∷_}
-use Prim.Native.Nat.{ℕ, suc, _+_, _≤_, _<_}
+use Prim.Native.Nat.{ℕ, suc, _+_, _*_, _≤_, _<_}
 use native.Mathlib.Nat.{add-zero}
 use native.Mathlib.Numerals.{add-one}
 use native.Mathlib.Decide.{decLt}
@@ -17,15 +17,15 @@ use Rattle.tree.specs.Build.{side}
 use Rattle.store.specs.declared.Format.{Format}
 use Rattle.store.specs.declared.Head.{Head}
 use Rattle.store.specs.declared.Item.{Item}
+use Rattle.store.specs.Format.{width, words}
 use Rattle.store.specs.Head.{word, headOf, pageWords, pageStart, pageAt}
 use Rattle.store.proofs.HeadLaws.{Limits, sizes-limits}
 use Rattle.page.specs.Page.{count, lawfulItem}
 use Rattle.page.specs.Schema.{keyOf}
 use Rattle.represent.specs.Image.{pageImage}
 use Rattle.represent.specs.Rep.{Sized}
-use Rattle.represent.proofs.ImageLaws.{part-word}
-use Rattle.represent.proofs.PageImage.{page-count}
-use Rattle.represent.proofs.Places.{page-end, pages-apart}
+use Rattle.represent.proofs.PageImage.{page-count, page-inside}
+use Rattle.store.proofs.Places.{part-word, page-end, pages-apart}
 use Rattle.split.specs.Frame.{pageOf, putPage, putPagesTaken}
 use Rattle.split.specs.Insertion.{SameSizes, putItems, nextPage, takePage}
 use Rattle.split.proofs.Frame.{sized-long, putPage-head, putPagesTaken-sizes, putPagesTaken-is, putPagesTaken-sized, putPagesTaken-pages}
@@ -214,6 +214,13 @@ module _ (f : Format) (s : List ℕ) (h : Head) (p b : ℕ) (is : h ≡ headOf s
         limits f s p b y .capacity,
         omega (arith, limits f s p b y .pages, y .room),
       )
+
+  -- what is asked where the records with a clear bit are counted
+  pub part-asks : (pg : List ℕ) → pg ≡ pageAt f s h p → (b < width f) × (words f * count pg < length pg)
+  part-asks pg e = (
+    y .narrow,
+    page-inside f (headOf s .capacity) pg (itemsIn f (pageOf f s p)) (e ∙ ap (λ (h : Head). pageAt f s h p) is ∙ y .image),
+  )
 
   -- the head with the page taken
   pub part-next : (t : List ℕ) (g : Head) → t ≡ putPagesTaken s (suc (h .pagesTaken)) → g ≡ headOf t → (g .theta ≤ 6) × (g .capacity ≤ 64)

@@ -17,16 +17,16 @@ use Rattle.store.specs.declared.Format.{Format}
 use Rattle.store.specs.declared.Head.{Head}
 use Rattle.store.specs.declared.Item.{Item}
 use Rattle.store.specs.Format.{width}
-use Rattle.store.specs.Head.{headOf, nodeStart, nodeWords, pageWords, pageStart, pageAt}
+use Rattle.store.specs.Head.{headOf, nodeStart, nodeWords, pageWords, pageStart, pageAt, nodeAt}
 use Rattle.store.proofs.HeadLaws.{Limits, sizes-limits, page-given}
-use Rattle.page.specs.Page.{count, lawfulItem}
+use Rattle.page.specs.Page.{count, lawfulItem, Filled}
 use Rattle.page.specs.Schema.{keyOf}
 use Rattle.search.specs.declared.Step.{Step}
 use Rattle.search.specs.declared.Descent.{Descent}
-use Rattle.represent.specs.Image.{nodeAt, pageImage}
+use Rattle.represent.specs.Image.{pageImage}
 use Rattle.represent.specs.Rep.{Sized}
-use Rattle.represent.proofs.PageImage.{page-count}
-use Rattle.represent.proofs.Places.{node-fits, page-end}
+use Rattle.represent.proofs.PageImage.{page-count, page-filled}
+use Rattle.store.proofs.Places.{node-fits, page-end}
 use Rattle.split.specs.Frame.{nodeOf, putNode, putPage, putPagesTaken}
 use Rattle.split.specs.Round.{Place, aimAt}
 use Rattle.split.specs.Insertion.{SameSizes, wordStore, putItems, nextPage, takePage}
@@ -121,10 +121,11 @@ module _ (f : Format) (s : List ℕ) (h : Head) (it : Item) (d : Descent) (carri
       lent-is : lent ≡ pageImage f C items
       lent-is = page-given f s h (d .page) a w start words put-inside ∙ image
 
-      pub put-asks : (length lent ≡ pageWords f C) × (count lent < C)
+      pub put-asks : (length lent ≡ pageWords f C) × (count lent < C) × Filled f lent
       put-asks = (
         part-long f s h (d .page) a w start words put-inside,
         omega (arith, page-count f C lent items lent-is, small),
+        page-filled f C lent items lent-is (y .lawful) (y .sorted),
       )
 
       pub put-done : (ys : List ℕ)

@@ -12,7 +12,7 @@ use lib.ListN.{length, getD, set}
 use lib.Seq.{set-getD}
 use Rattle.lists.specs.Lists.{replaced}
 use Rattle.store.proofs.HeadLaws.{sizes-limits}
-use Rattle.represent.proofs.Places.{node-fits}
+use Rattle.store.proofs.Places.{node-fits}
 use Rattle.store.specs.declared.Format.{Format}
 use Rattle.store.specs.declared.Head.{Head}
 use Rattle.store.specs.Head.{word, headOf, nodeWords, nodeStart}

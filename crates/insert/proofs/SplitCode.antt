@@ -12,13 +12,12 @@ use lib.ListN.{length}
 use Rattle.lists.specs.Lists.{replaced}
 use Rattle.store.specs.declared.Format.{Format}
 use Rattle.store.specs.declared.Head.{Head}
-use Rattle.store.specs.Head.{headOf, nodeWords, nodeStart}
+use Rattle.store.specs.Head.{headOf, nodeWords, nodeStart, nodeAt}
 use Rattle.store.specs.Format.{width}
 use Rattle.store.proofs.HeadLaws.{Limits, sizes-limits}
 use Rattle.node.specs.Node.{depthWord}
-use Rattle.represent.specs.Image.{nodeAt}
 use Rattle.represent.specs.Rep.{Sized}
-use Rattle.represent.proofs.Places.{node-fits}
+use Rattle.store.proofs.Places.{node-fits}
 use Rattle.search.specs.declared.Step.{Step}
 use Rattle.split.specs.Value.{Holder, localAt, Reached}
 use Rattle.split.proofs.GrowLaws.{here-low}

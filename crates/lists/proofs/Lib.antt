@@ -8,3 +8,4 @@ pub mod Tests
 pub mod Shifts
 pub mod AppendLaws
 pub mod Elsewhere
+pub mod Gather

@@ -28,19 +28,3 @@ pub run-lt : (H m i j : ℕ) → m ≤ H → i < 2 ^ H → j < 2 ^ m → i - i %
 run-lt H m i j p q h =
     let q′ : i < 2 ^ (H - m + m) = rw (sub-add-cancel p) q in
     omega (arith, pow-join p, split i m, digits-lt (shr-lt (H - m) m q′) h)
-
--- an aligned run of 2^m from i on
-module _ (m i : ℕ) (h : i % 2 ^ m ≡ 0) where
-  -- the run around each of its indices starts at i
-  pub run-start : (j : ℕ) → j < 2 ^ m → i + j - (i + j) % 2 ^ m ≡ i
-  run-start j q =
-      let e : i + j ≡ i / 2 ^ m * 2 ^ m + j = omega (arith, split i m) in
-      omega (arith, ap (λ n. n % 2 ^ m) e ∙ low (i / 2 ^ m) m q)
-
-  -- the next run is aligned
-  pub run-next : (i + 2 ^ m) % 2 ^ m ≡ 0
-  run-next = add-mod-right i (2 ^ m) ∙ h
-
-  -- it ends within 2^H
-  pub run-end : (H : ℕ) → m ≤ H → i < 2 ^ H → i + 2 ^ m ≤ 2 ^ H
-  run-end H p q = omega (arith, pow-pos m, run-lt H m i (2 ^ m - 1) p q (ones-lt m))

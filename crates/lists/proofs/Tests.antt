@@ -43,9 +43,10 @@ pub every-none : (t : ℕ → Bool) → every 0 t ≡ true
 unfolding every
 every-none t = refl
 
-pub every-more : (n : ℕ) (t : ℕ → Bool) → every n t ≡ true → t n ≡ true → every (n + 1) t ≡ true
+-- one test more, passed or not
+pub every-and : (n : ℕ) (t : ℕ → Bool) → every (n + 1) t ≡ (every n t && t n)
 unfolding every
-every-more n t p q = ap (λ (k : ℕ). every k t) (add-one n) ∙ rw (p, q)
+every-and n t = ap (λ (k : ℕ). every k t) (add-one n)
 
 pub every-at : (n : ℕ) (t : ℕ → Bool) → every n t ≡ true → (k : ℕ) → k < n → t k ≡ true
 unfolding every
@@ -61,9 +62,6 @@ pub every-of : (n : ℕ) (t : ℕ → Bool) → ((k : ℕ) → k < n → t k ≡
 unfolding every
 every-of zero t h = refl
 every-of (suc n) t h = rw (every-of n t (λ k q. h k (omega arith)), h n (omega arith))
-
-pub every-not : (n : ℕ) (t : ℕ → Bool) (k : ℕ) → k < n → t k ≡ false → every n t ≡ false
-every-not n t k h q = same-test (every n t) false (λ e. sym q ∙ every-at n t e k h) (λ e. absurd (false≢true e))
 
 pub every-ext : (n : ℕ) (t u : ℕ → Bool) → ((k : ℕ) → k < n → t k ≡ u k) → every n t ≡ every n u
 every-ext n t u h =
@@ -98,26 +96,6 @@ greatest-at (suc n) f k h =
       | yes l ↦ omega (arith, greatest-at n f k l)
       | no l ↦ let i : k ≡ n = omega arith in rw i (omega arith)
     ]
-
--- what holds below i and of the n numbers from i on
-pub range-more : (P : ℕ → Type 0) (i n : ℕ) → ((k : ℕ) → k < i → P k) → ((j : ℕ) → j < n → P (i + j)) → (k : ℕ) → k < i + n → P k
-range-more P i n f g k h =
-    elim (decLt k i) [
-      | yes l ↦ f k l
-      | no l ↦ let e : i + (k - i) ≡ k = omega arith in subst P e (g (k - i) (omega arith))
-    ]
-
--- n further numbers, all as f i
-pub greatest-run : (i n : ℕ) (f : ℕ → ℕ) → 0 < n → ((j : ℕ) → j < n → f (i + j) ≡ f i) → greatest (i + n) f ≡ max (greatest i f) (f i)
-greatest-run i n f p h =
-    let m : ℕ = max (greatest i f) (f i) in
-    let up = range-more (λ k. f k ≤ m) i n (λ k q. omega (arith, greatest-at i f k q)) (λ j q. omega (arith, h j q)) in
-    omega (
-      arith,
-      greatest-le (i + n) f m up,
-      greatest-le i f (greatest (i + n) f) (λ k q. greatest-at (i + n) f k (omega arith)),
-      greatest-at (i + n) f i (omega arith),
-    )
 
 -- the first number apart
 pub greatest-first : (n : ℕ) (f : ℕ → ℕ) → greatest (suc n) f ≡ max (f 0) (greatest n (λ i. f (suc i)))

@@ -1,97 +1,23 @@
--- The node rule, test by test: one run of a walk, and what a row of tests comes to.
-use mathlib.Core.Path.{_≡_, sym, _∙_}
-use mathlib.Core.Bool.{Bool, true, false, _&&_}
+-- The node rule, test by test: what a row of tests comes to.
+use mathlib.Core.Path.{_≡_, refl, sym, ap, _∙_}
+use mathlib.Core.Bool.{Bool, true, _&&_}
 use mathlib.Core.List.{List}
-use mathlib.Core.Logic.{inl, inr}
-use Prim.Native.Nat.{ℕ, _+_, _-_, _*_, _/_, _%_, _^_, _≤_, _<_, max}
+use Prim.Native.Nat.{ℕ, _+_, _-_, _*_, _/_, _%_, _^_, _≤_, _<_}
 use native.Mathlib.Nat.{mod-one}
 use native.Mathlib.Omega.{arith}
 use lib.Dec.{leb, eqb}
 use lib.Bits.{bitAnd}
-use borrow.Author.Tests.{leb-true, leb-false, eqb-true, eqb-false, eq-eqb, ne-eqb, le-leb}
-use Rattle.lists.proofs.Cases.{bool-cases}
-use Rattle.lists.proofs.Tests.{and-true, every-none, every-more, every-not}
+use lib.ListN.{length, take, drop}
+use lib.Pow.{pow-pos, pow-mono}
+use borrow.Author.Tests.{leb-true, eqb-true, eqb-false, eq-eqb, ne-eqb, le-leb}
+use Rattle.lists.proofs.Cases.{by-cases}
+use Rattle.lists.proofs.Tests.{and-true}
 use Rattle.lists.proofs.Shifts.{low-bits, mod-below}
-use Rattle.tree.specs.Node.{Entry}
 use Rattle.store.specs.declared.Head.{Head}
-use Rattle.store.specs.Head.{zeros}
-use Rattle.node.specs.Node.{depthWord, levelWord, backWord, forwardWord, entryOf, sameEntry, sameRun, goodRuns, runTest}
+use Rattle.store.specs.Head.{zeros, nodeWords}
+use Rattle.store.proofs.Places.{zeros-lent}
+use Rattle.node.specs.Node.{depthWord, levelWord, backWord, forwardWord, entryOf, goodRuns}
 use Rattle.node.specs.Node.{linkRule, pointerLow, pointerHigh, nodeRule, entryNumber}
-use Rattle.node.proofs.RunWalk.{Passed, passed-more, deep-fails, align-fails, low-fails, high-fails, run-fails}
-
--- a run of equal entries, one more at a time
-pub run-none : (e : ℕ → Entry ℕ) (i : ℕ) → sameRun e i 0 ≡ true
-unfolding sameRun
-run-none e i = every-none _
-
-pub run-more : (e : ℕ → Entry ℕ) (i j : ℕ) → sameRun e i j ≡ true → e (i + j) .0 ≡ e i .0 → e (i + j) .1 ≡ e i .1
-    → sameRun e i (j + 1) ≡ true
-unfolding sameRun
-run-more e i j s p q = every-more j (λ k. sameEntry (e (i + k)) (e i)) s (rw (eq-eqb _ _ p, eq-eqb _ _ q))
-
-pub run-other-depth : (e : ℕ → Entry ℕ) (i j n : ℕ) → j < n → (e (i + j) .0 ≡ e i .0 → ⊥) → sameRun e i n ≡ false
-unfolding sameRun
-run-other-depth e i j n h p = every-not n (λ k. sameEntry (e (i + k)) (e i)) j h (rw (ne-eqb _ _ p))
-
-pub run-other-pointer : (e : ℕ → Entry ℕ) (i j n : ℕ) → j < n → e (i + j) .0 ≡ e i .0 → (e (i + j) .1 ≡ e i .1 → ⊥)
-    → sameRun e i n ≡ false
-unfolding sameRun
-run-other-pointer e i j n h p q = every-not n (λ k. sameEntry (e (i + k)) (e i)) j h (rw (eq-eqb _ _ p, ne-eqb _ _ q))
-
-pub run-test-is : (H low high : ℕ) (e : ℕ → Entry ℕ) (i : ℕ) (a b c d g : Bool) → a ≡ leb (e i .0) H → b ≡ eqb (i % 2 ^ (H - e i .0)) 0
-    → c ≡ leb low (e i .1) → d ≡ leb (e i .1) high → g ≡ sameRun e i (2 ^ (H - e i .0))
-    → (a && b && c && d && g) ≡ runTest H low high e i
-unfolding runTest
-run-test-is H low high e i a b c d g p q r s t = rw (p, q, r, s, t)
-
--- a run that passes, as facts
-pub record RunFacts (H low high : ℕ) (e : ℕ → Entry ℕ) (i : ℕ) : Type 0 where
-  pub depth : e i .0 ≤ H
-  pub aligned : i % 2 ^ (H - e i .0) ≡ 0
-  pub above : low ≤ e i .1
-  pub below : e i .1 ≤ high
-  pub same : sameRun e i (2 ^ (H - e i .0)) ≡ true
-
-pub run-facts : (H low high : ℕ) (e : ℕ → Entry ℕ) (i : ℕ) → runTest H low high e i ≡ true → RunFacts H low high e i
-unfolding runTest
-run-facts H low high e i t =
-    let a = and-true _ _ t in
-    let b = and-true _ _ (a .0) in
-    let c = and-true _ _ (b .0) in
-    let d = and-true _ _ (c .0) in
-    record {
-      depth = leb-true _ _ (d .0);
-      aligned = eqb-true _ _ (d .1);
-      above = leb-true _ _ (c .1);
-      below = leb-true _ _ (b .1);
-      same = a .1;
-    }
-
-module _ (H low high : ℕ) (e : ℕ → Entry ℕ) (i m : ℕ) (w : Passed H low high e i m) (h : i < 2 ^ H) where
-  pub run-passes : runTest H low high e i ≡ true → (e i .0 ≤ H) × Passed H low high e (i + 2 ^ (H - e i .0)) (max m (e i .0))
-  run-passes t =
-      let r = run-facts H low high e i t in
-      (r .depth, passed-more H low high e i m w h (r .depth) (r .aligned) (r .above) (r .below) (r .same))
-
-  pub run-refused : runTest H low high e i ≡ false → goodRuns H low high e ≡ false
-  unfolding runTest
-  run-refused t =
-      elim (bool-cases (leb (e i .0) H)) [
-        | inr a ↦ deep-fails H low high e i h (leb-false _ _ a)
-        | inl a ↦
-            elim (bool-cases (eqb (i % 2 ^ (H - e i .0)) 0)) [
-              | inr b ↦ align-fails H low high e i m w h (leb-true _ _ a) (eqb-false _ _ b)
-              | inl b ↦
-                  elim (bool-cases (leb low (e i .1))) [
-                    | inr c ↦ low-fails H low high e i h (leb-false _ _ c)
-                    | inl c ↦
-                        elim (bool-cases (leb (e i .1) high)) [
-                          | inr d ↦ high-fails H low high e i h (leb-false _ _ d)
-                          | inl d ↦ run-fails H low high e i h (leb-true _ _ a) (eqb-true _ _ b) (rw (a, b, c, d) at t)
-                        ]
-                  ]
-            ]
-      ]
 
 -- links and pointers by the level
 pub link-1 : (h : Head) (level back forward : ℕ) (a b : Bool) → level ≡ 1 → a ≡ leb back (h .nodesTaken)
@@ -119,6 +45,42 @@ high-1 h level e = rw (eq-eqb level 1 e, pointerHigh)
 pub high-above : (h : Head) (level : ℕ) → (level ≡ 1 → ⊥) → h .nodesTaken ≡ pointerHigh h level
 unfolding pointerHigh
 high-above h level e = rw (ne-eqb level 1 e, pointerHigh)
+
+-- bounds of what the level says
+module _ (level : ℕ) where
+  by-level : {A : Type 0} → (level ≡ 1 → A) → ((level ≡ 1 → ⊥) → A) → A
+  by-level f g = by-cases (eqb level 1) (λ t. f (eqb-true level 1 t)) (λ t. g (eqb-false level 1 t))
+
+  pub low-most : pointerLow level ≤ 1
+  low-most = by-level (λ e. omega (arith, low-1 level e)) (λ e. omega (arith, low-above level e))
+
+  module _ (h : Head) where
+    pub high-most : (m : ℕ) → h .nodesTaken ≤ m → h .pagesTaken ≤ m → pointerHigh h level ≤ m
+    high-most m p q = by-level (λ e. omega (arith, high-1 h level e)) (λ e. omega (arith, high-above h level e))
+
+    pub back-most : (back forward : ℕ) → linkRule h level back forward ≡ true → back ≤ h .nodesTaken
+    back-most back forward t =
+        by-level
+        (λ e. leb-true _ _ (and-true _ _ (link-1 h level back forward _ _ e refl refl ∙ t) .0))
+        (λ e. omega (arith, eqb-true back 0 (and-true _ _ (link-above h level back forward _ _ e refl refl ∙ t) .0)))
+
+-- the words of a block: entries, and what is lent from behind them
+module _ (θ : ℕ) where
+  pub block-words : {L : ℕ} → L ≡ nodeWords θ → 6 ≤ L
+  unfolding nodeWords
+  block-words e = omega (arith, pow-pos θ)
+
+  pub block-holds : {L d : ℕ} → L ≡ nodeWords θ → d ≤ θ → 4 + 2 * 2 ^ d ≤ L
+  unfolding nodeWords
+  block-holds e h = omega (arith, pow-mono h)
+
+  pub block-rest : (ws : List ℕ) {d n : ℕ} {r : Bool} → length ws ≡ nodeWords θ → d ≤ θ → n ≡ 2 ^ d
+      → r ≡ zeros (take (length ws - (4 + 2 * n)) (drop (4 + 2 * n) ws)) 0 (length (take (length ws - (4 + 2 * n)) (drop (4 + 2 * n) ws)))
+      → r ≡ zeros ws (4 + 2 * 2 ^ d) (2 * (2 ^ θ - 2 ^ d))
+  unfolding nodeWords
+  block-rest ws {d} e h p z =
+      let n : length ws - (4 + 2 * 2 ^ d) ≡ 2 * (2 ^ θ - 2 ^ d) = omega (arith, e) in
+      (rw p at z) ∙ zeros-lent ws (4 + 2 * 2 ^ d) (length ws) (block-holds e h) (omega arith) ∙ ap (zeros ws (4 + 2 * 2 ^ d)) n
 
 pub node-rule-is : (h : Head) (s : List ℕ) (at level d : ℕ) (a b c g z : Bool) → d ≡ depthWord s at
     → a ≡ leb d (h .theta) → b ≡ eqb (levelWord s at) level → c ≡ linkRule h level (backWord s at) (forwardWord s at)

@@ -1,29 +1,25 @@
--- A walk from run to run decides `goodRuns`. A run that begins aligned where the last one ended, and is constant, keeps the rule at each of
--- its entries; and where the rule holds no run begins unaligned, since the entry before it would be of the same run and that run has ended.
+-- The rule of runs as facts.
 -- Arrays and tries: an array keeps the rule and has the largest depth H if and only if it is the array of a trie of height H.
 --   RunAt H e k       == the rule of runs at entry k
 --   Points low high x == the pointer of the entry x is from low to high
---   Passed .. i m     == i is 0 or where a run ends, the entries before i keep both rules, and m is their largest local depth
 --   Good ..           == what goodRuns says, as facts
-use mathlib.Core.Path.{_≡_, refl, sym, ap, ap₂, _∙_}
-use mathlib.Core.Bool.{true, false, false≢true}
+use mathlib.Core.Path.{_≡_, refl, sym, ap, ap₂, _∙_, subst}
+use mathlib.Core.Bool.{true}
 use Prim.Native.Nat.{ℕ, zero, suc, _+_, _-_, _%_, _^_, _≤_, _<_, max}
-use native.Mathlib.Nat.{zero-add, sub-zero, sub-le, zero-mod, mod-le, mod-lt}
+use native.Mathlib.Nat.{zero-add, sub-le}
 use native.Mathlib.Omega.{arith}
 use lib.Dec.{eqb}
 use lib.ListN.{getD}
-use lib.Pow.{pow-pos, ones-lt}
 use lib.Seq.{ext-getD}
 use borrow.Author.Tests.{leb-true, le-leb, eqb-true, eq-eqb}
 use Rattle.lists.specs.Lists.{greatest, tab}
-use Rattle.lists.proofs.Powers.{run-lt, run-start, run-next, run-end}
-use Rattle.lists.proofs.Tests.{untrue, and-true, same-test, every-at, every-of, range-more}
-use Rattle.lists.proofs.Tests.{greatest-run, greatest-first, length-tab, getD-tab}
+use Rattle.lists.proofs.Powers.{run-lt}
+use Rattle.lists.proofs.Tests.{and-true, every-at, every-of, greatest-first, greatest-ext, length-tab, getD-tab}
 use Rattle.tree.specs.Trie.{Trie, height}
 use Rattle.tree.specs.Node.{Entry, flatten, largest, RunRule}
 use Rattle.tree.proofs.Flatten.{length-flatten}
 use Rattle.tree.proofs.NodePromises.{largest-is, obeys, is-trie}
-use Rattle.node.specs.Node.{sameEntry, sameRun, runRule, goodRuns}
+use Rattle.node.specs.Node.{sameEntry, runRule, goodRuns}
 
 -- tests as facts
 pub entry-true : (x y : Entry ℕ) → sameEntry x y ≡ true → x ≡ y
@@ -33,15 +29,6 @@ entry-true x y t =
 
 pub true-entry : (x y : Entry ℕ) → x ≡ y → sameEntry x y ≡ true
 true-entry x y p = rw (p, eq-eqb (y .0) (y .0) refl, eq-eqb (y .1) (y .1) refl)
-
-module _ (e : ℕ → Entry ℕ) (i n : ℕ) where
-  pub run-true : sameRun e i n ≡ true → (j : ℕ) → j < n → e (i + j) ≡ e i
-  unfolding sameRun
-  run-true t j h = entry-true (e (i + j)) (e i) (every-at n _ t j h)
-
-  pub true-run : ((j : ℕ) → j < n → e (i + j) ≡ e i) → sameRun e i n ≡ true
-  unfolding sameRun
-  true-run f = every-of n _ (λ j h. true-entry (e (i + j)) (e i) (f j h))
 
 abbrev pub Points : ℕ → ℕ → Entry ℕ → Type 0
 Points low high x = (low ≤ x .1) × (x .1 ≤ high)
@@ -130,72 +117,17 @@ module _ (H low high : ℕ) (e : ℕ → Entry ℕ) where
         deepest = sym (largest-tab (2 ^ H) e) ∙ ap largest (sym a) ∙ largest-is H t 0 fits ∙ zero-add (height t) ∙ h;
       })
 
-  -- the walk
-  pub record Passed (i m : ℕ) : Type 0 where
-    pub within : i ≤ 2 ^ H
-    pub rule : (k : ℕ) → k < i → RunAt H e k
-    pub pointers : (k : ℕ) → k < i → Points low high (e k)
-    pub deepest : greatest i (λ k. e k .0) ≡ m
-    pub start : (k : ℕ) → i ≡ suc k → i % 2 ^ (H - e k .0) ≡ 0
-
-  pub passed-none : Passed 0 0
-  unfolding greatest
-  passed-none =
-      record {
-        within = omega arith;
-        rule = λ k h. absurd (omega arith);
-        pointers = λ k h. absurd (omega arith);
-        deepest = refl;
-        start = λ k h. zero-mod _;
-      }
-
-  pub passed-more : (i m : ℕ) → Passed i m → i < 2 ^ H → e i .0 ≤ H → i % 2 ^ (H - e i .0) ≡ 0 → low ≤ e i .1 → e i .1 ≤ high
-      → sameRun e i (2 ^ (H - e i .0)) ≡ true → Passed (i + 2 ^ (H - e i .0)) (max m (e i .0))
-  passed-more i m p h deep aligned above below same =
-      let d : ℕ = H - e i .0 in
-      let run = run-true e i (2 ^ d) same in
-      record {
-        within = run-end d i aligned H (sub-le H (e i .0)) h;
-        rule = range-more (RunAt H e) i (2 ^ d) (p .rule) (λ j q. rw (run j q, run-start d i aligned j q) (deep, run));
-        pointers = range-more (λ k. Points low high (e k)) i (2 ^ d) (p .pointers) (λ j q. rw (run j q) (above, below));
-        deepest =
-            greatest-run i (2 ^ d) (λ k. e k .0) (pow-pos d) (λ j q. ap (λ x. x .0) (run j q)) ∙ ap (λ n. max n (e i .0)) (p .deepest);
-        start = λ k q.
-            let last : i + (2 ^ d - 1) ≡ k = omega (arith, pow-pos d) in
-            rw (rw last at (run (2 ^ d - 1) (ones-lt d))) (run-next d i aligned);
-      }
-
-  pub passed-all : (m : ℕ) → Passed (2 ^ H) m → goodRuns H low high e ≡ eqb m H
-  passed-all m p =
-      same-test (goodRuns H low high e) (eqb m H)
-      (λ t. eq-eqb m H (sym (p .deepest) ∙ good-facts t .deepest))
-      (λ t. facts-good (record { rule = p .rule; pointers = p .pointers; deepest = p .deepest ∙ eqb-true m H t }))
-
-  -- where the walk stops
-  fails : (Good → ⊥) → goodRuns H low high e ≡ false
-  fails f = sym (untrue (λ t. f (good-facts t)))
-
-  pub deep-fails : (i : ℕ) → i < 2 ^ H → H < e i .0 → goodRuns H low high e ≡ false
-  deep-fails i h q = fails (λ g. omega (arith, g .rule i h .0))
-
-  pub low-fails : (i : ℕ) → i < 2 ^ H → e i .1 < low → goodRuns H low high e ≡ false
-  low-fails i h q = fails (λ g. omega (arith, g .pointers i h .0))
-
-  pub high-fails : (i : ℕ) → i < 2 ^ H → high < e i .1 → goodRuns H low high e ≡ false
-  high-fails i h q = fails (λ g. omega (arith, g .pointers i h .1))
-
-  pub run-fails : (i : ℕ) → i < 2 ^ H → e i .0 ≤ H → i % 2 ^ (H - e i .0) ≡ 0 → sameRun e i (2 ^ (H - e i .0)) ≡ false
-      → goodRuns H low high e ≡ false
-  run-fails i h deep aligned f =
-      fails (λ g. false≢true (sym f ∙ true-run e i (2 ^ (H - e i .0)) (λ j q. rw (aligned, sub-zero) at (g .rule i h .1 j q))))
-
-  unaligned : (i m : ℕ) → Passed i m → RunAt H e i → (i % 2 ^ (H - e i .0) ≡ 0 → ⊥) → ⊥
-  unaligned zero m p r f = f (zero-mod _)
-  unaligned (suc k) m p r f =
-      let n : ℕ = 2 ^ (H - e (suc k) .0) in
-      let before : suc k - suc k % n + (suc k % n - 1) ≡ k = omega (arith, mod-le (suc k) n) in
-      let same : e k ≡ e (suc k) = rw before at (r .1 (suc k % n - 1) (omega (arith, mod-lt (suc k) (pow-pos (H - e (suc k) .0))))) in
-      f (rw same at (p .start k refl))
-
-  pub align-fails : (i m : ℕ) → Passed i m → i < 2 ^ H → e i .0 ≤ H → (i % 2 ^ (H - e i .0) ≡ 0 → ⊥) → goodRuns H low high e ≡ false
-  align-fails i m p h deep f = fails (λ g. unaligned i m p (g .rule i h) f)
+-- only the entries below 2^H count
+pub good-ext : (H low high : ℕ) (e f : ℕ → Entry ℕ) → ((k : ℕ) → k < 2 ^ H → e k ≡ f k) → goodRuns H low high e ≡ true
+    → goodRuns H low high f ≡ true
+good-ext H low high e f same t =
+    let g = good-facts H low high e t in
+    facts-good H low high f
+    (record {
+      rule = λ k h.
+          let r = g .rule k h in
+          subst (λ (x : Entry ℕ). (x .0 ≤ H) × ((j : ℕ) → j < 2 ^ (H - x .0) → f (k - k % 2 ^ (H - x .0) + j) ≡ x)) (same k h)
+          (r .0, λ j q. sym (same _ (run-lt H (H - e k .0) k j (sub-le H (e k .0)) h q)) ∙ r .1 j q);
+      pointers = λ k h. subst (Points low high) (same k h) (g .pointers k h);
+      deepest = sym (greatest-ext (2 ^ H) (λ k. e k .0) (λ k. f k .0) (λ k h. ap (λ x. x .0) (same k h))) ∙ g .deepest;
+    })

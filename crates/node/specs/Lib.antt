@@ -1,2 +1,3 @@
 pub mod Node
+pub mod Faults
 pub mod Promises

@@ -5,11 +5,10 @@
 --   entryOf s b i      == both
 --   runRule H e        == the entries e fall into aligned runs, each as long as its local depth says
 --   goodRuns H low high e == that, the largest local depth is H, and the pointers are from low to high
---   runTest H low high e i == one run of such an array, at its start i
 --   linkRule, pointerLow, pointerHigh == what the level says of links and pointers
 --   nodeRule h s b level == a visited node at this level
 --   entryNumber W k used H == the entry that a key takes, after the used bits
---   sameEntry x y, sameRun e i n == two entries are equal; entries i .. i + n − 1 are as entry i
+--   sameEntry x y      == two entries are equal
 use mathlib.Core.Bool.{Bool, true, false, _&&_}
 use mathlib.Core.List.{List}
 use Prim.Native.Nat.{ℕ, _+_, _-_, _*_, _/_, _%_, _^_}
@@ -43,10 +42,6 @@ entryOf s b i = (entryDepth s b i, entryPointer s b i)
 abbrev pub sameEntry : Entry ℕ → Entry ℕ → Bool
 sameEntry x y = eqb (x .0) (y .0) && eqb (x .1) (y .1)
 
--- entries i .. i + n − 1 are all as entry i
-unfoldable pub sameRun : (ℕ → Entry ℕ) → ℕ → ℕ → Bool
-sameRun e i n = every n (λ j. sameEntry (e (i + j)) (e i))
-
 -- "A local depth h covers an aligned run of 2^(H−h) equal entries"
 unfoldable pub runRule : ℕ → (ℕ → Entry ℕ) → Bool
 runRule H e =
@@ -56,11 +51,6 @@ runRule H e =
 unfoldable pub goodRuns : ℕ → ℕ → ℕ → (ℕ → Entry ℕ) → Bool
 goodRuns H low high e =
     runRule H e && eqb (greatest (2 ^ H) (λ i. e i .0)) H && every (2 ^ H) (λ i. leb low (e i .1) && leb (e i .1) high)
-
--- one run, as a walk from run to run tests it: at its start i
-unfoldable pub runTest : ℕ → ℕ → ℕ → (ℕ → Entry ℕ) → ℕ → Bool
-runTest H low high e i =
-    leb (e i .0) H && eqb (i % 2 ^ (H - e i .0)) 0 && leb low (e i .1) && leb (e i .1) high && sameRun e i (2 ^ (H - e i .0))
 
 -- "Level-1 nodes are linked both ways in key order; others have links 0."
 unfoldable pub linkRule : Head → ℕ → ℕ → ℕ → Bool

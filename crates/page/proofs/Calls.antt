@@ -35,6 +35,7 @@ use Rattle.store.proofs.Format.Laws as F′
 use Rattle.page.specs.Page.{itemAt}
 use Rattle.page.specs.declared.Reader.{Reader}
 use Rattle.page.specs.declared.Read.{Read}
+use Rattle.page.proofs.Inside.{Lies}
 use Rattle.page.proofs.Walks.{B, Q, formatVal, sliceOf, Own, Tok, hears}
 use Rattle.page.proofs.open as op
 use Rattle.page.proofs.advance as adv
@@ -95,7 +96,7 @@ module _ {M : Type 1} (𝓤 : URA M) (H : Heap 𝓤) (A : Atoms 𝓤) (W : Given
 
   module _ (κ : Lft) (q : Share) (r : Reader) (f : Format) where
     pub goes-advance :
-        (u : Val) → r .at < 2 ^ 32 → Is F.the-row f (formatVal f ∷ []) →
+        (u : Val) → Lies f (now (r .page)) (r .at) → Is F.the-row f (formatVal f ∷ []) →
         ent 𝓤 (⋆ 𝓤 H A (‵ (B κ .own r (u ∷ [])) ∷ Tok κ q ∷ [])) (Advance 𝓤 H A mem run .pre (to-advance 𝓤 H A mem run κ q r f u))
     goes-advance u within f-is =
         qed W (‵ (B κ .own r (u ∷ [])) ∷ Tok κ q ∷ []) ∵ says ! within $

@@ -40,7 +40,3 @@ unfolding flat
 flat-append f [] ys = refl
 flat-append f (x ∷ xs) ys =
     ap (λ (l : List ℕ). itemWords f x ++ l) (flat-append f xs ys) ∙ sym (append-assoc (itemWords f x) (flat f xs) (flat f ys))
-
-pub flat-last : (f : Format) (its : List Item) (it : Item) → flat f (its ++ (it ∷ [])) ≡ flat f its ++ itemWords f it
-unfolding flat
-flat-last f its it = flat-append f its (it ∷ []) ∙ ap (λ (l : List ℕ). flat f its ++ l) (append-nil (itemWords f it))

@@ -2,17 +2,18 @@
 --   Ordered f pg n          == what `ordered` tests
 --   Kept f C pg             == what `pageRule` tests
 --   First f pg strict k r   == r is the number of the first record with a key above k, or the count
-use mathlib.Core.Path.{_≡_, sym, _∙_}
+use mathlib.Core.Path.{_≡_, sym, ap, _∙_}
 use mathlib.Core.Bool.{Bool, true, false, _&&_, false≢true}
 use mathlib.Core.List.{List}
 use Prim.Native.Nat.{ℕ, zero, suc, _+_, _-_, _*_, _/_, _^_, _≤_, _<_}
 use native.Mathlib.Decide.{decLt}
+use native.Mathlib.Nat.{le-trans, le-div-iff-mul-le, div-mul-le-self}
 use native.Mathlib.Omega.{arith}
 use lib.Dec.{ltb, leb}
 use borrow.Author.Tests.{ltb-true, leb-true, eqb-true, lt-ltb, le-leb, eq-eqb}
 use Rattle.lists.specs.Lists.{every}
 use Rattle.lists.proofs.Cases.{by-cases}
-use Rattle.lists.proofs.Tests.{and-true, same-test, every-at, every-of, rising, rising-test}
+use Rattle.lists.proofs.Tests.{and-true, same-test, untrue, every-at, every-of, rising, rising-test}
 use Rattle.plot.proofs.Promises.{lawful-record}
 use Rattle.store.specs.declared.Format.{Format}
 use Rattle.store.specs.declared.Format.the-variants.{Plots}
@@ -20,6 +21,27 @@ use Rattle.store.specs.declared.Item.{Item}
 use Rattle.store.specs.Format.{width, words}
 use Rattle.store.specs.Head.{word, zeros}
 use Rattle.page.specs.Page.{count, itemAt, keyAt, plotOf, lawfulItem, ordered, pageRule, agrees, above, firstFrom, firstAbove}
+
+-- a function that rises over any steps keeps ≤
+pub rising-le : (n : ℕ) (g : ℕ → ℕ) → ((i j : ℕ) → i < j → j < n → g i < g j) → (i j : ℕ) → i ≤ j → j < n → g i ≤ g j
+rising-le n g r i j h l =
+    elim (decLt i j) [
+      | yes q ↦ omega (arith, r i j q l)
+      | no q ↦ let d : i ≡ j = omega arith in omega (arith, ap g d)
+    ]
+
+pub quotient-le : (k x y : ℕ) → 0 < k → x ≤ y → x / k ≤ y / k
+quotient-le k x y p h = le-div-iff-mul-le p .1 (le-trans (div-mul-le-self x k) h)
+
+-- where the first and the last value of such a function have the quotient q, so have all
+pub ends-agree :
+    (n : ℕ) (g : ℕ → ℕ) → ((i j : ℕ) → i < j → j < n → g i < g j) → (k q : ℕ) → 0 < k → g 0 / k ≡ q → g (n - 1) / k ≡ q → (i : ℕ) →
+    i < n →
+    g i / k ≡ q
+ends-agree n g r k q p first last i l =
+    let a = quotient-le k (g 0) (g i) p (rising-le n g r 0 i (omega arith) l) in
+    let b = quotient-le k (g i) (g (n - 1)) p (rising-le n g r i (n - 1) (omega arith) (omega arith)) in
+    omega (arith, a, b, first, last)
 
 pub lawful-key : (f : Format) (it : Item) → lawfulItem f it ≡ true → (1 ≤ it .key) × (it .key < 2 ^ width f)
 unfolding lawfulItem width
@@ -30,9 +52,8 @@ pub record Ordered (f : Format) (pg : List ℕ) (n : ℕ) : Type 0 where
   pub ascends : (i j : ℕ) → i < j → j < n → keyAt f pg i < keyAt f pg j
 
 module _ (f : Format) (pg : List ℕ) (n : ℕ) where
-  pub first-least : Ordered f pg n → (i : ℕ) → i < n → keyAt f pg 0 ≤ keyAt f pg i
-  first-least h zero q = omega arith
-  first-least h (suc i) q = omega (arith, h .ascends 0 (suc i) (omega arith) q)
+  pub rises : Ordered f pg n → (i j : ℕ) → i ≤ j → j < n → keyAt f pg i ≤ keyAt f pg j
+  rises h i j = rising-le n (keyAt f pg) (h .ascends) i j
 
   pub ordered-facts : ordered f pg n ≡ true → Ordered f pg n
   unfolding ordered
@@ -95,6 +116,10 @@ unfolding above
 above-on true k x y e h = lt-ltb k y (omega (arith, ltb-true k x e))
 above-on false k x y e h = le-leb k y (omega (arith, leb-true k x e))
 
+-- a key at or before one that is not above is not above either
+pub below-on : (strict : Bool) (k x y : ℕ) → above strict k y ≡ false → x ≤ y → above strict k x ≡ false
+below-on strict k x y e h = sym (untrue (λ a. false≢true (sym e ∙ above-on strict k x y a h)))
+
 -- if the first key of a page is above, so are all
 pub all-above :
     (f : Format) (C : ℕ) (pg : List ℕ) (strict : Bool) (k : ℕ) →
@@ -104,7 +129,7 @@ all-above f C pg strict k e =
     let h = rule-facts f C pg e in
     same-test (every (count pg) (λ i. above strict k (keyAt f pg i))) (above strict k (keyAt f pg 0))
     (λ a. every-at (count pg) _ a 0 (h .some))
-    (λ a. every-of (count pg) _ (λ i q. above-on strict k _ _ a (first-least f pg (count pg) (h .order) i q)))
+    (λ a. every-of (count pg) _ (λ i q. above-on strict k _ _ a (rises f pg (count pg) (h .order) 0 i (omega arith) q)))
 
 pub record First (f : Format) (pg : List ℕ) (strict : Bool) (k r : ℕ) : Type 0 where
   pub within : r ≤ count pg

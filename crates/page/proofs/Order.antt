@@ -2,7 +2,7 @@
 --   Before f pg i b    == b is the key before record i, 0 for none
 --   Reached f pg n p i == p is the check of n records after the first i
 use mathlib.Core.Path.{_≡_, refl, sym, ap, _∙_}
-use mathlib.Core.Bool.{true, false, _&&_, false≢true}
+use mathlib.Core.Bool.{Bool, true, false, _&&_, false≢true}
 use mathlib.Core.List.{List}
 use Prim.Native.Nat.{ℕ, zero, suc, _+_, _≤_, _<_}
 use native.Mathlib.Decide.{decLt}
@@ -27,17 +27,17 @@ pub record Reached (f : Format) (pg : List ℕ) (n : ℕ) (p : Progress) (i : �
   pub good : p .good ≡ ordered f pg i
   pub before : Before f pg i (p .key)
 
-pub goes-on : (p : Progress) → goesOn p ≡ true → (p .good ≡ true) × (0 < p .left)
+pub goes-on : (p : Progress) → goesOn p ≡ true → 0 < p .left
 unfolding goesOn
-goes-on p e = let a = and-true (p .good) (ltb 0 (p .left)) e in (a .0, ltb-true 0 (p .left) (a .1))
+goes-on p e = ltb-true 0 (p .left) e
 
-all-checked : (p : Progress) → goesOn p ≡ false → p .good ≡ true → p .left ≡ 0
+all-checked : (p : Progress) → goesOn p ≡ false → p .left ≡ 0
 unfolding goesOn
-all-checked p e g = let a : ltb 0 (p .left) ≡ false = rw g at e in omega (arith, ltb-false 0 (p .left) a)
+all-checked p e = omega (arith, ltb-false 0 (p .left) e)
 
 pub less-left : (f : Format) (p : Progress) → goesOn p ≡ true → (it : Item) {p′ : Progress} → p′ ≡ checkedOf f p it → p′ .left < p .left
 unfolding checkedOf
-less-left f p e it c = omega (arith, goes-on p e .1, ap (λ (x : Progress). x .left) c)
+less-left f p e it c = omega (arith, goes-on p e, ap (λ (x : Progress). x .left) c)
 
 module _ (f : Format) (pg : List ℕ) where
   highest : (i b : ℕ) → Ordered f pg i → Before f pg i b → (j : ℕ) → j < i → keyAt f pg j ≤ b
@@ -82,6 +82,15 @@ module _ (f : Format) (pg : List ℕ) where
       let h = ordered-facts f pg (i + 1) e in
       rw (h .lawful i (omega arith), lt-ltb b (keyAt f pg i) (last-above i b h p)))
 
+  -- or nothing does
+  turned : (i b : ℕ) {g : Bool} → g ≡ ordered f pg i → Before f pg i b → (g && inTurn f b (itemAt f pg i)) ≡ ordered f pg (i + 1)
+  turned i b {g} e p =
+      by-cases g
+      (λ t. rw t (turn i b (sym e ∙ t) p))
+      (λ t.
+      rw t
+      (untrue (λ o. false≢true (sym t ∙ e ∙ facts-ordered f pg i (fewer i (i + 1) (omega arith) (ordered-facts f pg (i + 1) o))))))
+
   start : (n : ℕ) → Reached f pg n (begun n) 0
   start n =
       record {
@@ -95,15 +104,14 @@ module _ (f : Format) (pg : List ℕ) where
 
   module _ (n : ℕ) (p : Progress) (i : ℕ) (h : Reached f pg n p i) where
     pub within : goesOn p ≡ true → i < n
-    within e = omega (arith, h .counted, goes-on p e .1)
+    within e = omega (arith, h .counted, goes-on p e)
 
     step : goesOn p ≡ true → (it : Item) → it ≡ itemAt f pg i → Reached f pg n (checkedOf f p it) (i + 1)
     unfolding checkedOf
     step e it d =
-        let g = goes-on p e in
         record {
-          counted = omega (arith, h .counted, g .1);
-          good = ap (inTurn f (p .key)) d ∙ turn i (p .key) (sym (h .good) ∙ g .0) (h .before);
+          counted = omega (arith, h .counted, goes-on p e);
+          good = ap (λ x. p .good && inTurn f (p .key) x) d ∙ turned i (p .key) (h .good) (h .before);
           before = (
             λ z. absurd (omega arith),
             λ j z. let m : i ≡ j = omega arith in ap (λ (x : Item). x .key) d ∙ ap (keyAt f pg) m,
@@ -116,11 +124,4 @@ module _ (f : Format) (pg : List ℕ) where
     next e {it = it} d c z = rw (c, z) (step e it d)
 
     pub ends : goesOn p ≡ false → p .good ≡ ordered f pg n
-    ends e =
-        by-cases (p .good)
-        (λ g. let m : i ≡ n = omega (arith, h .counted, all-checked p e g) in h .good ∙ ap (ordered f pg) m)
-        (λ g.
-        g ∙
-        untrue (λ o.
-        let t : ordered f pg i ≡ true = facts-ordered f pg i (fewer i n (omega (arith, h .counted)) (ordered-facts f pg n o)) in
-        false≢true (sym g ∙ h .good ∙ t)))
+    ends e = let m : i ≡ n = omega (arith, h .counted, all-checked p e) in h .good ∙ ap (ordered f pg) m

@@ -8,18 +8,23 @@
 --   lawfulItem f it       == the record may be held
 --   inTurn f k it         == the record may be held, and its key is above the key k
 --   begun n               == a check of n records, before the first
---   goesOn p              == all records checked so far are lawful and ascend, and some are left
+--   goesOn p              == some records are left
 --   checkedOf f p it      == the check p after the next record, it
 --   ordered f pg n        == the first n records are lawful and their keys ascend
 --   pageRule f C pg       == a visited page, with the capacity C
+--   Lent f C pg           == pg is a page block, lent whole, or no word of one that the store has not
+--   Filled f pg           == the records that pg says it has lie within its words, lawful and ascending
 --   agrees f pg k used    == all keys agree with the key k in its first `used` bits
 --   above strict k x      == the key x is above k, or, if not strict, at or above it
 --   firstAbove f pg strict k == the number of the first record with such a key, or the count where there is none
 --   firstFrom f pg strict k n i == the first such record of n from number i on
+use mathlib.Core.Path.{_≡_}
 use mathlib.Core.Bool.{Bool, true, false, _&&_}
 use mathlib.Core.List.{List, [], _∷_, _++_}
-use Prim.Native.Nat.{ℕ, zero, suc, _+_, _-_, _*_, _/_, _%_, _^_}
+use mathlib.Core.Logic.{_⊎_}
+use Prim.Native.Nat.{ℕ, zero, suc, _+_, _-_, _*_, _/_, _%_, _^_, _≤_, _<_}
 use lib.Dec.{leb, ltb, eqb}
+use lib.ListN.{length}
 use Rattle.lists.specs.Lists.{every}
 use Rattle.plot.specs.declared.Record.{Record}
 use Rattle.tree.specs.Book.{plotSchema}
@@ -27,7 +32,7 @@ use Rattle.store.specs.declared.Format.{Format}
 use Rattle.store.specs.declared.Format.the-variants.{Plots}
 use Rattle.store.specs.declared.Item.{Item}
 use Rattle.store.specs.Format.{width, words}
-use Rattle.store.specs.Head.{word, zeros}
+use Rattle.store.specs.Head.{word, zeros, pageWords}
 use Rattle.page.specs.declared.Progress.{Progress}
 
 abbrev pub count : List ℕ → ℕ
@@ -67,10 +72,10 @@ abbrev pub begun : ℕ → Progress
 begun n = record { good = true; key = 0; left = n }
 
 unfoldable pub goesOn : Progress → Bool
-goesOn p = p .good && ltb 0 (p .left)
+goesOn p = ltb 0 (p .left)
 
 unfoldable pub checkedOf : Format → Progress → Item → Progress
-checkedOf f p it = record { good = inTurn f (p .key) it; key = it .key; left = p .left - 1 }
+checkedOf f p it = record { good = p .good && inTurn f (p .key) it; key = it .key; left = p .left - 1 }
 
 unfoldable pub ordered : Format → List ℕ → ℕ → Bool
 ordered f pg n = every n (λ i. lawfulItem f (itemAt f pg i)) && every (n - 1) (λ i. ltb (keyAt f pg i) (keyAt f pg (i + 1)))
@@ -79,6 +84,13 @@ ordered f pg n = every n (λ i. lawfulItem f (itemAt f pg i)) && every (n - 1) (
 unfoldable pub pageRule : Format → ℕ → List ℕ → Bool
 pageRule f C pg =
     leb 1 (count pg) && leb (count pg) C && ordered f pg (count pg) && zeros pg (1 + words f * count pg) (words f * (C - count pg))
+
+abbrev pub Lent : Format → ℕ → List ℕ → Type 0
+Lent f C pg = (length pg ≡ 0) ⊎ (length pg ≡ pageWords f C)
+
+pub record Filled (f : Format) (pg : List ℕ) : Type 0 where
+  pub inside : words f * count pg < length pg
+  pub order : ordered f pg (count pg) ≡ true
 
 -- "all keys agree with the sought key in the used bits"
 unfoldable pub agrees : Format → List ℕ → ℕ → ℕ → Bool

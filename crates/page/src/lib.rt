@@ -5,11 +5,11 @@ use store::Item;
 ghost use mathlib.Core.Path.{_≡_};
 ghost use mathlib.Core.Bool.{true};
 ghost use mathlib.Core.List.{_++_};
-ghost use Prim.Native.Nat.{_+_, _/_, _%_, _^_, _≤_, _<_};
+ghost use Prim.Native.Nat.{_+_, _*_, _/_, _%_, _^_, _≤_, _<_};
 ghost use lib.ListN.{length, getD, drop};
 ghost use Rattle.store.specs.Format.{width, words};
-ghost use Rattle.page.specs.Page.{itemAt, itemWords, lawfulItem, begun, goesOn, inTurn, checkedOf};
-ghost use Rattle.page.specs.Page.{ordered, pageRule, agrees, above, firstAbove};
+ghost use Rattle.page.specs.Page.{count, itemAt, itemWords, lawfulItem, begun, goesOn, inTurn, checkedOf};
+ghost use Rattle.page.specs.Page.{ordered, pageRule, agrees, above, firstAbove, Lent, Filled};
 
 // A reader stands at a record of a page.
 pub struct Reader<'a> {
@@ -32,15 +32,15 @@ pub fn count_of(page: &[u32]) -> usize
 
 // The work of a step: record number i of a page.
 fn item_at(page: &[u32], f: Format, i: usize) -> Item
-    requires { ⌜ i < 2 ^ 32 ⌝ }
+    requires { ⌜ (i < 2 ^ 32) × (words f * (i + 1) < length (now page)) ⌝ }
     ensures { λ r. ⌜ (r ≡ itemAt f (now (page .entry)) i) × (r .key < 2 ^ width f) ⌝ }
 {
     match f {
         Format::Plots => Item {
-            key: store::widen(store::word(page, 4 * i + 1)),
-            price: store::word(page, 4 * i + 2),
-            lease: store::word(page, 4 * i + 3),
-            last: store::word(page, 4 * i + 4),
+            key: store::widen(page[4 * i + 1]),
+            price: page[4 * i + 2],
+            lease: page[4 * i + 3],
+            last: page[4 * i + 4],
         },
     }
 }
@@ -62,7 +62,7 @@ fn after(at: usize) -> usize
 
 // One step: the record at the reader, and the reader at the next one.
 fn advance<'a>(r: Reader<'a>, f: Format) -> Read<'a>
-    requires { ⌜ r .at < 2 ^ 32 ⌝ }
+    requires { ⌜ (r .at < 2 ^ 32) × (words f * (r .at + 1) < length (now (r .page))) ⌝ }
     ensures { λ q. ⌜ (q .item ≡ itemAt f (now (r .entry .page)) (r .entry .at)) × (q .item .key < 2 ^ width f) ×
         (q .rest .page ≡ r .entry .page) × (q .rest .at ≡ r .entry .at + 1) ⌝ }
 {
@@ -79,7 +79,7 @@ fn advance<'a>(r: Reader<'a>, f: Format) -> Read<'a>
 
 // A reader opened at a record, and one step: what the loops below call.
 pub fn read_one(page: &[u32], f: Format, at: usize) -> Item
-    requires { ⌜ at < 2 ^ 32 ⌝ }
+    requires { ⌜ (at < 2 ^ 32) × (words f * (at + 1) < length (now page)) ⌝ }
     ensures { λ r. ⌜ r ≡ itemAt f (now (page .entry)) at ⌝ }
 {
     let q = advance(open(page, at), f);
@@ -141,13 +141,10 @@ fn begin(n: usize) -> Progress
     }
 }
 
-// Whether the check goes on.
+// Whether the check goes on: to the last record, so that no branch waits for a test.
 fn goes_on(p: Progress) -> bool
     ensures { λ r. ⌜ r ≡ goesOn p ⌝ }
 {
-    if !p.good {
-        return false;
-    }
     p.left > 0
 }
 
@@ -156,10 +153,7 @@ fn in_turn(f: Format, key: u64, item: Item) -> bool
     requires { ⌜ item .key < 2 ^ width f ⌝ }
     ensures { λ r. ⌜ r ≡ inTurn f key item ⌝ }
 {
-    if !lawful_item(f, item) {
-        return false;
-    }
-    key < item.key
+    lawful_item(f, item) & (key < item.key)
 }
 
 // The next record checked.
@@ -168,7 +162,7 @@ fn checked(p: Progress, f: Format, item: Item) -> Progress
     ensures { λ r. ⌜ r ≡ checkedOf f p item ⌝ }
 {
     Progress {
-        good: in_turn(f, p.key, item),
+        good: p.good & in_turn(f, p.key, item),
         key: item.key,
         left: p.left - 1,
     }
@@ -176,7 +170,7 @@ fn checked(p: Progress, f: Format, item: Item) -> Progress
 
 // Whether the first n records are lawful and their keys ascend: one reader goes through them.
 fn in_order(page: &[u32], f: Format, n: usize) -> bool
-    requires { ⌜ n < 2 ^ 32 ⌝ }
+    requires { ⌜ (n < 2 ^ 32) × (words f * n < length (now page)) ⌝ }
     ensures { λ r. ⌜ r ≡ ordered f (now (page .entry)) n ⌝ }
 {
     let mut p = begin(n);
@@ -191,7 +185,7 @@ fn in_order(page: &[u32], f: Format, n: usize) -> bool
 
 // Whether a page keeps the rule of a visited one.
 pub fn page_ok(page: &[u32], f: Format, capacity: u32) -> bool
-    requires { ⌜ capacity ≤ 64 ⌝ }
+    requires { ⌜ (capacity ≤ 64) × (Lent f capacity (now page)) ⌝ }
     ensures { λ r. ⌜ r ≡ pageRule f capacity (now (page .entry)) ⌝ }
 {
     let n = count_of(page);
@@ -205,12 +199,12 @@ pub fn page_ok(page: &[u32], f: Format, capacity: u32) -> bool
     if !in_order(page, f, n) {
         return false;
     }
-    let w = store::words_of(f);
-    store::all_zero(page, 1 + w * n, w * (c - n))
+    let end = 1 + store::words_of(f) * n;
+    store::is_zero(&page[end..])
 }
 
 // A key without its low bits.
-fn prefix(key: u64, low: u32) -> u64
+pub fn prefix(key: u64, low: u32) -> u64
     ensures { λ r. ⌜ r ≡ key / 2 ^ low ⌝ }
 {
     if low >= 64 {
@@ -219,23 +213,20 @@ fn prefix(key: u64, low: u32) -> u64
     key >> low
 }
 
-// Whether all keys of a page agree with a key in its first bits.
+// Whether all keys of a page agree with a key in its first bits: they ascend, so the first and the last speak for all.
 pub fn keys_agree(page: &[u32], f: Format, key: u64, used: u32) -> bool
-    requires { ⌜ used ≤ width f ⌝ }
+    requires { ⌜ (used ≤ width f) × (1 ≤ count (now page)) × (Filled f (now page)) ⌝ }
     ensures { λ r. ⌜ r ≡ agrees f (now (page .entry)) key used ⌝ }
 {
     let n = count_of(page);
     let low = store::width_of(f) - used;
     let sought = prefix(key, low);
-    let mut i: usize = 0;
-    while i < n {
-        let item = read_one(page, f, i);
-        if prefix(item.key, low) != sought {
-            return false;
-        }
-        i += 1;
+    let first = read_one(page, f, 0);
+    if prefix(first.key, low) != sought {
+        return false;
     }
-    true
+    let last = read_one(page, f, n - 1);
+    prefix(last.key, low) == sought
 }
 
 // Whether a key is above another, or, if not strict, at or above it.
@@ -248,18 +239,22 @@ pub fn is_above(strict: bool, key: u64, x: u64) -> bool
     key <= x
 }
 
-// The number of the first record whose key is above, or the count.
+// The number of the first record whose key is above, or the count. By halves: `left` records from `from` on are open.
 pub fn first_above(page: &[u32], f: Format, strict: bool, key: u64) -> usize
-    ensures { λ r. ⌜ (r ≡ firstAbove f (now (page .entry)) strict key) × (r < 2 ^ 32) ⌝ }
+    requires { ⌜ Filled f (now page) ⌝ }
+    ensures { λ r. ⌜ (r ≡ firstAbove f (now (page .entry)) strict key) × (r ≤ count (now (page .entry))) ⌝ }
 {
-    let n = count_of(page);
-    let mut i: usize = 0;
-    while i < n {
-        let item = read_one(page, f, i);
+    let mut from: usize = 0;
+    let mut left = count_of(page);
+    while left > 0 {
+        let half = left / 2;
+        let item = read_one(page, f, from + half);
         if is_above(strict, key, item.key) {
-            return i;
+            left = half;
+        } else {
+            from += half + 1;
+            left -= half + 1;
         }
-        i += 1;
     }
-    i
+    from
 }

@@ -41,38 +41,31 @@ pub fn lawful_day(day: u32) -> bool
     day <= 99999
 }
 
-// Whether lease days and a last day are within their limits.
+// Whether lease days and a last day are within their limits. Both cases are worked out, without a branch.
 fn lawful_term(lease: u32, last: u32) -> bool
     ensures { λ r. ⌜ r ≡ lawfulTerm lease last ⌝ }
 {
-    if lease == 0 {
-        return last == 0;
-    }
-    if lease > 36525 {
-        return false;
-    }
-    lawful_day(last)
+    let none = lease == 0;
+    let days = lease <= 36525;
+    (none & (last == 0)) | (!none & days & lawful_day(last))
 }
 
 // Whether a record may be held.
 pub fn lawful_record(record: Record) -> bool
     ensures { λ r. ⌜ r ≡ lawful «record» ⌝ }
 {
-    if record.key == 0 {
-        return false;
-    }
-    lawful_term(record.lease, record.last)
+    (record.key != 0) & lawful_term(record.lease, record.last)
 }
 
 // The days of a lease that are left today.
 fn days_left(lease: u32, last: u32, today: u32) -> u32
     ensures { λ r. ⌜ r ≡ daysLeft lease last today ⌝ }
 {
-    if today >= last {
-        return 0;
+    let mut left: u32 = 0;
+    if last > today {
+        left = last - today;
     }
-    let left = last - today;
-    if left >= lease {
+    if left > lease {
         return lease;
     }
     left

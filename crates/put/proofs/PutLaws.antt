@@ -155,10 +155,6 @@ pub put-words : (f : Format) (C : ℕ) (rs : List Item) (it : Item) (s t last : 
 put-words f C rs it s t last w n i is h l e d =
     rw (e, d) (put-here f rs i (omega arith) C it s t last is (omega arith))
 
--- the first record that is above is one of the page's, or stands behind them
-pub first-within : (f : Format) (pg : List ℕ) (strict : Bool) (k r n : ℕ) → r ≡ firstAbove f pg strict k → n ≡ count pg → r ≤ n
-first-within f pg strict k r n e c = omega (arith, first-facts f pg strict k .within)
-
 -- a number that is the first of a kind in an ascending list cuts the list
 module _ {R : Type 0} (key : R → ℕ) (z : R) where
   insert-at : (it : R) (rs : List R) (r : ℕ) → r ≤ length rs → ((j : ℕ) → j < r → key (getD rs j z) ≤ key it)

@@ -5,15 +5,15 @@ ghost use mathlib.Core.Path.{_≡_};
 ghost use mathlib.Core.Bool.{true, false};
 ghost use mathlib.Core.List.{List, [], _∷_};
 ghost use mathlib.Core.Logic.{_⊎_};
-ghost use Prim.Native.Nat.{ℕ, suc, _+_, _≤_, _<_};
+ghost use Prim.Native.Nat.{ℕ, suc, _+_, _*_, _≤_, _<_};
 ghost use lib.ListN.{length, take, drop};
 ghost use Rattle.lists.specs.Bits.{bit as bitOf};
 ghost use Rattle.lists.specs.Lists.{All, replaced, part};
 ghost use Rattle.lists.specs.Keyed.{Sorted, Prefix, insert};
 ghost use Rattle.tree.specs.Build.{side};
-ghost use Rattle.store.specs.Format.{width};
+ghost use Rattle.store.specs.Format.{width, words};
 ghost use Rattle.store.specs.Head.{pageWords};
-ghost use Rattle.page.specs.Page.{count, lawfulItem};
+ghost use Rattle.page.specs.Page.{count, lawfulItem, Filled};
 ghost use Rattle.page.specs.Schema.{keyOf};
 ghost use Rattle.represent.specs.Image.{pageImage};
 ghost use Rattle.put.specs.Put.{Halvable, cutTo};
@@ -32,7 +32,7 @@ fn move_up(part: &mut [u32], from: usize, n: usize, by: usize)
 
 // Puts a record in order into a page that has room. Only the records behind it are moved.
 pub fn put_record(part: &mut [u32], f: Format, capacity: u32, item: Item)
-    requires { ⌜ (length (now part) ≡ pageWords f capacity) × (count (now part) < capacity) ⌝ }
+    requires { ⌜ (length (now part) ≡ pageWords f capacity) × (count (now part) < capacity) × (Filled f (now part)) ⌝ }
     ensures { λ _. ⌜ ((rs : List Item) → now (part .entry) ≡ pageImage f capacity rs → All (λ it. lawfulItem f it ≡ true) rs
         → now (part .exit) ≡ pageImage f capacity (insert keyOf item rs)) ⌝ }
 {
@@ -65,7 +65,7 @@ pub fn bit_set(key: u64, bit: u32) -> bool
 
 // How many records of a page have a bit clear. Keys ascend, so these come first.
 pub fn low_count(page: &[u32], f: Format, bit: u32) -> usize
-    requires { ⌜ bit < width f ⌝ }
+    requires { ⌜ (bit < width f) × (words f * count (now page) < length (now page)) ⌝ }
     ensures { λ r. ⌜ (r ≤ count (now (page .entry)))
         × ((C q : ℕ) (rs : List Item) → now (page .entry) ≡ pageImage f C rs → All (λ it. lawfulItem f it ≡ true) rs → Sorted keyOf rs
         → Prefix keyOf (suc bit) q rs → (take r rs ≡ side keyOf false bit rs) × (drop r rs ≡ side keyOf true bit rs)) ⌝ }

@@ -1,8 +1,8 @@
 -- What next and range find behind a key's own page: the nodes of level 1 stand for the pages in key order, and from the run after the key's
 -- own, run by run and link by link, the first pointer that is not null is the first page behind the key's.
 --   Chained P ns ls == P holds of each of the numbers ns and a trie, and the labels of these tries, one after the other, are ls
---   visited f s strict k p == what the first page behind the key's gives, if it is p; 0 stands for none
---   ownStep f b0 b k       == the first step of the descent with k
+--   pageOrPast p     == the page p is reached; 0 stands for none
+--   ownStep f b0 b k == the first step of the descent with k
 use mathlib.Core.Path.{_≡_, refl, sym, ap, _∙_, subst}
 use mathlib.Core.Bool.{Bool, true, false}
 use mathlib.Core.List.{List, [], _∷_, _++_, append-assoc, append-nil}
@@ -19,17 +19,17 @@ use Rattle.tree.specs.Trie.{Trie, leaf, fork, Key, height, labels, leafAt, dept
 use Rattle.store.specs.declared.Format.{Format}
 use Rattle.store.specs.declared.Head.{Head}
 use Rattle.store.specs.Format.{width}
-use Rattle.store.specs.Head.{headOf, nodeStart}
+use Rattle.store.specs.Head.{headOf, nodeStart, nodeAt}
 use Rattle.node.specs.Node.{depthWord, nodeRule, entryNumber}
 use Rattle.store.proofs.HeadLaws.{sizes-limits}
 use Rattle.search.specs.declared.Step.{Step}
-use Rattle.search.specs.declared.Sought.{Sought}
-use Rattle.search.specs.declared.Sought.the-variants.{Nothing}
+use Rattle.search.specs.declared.Reached.{Reached}
+use Rattle.search.specs.declared.Reached.the-variants.{Page, Past}
 use Rattle.search.specs.Descent.{noStep, descent}
-use Rattle.search.specs.Next.{firstPointer, runAfter, visitAfter, linked, follow, afterOwn}
-use Rattle.search.proofs.NextLaws.{linked-is, onward-none, onward-goes, hop-ends, hop-onward, follow-ends, follow-on, own-is}
+use Rattle.search.specs.Next.{runAfter, linked, pointerFrom, reach, visited, behind, afterOwn}
+use Rattle.search.proofs.NextLaws.{onward-none, onward-goes, hop-ends, hop-onward, reach-ends, reach-on}
 use Rattle.represent.specs.Labelled.{occs, Over, under, before, after, first, Linked}
-use Rattle.represent.specs.Image.{nodeAt, NodeIs}
+use Rattle.represent.specs.Image.{NodeIs}
 use Rattle.represent.specs.Rep.{Stretch, numbers, Rep}
 use Rattle.represent.specs.Promises.{RulesAbove}
 use Rattle.represent.proofs.LabelLaws.{label-low, occ-at, labels-at, over-map, depth-under, each-after, each-of}
@@ -85,62 +85,56 @@ module _ {A : Type 0} (P : ℕ → Trie A → Type 0) where
       followed-more _ (after (under l ul k) (rest l k)) (after l k) r ur (h .1) (after-over l ul k (h .0))
   after-over (fork l r) (fork ul ur) (true ∷ k) h = after-over r ur k (h .1)
 
+abbrev pub pageOrPast : ℕ → Reached
+pageOrPast zero = Past
+pageOrPast (suc p) = Page (suc p)
+
+page-some : (p : ℕ) → 1 ≤ p → Page p ≡ pageOrPast p
+page-some zero q = absurd (omega arith)
+page-some (suc p) q = refl
+
 -- the nodes of level 1, in place
 module _ (s : List ℕ) where
-  abbrev ShownAt : ℕ → Trie ℕ → Type 0
-  ShownAt n v = Shown s (nodeStart (headOf s) n) (headOf s .theta) 1 v
-
-  abbrev Passes : ℕ → Type 0
-  Passes n = (1 ≤ n) × (nodeRule (headOf s) s (nodeStart (headOf s) n) 1 ≡ true)
-
-  -- the first pointer of node n, from entry i on, that is not null
-  abbrev pointerFrom : ℕ → ℕ → ℕ
-  pointerFrom n i = firstPointer s (nodeStart (headOf s) n) (depthWord s (nodeStart (headOf s) n)) 64 i
-
-  is-linked : (m n : ℕ) → Passes m → backAt s m ≡ n → linked (headOf s) s m n ≡ true
-  is-linked m n w e = sym (linked-is (headOf s) s m n (nodeStart (headOf s) m) true true refl (sym (w .1)) (sym (eq-eqb (backAt s m) n e)))
-
-module _ (f : Format) (s : List ℕ) (strict : Bool) (k : ℕ) where
   abbrev h : Head
   h = headOf s
 
-  abbrev pub visited : ℕ → Sought
-  visited zero = Nothing
-  visited (suc p) = visitAfter f s h strict k (suc p)
+  abbrev ShownAt : ℕ → Trie ℕ → Type 0
+  ShownAt n v = Shown s (nodeStart h n) (h .theta) 1 v
 
-  visited-some : (p : ℕ) → 1 ≤ p → visitAfter f s h strict k p ≡ visited p
-  visited-some zero q = absurd (omega arith)
-  visited-some (suc p) q = refl
+  abbrev Passes : ℕ → Type 0
+  Passes n = (1 ≤ n) × (nodeRule h s (nodeStart h n) 1 ≡ true)
+
+  is-linked : (m n : ℕ) → Passes m → backAt s m ≡ n → linked h s m n ≡ true
+  unfolding linked
+  is-linked m n w e = rw (w .1, eq-eqb (backAt s m) n e)
 
   -- one hop, from entry i of node n on, where the pointers xs come next: to the first of them that is not null, else to the next node
-  module _ (left n i : ℕ) (xs ls : List ℕ) (e : pointerFrom s n i ≡ firstPage xs) where
-    hop-found : 1 ≤ firstPage xs → follow f s h strict k (suc left) n i ≡ visited (firstPage (xs ++ ls))
+  module _ (left n i : ℕ) (xs ls : List ℕ) (e : pointerFrom s h n i ≡ firstPage xs) where
+    hop-found : 1 ≤ firstPage xs → reach s h (suc left) n i ≡ pageOrPast (firstPage (xs ++ ls))
     hop-found q =
-        follow-ends f s h strict k left n i (visitAfter f s h strict k (firstPage xs))
-        (sym (hop-ends f s h strict k n i left refl refl (sym e) (λ z. omega arith) refl))
-        ∙ visited-some (firstPage xs) q
-        ∙ ap visited (sym (firstPage-left xs ls q))
+        reach-ends s h left n i (Page (firstPage xs)) (sym (hop-ends s h n i left (sym e) (λ z. omega arith)))
+        ∙ page-some (firstPage xs) q
+        ∙ ap pageOrPast (sym (firstPage-left xs ls q))
 
-    hop-last : firstPage xs ≡ 0 → forwardAt s n ≡ 0 → ls ≡ [] → follow f s h strict k (suc left) n i ≡ visited (firstPage (xs ++ ls))
+    hop-last : firstPage xs ≡ 0 → forwardAt s n ≡ 0 → ls ≡ [] → reach s h (suc left) n i ≡ pageOrPast (firstPage (xs ++ ls))
     hop-last z last none =
-        follow-ends f s h strict k left n i Nothing
-        (sym (hop-onward f s h strict k n i left refl refl (sym e) z (onward-none h s n left refl refl last)))
-        ∙ ap visited (sym (firstPage-right xs ls z ∙ ap firstPage none))
+        reach-ends s h left n i Past (sym (onward-none h s n left refl last ∙ hop-onward s h n i left (sym e) z))
+        ∙ ap pageOrPast (sym (firstPage-right xs ls z ∙ ap firstPage none))
 
-    hop-next : (m : ℕ) → firstPage xs ≡ 0 → forwardAt s n ≡ m → Passes s m → backAt s m ≡ n → 1 ≤ left
-        → follow f s h strict k left m 0 ≡ visited (firstPage ls)
-        → follow f s h strict k (suc left) n i ≡ visited (firstPage (xs ++ ls))
+    hop-next : (m : ℕ) → firstPage xs ≡ 0 → forwardAt s n ≡ m → Passes m → backAt s m ≡ n → 1 ≤ left
+        → reach s h left m 0 ≡ pageOrPast (firstPage ls)
+        → reach s h (suc left) n i ≡ pageOrPast (firstPage (xs ++ ls))
     hop-next m z next pass back room goes =
-        follow-on f s h strict k left n i m
-        (sym (hop-onward f s h strict k n i left refl refl (sym e) z
-        (onward-goes h s n left refl (sym next) (λ y. omega (arith, pass .0)) (λ y. omega arith) (is-linked s m n pass back))))
+        reach-on s h left n i m
+        (sym (onward-goes h s n left (sym next) (λ y. omega (arith, pass .0)) (λ y. omega arith) (is-linked m n pass back)
+        ∙ hop-onward s h n i left (sym e) z))
         ∙ goes
-        ∙ ap visited (sym (firstPage-right xs ls z))
+        ∙ ap pageOrPast (sym (firstPage-right xs ls z))
 
   -- hop by hop, along the nodes ns behind node n
-  along : h .theta ≤ 6 → (left n i : ℕ) (ns xs ls : List ℕ) → pointerFrom s n i ≡ firstPage xs → forwardAt s n ≡ first ns
-      → Linked (backAt s) (forwardAt s) n ns → All (Passes s) ns → Chained (ShownAt s) ns ls → length ns ≤ left
-      → follow f s h strict k (suc left) n i ≡ visited (firstPage (xs ++ ls))
+  along : h .theta ≤ 6 → (left n i : ℕ) (ns xs ls : List ℕ) → pointerFrom s h n i ≡ firstPage xs → forwardAt s n ≡ first ns
+      → Linked (backAt s) (forwardAt s) n ns → All Passes ns → Chained ShownAt ns ls → length ns ≤ left
+      → reach s h (suc left) n i ≡ pageOrPast (firstPage (xs ++ ls))
   along small left n i [] xs ls e next links pass ch room =
       elim (decLe 1 (firstPage xs)) [
         | yes q ↦ hop-found left n i xs ls e q
@@ -155,7 +149,7 @@ module _ (f : Format) (s : List ℕ) (strict : Bool) (k : ℕ) where
             (along small left m 0 ns (labels (ch .0)) (ch .2 .0) (first-of-all s _ _ 1 (ch .0) (ch .1) small)
             (links .1) (links .2) (pass .1)
             (ch .2 .2) (omega arith)
-            ∙ ap (λ ks. visited (firstPage ks)) (sym (ch .2 .1)))
+            ∙ ap (λ ks. pageOrPast (firstPage ks)) (sym (ch .2 .1)))
       ]
 
 abbrev pub ownStep : Format → Trie Stretch → Trie ℕ → ℕ → Step
@@ -210,7 +204,7 @@ module _ (f : Format) (s : List ℕ) (b0 : Trie Stretch) (b : Trie ℕ) (bs : Li
   abbrev start : ℕ
   start = runAfter (depthWord s (nodeStart (headOf s) (leafAt b key))) (step .depth) (step .entry)
 
-  own-pointer : pointerFrom s (leafAt b key) start ≡ firstPage (after (under b u key) (rest b key))
+  own-pointer : pointerFrom s (headOf s) (leafAt b key) start ≡ firstPage (after (under b u key) (rest b key))
   own-pointer =
       first-after s _ _ 1 (under b u key) (own-shown f s b0 (b ∷ bs) r k low 0 b u over labelled tall) small (rest b key) _ _
       (omega (arith, depth-under Shows b u key over))
@@ -222,21 +216,20 @@ module _ (f : Format) (s : List ℕ) (b0 : Trie Stretch) (b : Trie ℕ) (bs : Li
       (each-after _ b key (each-of _ b (λ n o. label-low (b ∷ bs) n (r .directory .positive) (omega arith))))
       (each-after _ b key (pass .0))
 
-  after-own : (strict : Bool)
-      → afterOwn f s (headOf s) strict k (ownStep f b0 b k) ≡ visited f s strict k (firstPage (after (numbers b0) (bits (width f) k)))
-  after-own strict =
+  behind-own : behind s (headOf s) (leafAt b key) (step .depth) (step .entry) ≡ pageOrPast (firstPage (after u key))
+  unfolding behind
+  behind-own =
       let w = after-over (ShownAt s) b u key shown in
-      sym (own-is f s (headOf s) strict k step refl refl refl refl)
-      ∙ ap (λ n. follow f s (headOf s) strict k n (leafAt b key) start) (add-one (headOf s .nodesTaken))
-      ∙ along f s strict k small (headOf s .nodesTaken) (leafAt b key) start (after b key) (after (under b u key) (rest b key))
-      (w .0) own-pointer
+      ap (λ n. reach s (headOf s) n (leafAt b key) start) (add-one (headOf s .nodesTaken))
+      ∙ along s small (headOf s .nodesTaken) (leafAt b key) start (after b key) (after (under b u key) (rest b key)) (w .0) own-pointer
       (rep-next f s b0 b bs r key) (rep-after f s b0 b bs r key) passing (w .2) few
-      ∙ ap (λ xs. visited f s strict k (firstPage xs)) (sym (w .1))
+      ∙ ap (λ xs. pageOrPast (firstPage xs)) (sym (w .1))
 
   -- as it stands in the descent
   pub after-descent : (strict : Bool)
       → afterOwn f s (headOf s) strict k (getD (descent f s (headOf s) k .steps) 0 noStep)
-      ≡ visited f s strict k (firstPage (after (numbers b0) (bits (width f) k)))
+      ≡ visited f s (headOf s) strict k (pageOrPast (firstPage (after (numbers b0) (bits (width f) k))))
+  unfolding afterOwn
   after-descent strict =
       ap (λ d. afterOwn f s (headOf s) strict k (getD (d .steps) 0 noStep)) (descent-is f s b0 (b ∷ bs) r k low pass deep)
-      ∙ after-own strict
+      ∙ ap (visited f s (headOf s) strict k) behind-own

@@ -20,12 +20,12 @@ use Rattle.tree.proofs.TrieLaws.{depth-le-height}
 use Rattle.tree.proofs.NodePromises.{at-key, obeys}
 use Rattle.store.specs.declared.Format.{Format}
 use Rattle.store.specs.Format.{width}
-use Rattle.store.specs.Head.{headOf, zeros, pageAt, InUse}
+use Rattle.store.specs.Head.{headOf, zeros, pageAt, InUse, nodeAt}
 use Rattle.node.specs.Node.{depthWord, levelWord, entryDepth, entryPointer, entryOf}
 use Rattle.page.specs.Page.{pageRule}
 use Rattle.search.specs.Descent.{noStep, descent}
 use Rattle.represent.specs.Labelled.{Each, occ, occs, Over, under, before, after}
-use Rattle.represent.specs.Image.{nodeAt, NodeIs}
+use Rattle.represent.specs.Image.{NodeIs}
 use Rattle.represent.specs.Rep.{Stretch, numbers, Rep}
 use Rattle.represent.specs.Promises.{pathSteps}
 use Rattle.readings.specs.Clauses.{start, PointsDown, runOf, Entry, NotBefore, passed, terminal}

@@ -24,7 +24,7 @@ use Rattle.search.specs.declared.Sought.{Sought}
 use Rattle.search.specs.declared.Sought.the-variants.{Record, Nothing, Damaged}
 use Rattle.search.specs.Descent.{noStep, descent}
 use Rattle.search.specs.Find.{soundPage, inPage, findOf}
-use Rattle.search.specs.Next.{visitAfter, afterOwn, fromDescent, nextOf}
+use Rattle.search.specs.Next.{visitAfter, visited, afterOwn, fromDescent, nextOf}
 use Rattle.represent.specs.Labelled.{after}
 use Rattle.represent.specs.Rep.{Stretch, numbers, Lawful, Rep}
 use Rattle.readings.specs.Listing.{firstWhere, firstOf}
@@ -37,7 +37,7 @@ use Rattle.represent.proofs.PageImage.{page-head, page-passes, page-agrees, pag
 use Rattle.represent.proofs.Passes.{nodes-pass}
 use Rattle.represent.proofs.DescentVisits.{descent-is}
 use Rattle.readings.proofs.Runs.{firstPage}
-use Rattle.readings.proofs.Along.{visited, after-descent}
+use Rattle.readings.proofs.Along.{pageOrPast, after-descent}
 use Rattle.represent.proofs.Keyed.{height-keyed, keyed-own}
 use Rattle.readings.proofs.PageFirst.{first-cases, page-first, page-none, page-find}
 
@@ -116,10 +116,12 @@ module _ (f : Format) (s : List ℕ) (h : Head) (k : ℕ) where
 -- the first later page
 visited-is : (f : Format) (s : List ℕ) (strict : Bool) (k : ℕ) (xs : List Stretch) → All (Lawful f s (headOf s)) xs
     → All (λ it. k < it .key) (recordsOf xs)
-    → visited f s strict k (firstPage (map (λ x. x .0) xs)) ≡ firstOf (recordsOf xs)
+    → visited f s (headOf s) strict k (pageOrPast (firstPage (map (λ x. x .0) xs))) ≡ firstOf (recordsOf xs)
+unfolding visited
 visited-is f s strict k [] l a = refl
 visited-is f s strict k ((p, []) ∷ xs) l a =
-    ap (λ n. visited f s strict k (firstPage (n ∷ map (λ x. x .0) xs))) (l .0 .page) ∙ visited-is f s strict k xs (l .1) a
+    ap (λ n. visited f s (headOf s) strict k (pageOrPast (firstPage (n ∷ map (λ x. x .0) xs)))) (l .0 .page)
+    ∙ visited-is f s strict k xs (l .1) a
 visited-is f s strict k ((zero, it ∷ its) ∷ xs) l a = absurd (omega (arith, l .0 .page .0))
 visited-is f s strict k ((suc p, it ∷ its) ∷ xs) l a =
     visit-is f s (headOf s) k strict (suc p) it its (l .0) (append-all (λ x. k < x .key) (it ∷ its) (recordsOf xs) a .0)
@@ -161,7 +163,7 @@ module _ (f : Format) (s : List ℕ) (b0 : Trie Stretch) (b : Trie ℕ) (bs : Li
       → afterOwn f s (headOf s) strict k (getD (descent f s (headOf s) k .steps) 0 noStep) ≡ firstOf (recordsOf (after b0 key))
   later strict =
       after-descent f s b0 b bs r (nodes-pass f s b0 (b ∷ bs) r) deep k low strict
-      ∙ ap (λ ns. visited f s strict k (firstPage ns)) (after-relabel (λ x. x .0) b0 key)
+      ∙ ap (λ ns. visited f s (headOf s) strict k (pageOrPast (firstPage ns))) (after-relabel (λ x. x .0) b0 key)
       ∙ visited-is f s strict k (after b0 key) (each-after (Lawful f s (headOf s)) b0 key (r .pages .each))
       (keyed-after (width f) 0 k b0 (r .pages .keyed) (div-eq-of-lt low))
 

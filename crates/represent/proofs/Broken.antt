@@ -10,11 +10,10 @@ use Rattle.lists.specs.Lists.{part, every, greatest}
 use Rattle.tree.specs.Trie.{Trie, leafAt}
 use Rattle.store.specs.declared.Format.the-variants.{Plots}
 use Rattle.store.specs.Format.{width, words}
-use Rattle.store.specs.Head.{headOf, zeros, nodeWords, nodeStart, pageStart, pageWords, pageAt}
-use Rattle.node.specs.Node.{sameRun, runRule, goodRuns, linkRule, pointerLow, pointerHigh, nodeRule, entryNumber, forwardWord}
+use Rattle.store.specs.Head.{headOf, zeros, nodeWords, nodeStart, pageStart, pageWords, pageAt, nodeAt}
+use Rattle.node.specs.Node.{runRule, goodRuns, linkRule, pointerLow, pointerHigh, nodeRule, entryNumber, forwardWord}
 use Rattle.search.specs.declared.Descent.{Descent}
 use Rattle.search.specs.Descent.{noStep, noSteps, damagedNode, entryVisit, stepOf, lost, stepTaken, descend, descent}
-use Rattle.represent.specs.Image.{nodeAt}
 use Rattle.represent.specs.Rep.{Stretch, Rep}
 use Rattle.represent.specs.Example.{stored}
 use Rattle.represent.specs.Broken.{unlinked, UnlinkedBreaks, SmudgedBreaks}
@@ -24,7 +23,7 @@ use Rattle.represent.proofs.Promises.{descent-visits}
 
 -- the key's terminal node
 terminal : getD (descent Plots unlinked (headOf unlinked) 1 .steps) 0 noStep .node ≡ 1
-unfolding stored bit part every greatest width words zeros headOf nodeWords pageWords nodeStart pageStart sameRun runRule goodRuns
+unfolding stored bit part every greatest width words zeros headOf nodeWords pageWords nodeStart pageStart runRule goodRuns
     linkRule pointerLow pointerHigh nodeRule entryNumber noSteps damagedNode entryVisit stepOf lost stepTaken descend descent
 terminal = refl
 

@@ -18,7 +18,7 @@ use Rattle.tree.proofs.NodePromises.{at-key}
 use Rattle.store.specs.declared.Format.{Format}
 use Rattle.store.specs.declared.Head.{Head}
 use Rattle.store.specs.Format.{width}
-use Rattle.store.specs.Head.{headOf, nodeStart}
+use Rattle.store.specs.Head.{headOf, nodeStart, nodeAt}
 use Rattle.node.specs.Node.{depthWord, entryOf, nodeRule, entryNumber}
 use Rattle.node.proofs.EntryNumber.{entry-index, entry-below}
 use Rattle.store.proofs.HeadLaws.{sizes-limits, width-within}
@@ -26,7 +26,7 @@ use Rattle.search.specs.declared.Step.{Step}
 use Rattle.search.specs.Descent.{noStep, noSteps, stepTaken, descend, descent}
 use Rattle.search.proofs.DescentLaws.{visit-entry, turn-on}
 use Rattle.represent.specs.Labelled.{occs, Over, under}
-use Rattle.represent.specs.Image.{nodeAt, NodeIs}
+use Rattle.represent.specs.Image.{NodeIs}
 use Rattle.represent.specs.Rep.{Stretch, numbers, Nodes, Rep}
 use Rattle.represent.specs.Promises.{RulesAbove, pathSteps}
 use Rattle.represent.proofs.LabelLaws.{occ-at, each-at, depth-relabel, over-at, leafAt-under, depth-under}
@@ -77,8 +77,8 @@ module _ (f : Format) (s : List ℕ) (h : Head) (k : ℕ) where
   unfolding stepTaken
   turn l n used H deep pointer ys rule e room at =
       let step : Step = record { node = n; entry = entryNumber (width f) k used H; depth = deep; used = used } in
-      let v = visit-entry f s h k (suc l) n used (nodeStart h n) refl H (entryNumber (width f) k used H) deep pointer rule e room refl
-      (entry-below (width f) k used H) (sym (ap (λ x. x .0) at)) (sym (ap (λ x. x .1) at)) .0 in
+      let v = visit-entry f s h k (suc l) n used H (entryNumber (width f) k used H) deep pointer rule e room refl
+      (sym (ap (λ x. x .0) at)) (sym (ap (λ x. x .1) at)) in
       sym (turn-on f s h k (suc l) n used (replicate (suc l) noStep ++ ys) _ v (omega arith) _ refl refl)
       ∙ ap (λ x. descend f s h k x pointer (used + deep) (set (replicate (suc l) noStep ++ ys) x step)) (suc-sub-suc l 0 ∙ sub-zero l)
       ∙ ap (descend f s h k l pointer (used + deep)) (set-last l noStep step ys)

@@ -13,10 +13,10 @@ use Rattle.tree.specs.Build.{build}
 use Rattle.plot.specs.Plot.{lawful, isWord, lawfulTerm, lawfulDay}
 use Rattle.store.specs.declared.Format.the-variants.{Plots}
 use Rattle.store.specs.Format.{width, words}
-use Rattle.store.specs.Head.{headOf, zeros, lawfulSizes, size, nodeWords, nodeStart, pageStart, pageWords, pageAt}
+use Rattle.store.specs.Head.{headOf, zeros, lawfulSizes, size, nodeWords, nodeStart, pageStart, pageWords, pageAt, nodeAt}
 use Rattle.page.specs.Page.{lawfulItem, itemWords, flat}
 use Rattle.represent.specs.Labelled.{ind, occ, occs}
-use Rattle.represent.specs.Image.{nodeImage, pageImage, nodeAt}
+use Rattle.represent.specs.Image.{nodeImage, pageImage}
 use Rattle.represent.specs.Rep.{Unlinked, numbers}
 use Rattle.represent.specs.Example.{stretches, directory, stored, ExampleHolds}
 use Rattle.represent.proofs.LabelLaws.{ind-other}

@@ -21,10 +21,9 @@ use Rattle.store.specs.declared.Format.the-variants.{Plots}
 use Rattle.store.specs.declared.Head.{Head}
 use Rattle.store.specs.declared.Item.{Item}
 use Rattle.store.specs.Format.{width}
-use Rattle.store.specs.Head.{headOf, headRule}
+use Rattle.store.specs.Head.{headOf, headRule, nodeAt}
 use Rattle.store.proofs.HeadLaws.{Limits, sizes-limits, Counts, counts-are, rule-is}
 use Rattle.represent.specs.Labelled.{occs}
-use Rattle.represent.specs.Image.{nodeAt}
 use Rattle.page.specs.Schema.{keyOf}
 use Rattle.represent.specs.Rep.{numbers, Nodes, Links, Sized, Rep, Holds}
 use Rattle.represent.specs.Promises.{HeadPasses, LevelsAtMost, CountsAreTheTrees}

@@ -21,15 +21,12 @@ use Rattle.tree.proofs.TrieLaws.{depth-le-height}
 use Rattle.tree.proofs.Flatten.{length-flatten, entry}
 use Rattle.store.specs.declared.Format.{Format}
 use Rattle.store.specs.declared.Head.{Head}
-use Rattle.store.specs.Head.{word, zeros, nodeWords, nodeStart, size}
+use Rattle.store.specs.Head.{word, zeros, nodeWords, nodeStart, size, nodeAt}
 use Rattle.node.specs.Node.{depthWord, levelWord, backWord, forwardWord, entryOf}
 use Rattle.represent.specs.Labelled.{occ}
-use Rattle.represent.specs.Image.{entryWords, nodeImage, nodeAt, NodeIs}
+use Rattle.represent.specs.Image.{entryWords, nodeImage, NodeIs}
 use Rattle.represent.proofs.LabelLaws.{occ-at}
-use Rattle.represent.proofs.Places.{node-fits}
-
-pub part-word : (s : List ℕ) (a n i : ℕ) → a + n ≤ length s → i < n → word (part s a n) i ≡ word s (a + i)
-part-word s a n i h l = ap (λ ws. getD ws i 0) (part-in s a n h) ∙ getD-take n (drop a s) i 0 l ∙ getD-drop a s i 0
+use Rattle.store.proofs.Places.{part-word, node-fits}
 
 pub length-entryWords : (es : List (Entry ℕ)) → length (entryWords es) ≡ 2 * length es
 length-entryWords [] = refl

@@ -1,7 +1,6 @@
 pub mod LabelLaws
 pub mod ImageLaws
 pub mod RepLaws
-pub mod Places
 pub mod Chain
 pub mod Links
 pub mod Counting

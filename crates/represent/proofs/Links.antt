@@ -9,10 +9,10 @@ use Rattle.tree.specs.Trie.{Trie, Key, labels, leafAt}
 use Rattle.store.specs.declared.Format.{Format}
 use Rattle.store.specs.declared.Head.{Head}
 use Rattle.store.specs.Format.{width}
-use Rattle.store.specs.Head.{headOf, nodeStart}
+use Rattle.store.specs.Head.{headOf, nodeStart, nodeAt}
 use Rattle.node.specs.Node.{backWord, forwardWord}
 use Rattle.represent.specs.Labelled.{ind, occ, occs, before, after, first, Linked}
-use Rattle.represent.specs.Image.{nodeAt, NodeIs}
+use Rattle.represent.specs.Image.{NodeIs}
 use Rattle.represent.specs.Rep.{Stretch, numbers, backOf, forwardOf, Rep}
 use Rattle.represent.specs.Promises.{Neighbour, NeighbourPasses}
 use Rattle.represent.proofs.LabelLaws.{one-numbered, label-high, ind-eq, ind-self, labels-at, over-in}

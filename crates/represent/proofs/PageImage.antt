@@ -6,7 +6,7 @@ use mathlib.Core.List.{List, [], _∷_, _++_, append-assoc}
 use Prim.Native.Nat.{ℕ, zero, suc, _+_, _-_, _*_, _/_, _^_, _≤_, _<_}
 use native.Mathlib.Nat.{mod-eq-of-lt}
 use native.Mathlib.Omega.{arith}
-use lib.ListN.{length, getD, replicate}
+use lib.ListN.{length, getD, replicate, length-append}
 use Rattle.lists.specs.Lists.{All, every}
 use Rattle.lists.specs.Keyed.{Sorted}
 use Rattle.lists.proofs.AppendLaws.{all-at, pairwise-at}
@@ -17,8 +17,8 @@ use Rattle.store.specs.declared.Format.the-variants.{Plots}
 use Rattle.store.specs.declared.Item.{Item}
 use Rattle.store.specs.Format.{width, words}
 use Rattle.store.specs.Head.{word}
-use Rattle.page.specs.Page.{count, itemAt, keyAt, lawfulItem, pageRule, agrees, above, itemWords, flat}
-use Rattle.page.proofs.Laws.{lawful-key, facts-rule, facts-agrees}
+use Rattle.page.specs.Page.{count, itemAt, keyAt, lawfulItem, pageRule, agrees, above, itemWords, flat, Filled}
+use Rattle.page.proofs.Laws.{lawful-key, Ordered, facts-ordered, facts-rule, facts-agrees}
 use Rattle.search.specs.Find.{noItem}
 use Rattle.page.proofs.Flat.{length-flat}
 use Rattle.represent.specs.Image.{pageImage}
@@ -63,6 +63,12 @@ module _ (f : Format) (C : ℕ) (pg : List ℕ) (rs : List Item) (is : pg ≡ pa
       {i = 1 + words f * length rs + j} (omega (arith, length-flat f rs))
       ∙ getD-zeros (words f * (C - length rs)) j
 
+  -- the records lie in the block
+  pub page-inside : words f * count pg < length pg
+  unfolding pageImage
+  page-inside =
+      rw page-count (omega (arith, ap length is, length-append (flat f rs) (replicate (words f * (C - length rs)) 0), length-flat f rs))
+
   module _ (lawful : All (λ it. lawfulItem f it ≡ true) rs) where
     pub page-item : (i : ℕ) → i < length rs → itemAt f pg i ≡ getD rs i noItem
     unfolding pageImage
@@ -81,18 +87,25 @@ module _ (f : Format) (C : ℕ) (pg : List ℕ) (rs : List Item) (is : pg ≡ pa
         let l : i < length rs = omega (arith, page-count) in
         rw (page-item i l) (all-at P noItem rs i a l)
 
+    page-order : Sorted keyOf rs → Ordered f pg (count pg)
+    page-order sorted =
+        record {
+          lawful = page-each (λ it. lawfulItem f it ≡ true) lawful;
+          ascends = λ i j h l.
+              let l′ : j < length rs = omega (arith, page-count) in
+              rw (page-key i (omega arith), page-key j l′) (pairwise-at (λ x y. keyOf x < keyOf y) noItem rs i j sorted h l′);
+        }
+
+    pub page-filled : Sorted keyOf rs → Filled f pg
+    page-filled sorted = record { inside = page-inside; order = facts-ordered f pg (count pg) (page-order sorted) }
+
     pub page-passes : 1 ≤ length rs → length rs ≤ C → Sorted keyOf rs → pageRule f C pg ≡ true
     page-passes some fits sorted =
         facts-rule f C pg
         (record {
           some = omega (arith, page-count);
           fits = omega (arith, page-count);
-          order = record {
-            lawful = page-each (λ it. lawfulItem f it ≡ true) lawful;
-            ascends = λ i j h l.
-                let l′ : j < length rs = omega (arith, page-count) in
-                rw (page-key i (omega arith), page-key j l′) (pairwise-at (λ x y. keyOf x < keyOf y) noItem rs i j sorted h l′);
-          };
+          order = page-order sorted;
           blank = λ j h. rw page-count (page-blank j);
         })
 

@@ -14,13 +14,13 @@ use Rattle.tree.proofs.Flatten.{entry}
 use Rattle.store.specs.declared.Format.{Format}
 use Rattle.store.specs.declared.Head.{Head}
 use Rattle.store.specs.Format.{width}
-use Rattle.store.specs.Head.{headOf, nodeStart, pageAt}
+use Rattle.store.specs.Head.{headOf, nodeStart, pageAt, nodeAt}
 use Rattle.node.specs.Node.{backWord, forwardWord, entryOf, linkRule, pointerLow, pointerHigh, nodeRule}
 use Rattle.node.proofs.RunWalk.{Points, trie-is-good}
 use Rattle.node.proofs.NodeLaws.{link-1, link-above, low-1, low-above, high-1, high-above, facts-node}
 use Rattle.page.specs.Page.{pageRule, agrees}
 use Rattle.represent.specs.Labelled.{Each, occ, occs, Over}
-use Rattle.represent.specs.Image.{nodeAt, NodeIs}
+use Rattle.represent.specs.Image.{NodeIs}
 use Rattle.page.specs.Schema.{keyOf}
 use Rattle.represent.specs.Rep.{Stretch, numbers, Nodes, backOf, forwardOf, Unlinked, Lawful, Rep}
 use Rattle.represent.specs.Promises.{RulesAbove, NodesPass, PagesPass, AgreesPasses}

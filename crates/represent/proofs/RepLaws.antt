@@ -5,10 +5,10 @@ use Prim.Native.Nat.{ℕ, _≤_}
 use native.Mathlib.Omega.{arith}
 use Rattle.tree.specs.Trie.{Trie}
 use Rattle.store.specs.declared.Format.{Format}
-use Rattle.store.specs.Head.{headOf, nodeStart}
+use Rattle.store.specs.Head.{headOf, nodeStart, nodeAt}
 use Rattle.node.specs.Node.{backWord, forwardWord}
 use Rattle.represent.specs.Labelled.{occs}
-use Rattle.represent.specs.Image.{nodeAt, NodeIs}
+use Rattle.represent.specs.Image.{NodeIs}
 use Rattle.represent.specs.Rep.{Stretch, Rep}
 use Rattle.represent.proofs.LabelLaws.{label-low, label-high}
 use Rattle.represent.proofs.ImageLaws.{Shown, node-shown, node-back, node-forward}

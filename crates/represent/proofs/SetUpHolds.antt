@@ -16,18 +16,18 @@ use Rattle.tree.proofs.BuildLaws.{build-le}
 use Rattle.store.specs.declared.Format.{Format}
 use Rattle.store.specs.declared.Head.{Head}
 use Rattle.store.specs.Format.{width}
-use Rattle.store.specs.Head.{word, headOf, lawfulSizes, zeros, size, nodeWords, pageWords, nodeStart, pageStart, pageAt}
+use Rattle.store.specs.Head.{word, headOf, lawfulSizes, zeros, size, nodeWords, pageWords, nodeStart, pageStart, pageAt, nodeAt}
 use Rattle.node.specs.Node.{backWord, forwardWord}
 use Rattle.store.specs.SetUp.{setUpWords}
 use Rattle.store.proofs.HeadLaws.{Limits, sizes-limits}
 use Rattle.store.proofs.SetUpLaws.{size-low, done}
-use Rattle.represent.specs.Image.{nodeImage, nodeAt}
+use Rattle.represent.specs.Image.{nodeImage}
 use Rattle.page.specs.Schema.{keyOf}
 use Rattle.represent.specs.Rep.{Directory, Pages, Holds}
 use Rattle.represent.specs.Promises.{SetUpHolds}
 use Rattle.represent.proofs.LabelLaws.{ind-eq, ind-other}
-use Rattle.represent.proofs.ImageLaws.{part-word, getD-zeros}
-use Rattle.represent.proofs.Places.{node-fits, page-end}
+use Rattle.represent.proofs.ImageLaws.{getD-zeros}
+use Rattle.store.proofs.Places.{part-word, node-fits, page-end}
 
 -- a part by its words
 part-is : (s ws : List ℕ) (a n : ℕ) → length ws ≡ n → a + n ≤ length s → ((i : ℕ) → i < n → word s (a + i) ≡ word ws i) → part s a n ≡ ws

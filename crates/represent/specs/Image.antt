@@ -2,20 +2,16 @@
 --   entryWords es   == entries, two words each
 --   nodeImage θ level back forward v == a node block whose entries stand for the trie v
 --   pageImage f C rs == a page block with the records rs
---   nodeAt s h n    == the words of node block n
 --   NodeIs θ ws level v == the node block ws has this level and the entries of v; of its links nothing is said
 use mathlib.Core.Path.{_≡_}
 use mathlib.Core.List.{List, [], _∷_, _++_}
 use Prim.Native.Nat.{ℕ, _-_, _*_, _^_, _≤_}
 use lib.ListN.{length, replicate}
-use Rattle.lists.specs.Lists.{part}
 use Rattle.tree.specs.Trie.{Trie, height}
 use Rattle.tree.specs.Node.{Entry, flatten}
 use Rattle.store.specs.declared.Format.{Format}
-use Rattle.store.specs.declared.Head.{Head}
 use Rattle.store.specs.declared.Item.{Item}
 use Rattle.store.specs.Format.{words}
-use Rattle.store.specs.Head.{nodeWords, nodeStart}
 use Rattle.node.specs.Node.{backWord, forwardWord}
 use Rattle.page.specs.Page.{flat}
 
@@ -32,9 +28,6 @@ nodeImage θ level back forward v =
 -- "each page with its records": "count, then C records in ascending key order"
 unfoldable pub pageImage : Format → ℕ → List Item → List ℕ
 pageImage f C rs = length rs ∷ (flat f rs ++ replicate (words f * (C - length rs)) 0)
-
-unfoldable pub nodeAt : List ℕ → Head → ℕ → List ℕ
-nodeAt s h n = part s (nodeStart h n) (nodeWords (h .theta))
 
 pub record NodeIs (θ : ℕ) (ws : List ℕ) (level : ℕ) (v : Trie ℕ) : Type 0 where
   pub low : height v ≤ θ

@@ -31,12 +31,12 @@ use Rattle.store.specs.declared.Format.{Format}
 use Rattle.store.specs.declared.Head.{Head}
 use Rattle.store.specs.declared.Item.{Item}
 use Rattle.store.specs.Format.{width}
-use Rattle.store.specs.Head.{headOf, lawfulSizes, spareOk, size, nodeWords, pageWords, pageAt}
+use Rattle.store.specs.Head.{headOf, lawfulSizes, spareOk, size, nodeWords, pageWords, pageAt, nodeAt}
 use Rattle.node.specs.Node.{backWord, forwardWord}
 use Rattle.page.specs.Page.{lawfulItem}
 use Rattle.page.specs.Schema.{keyOf}
 use Rattle.represent.specs.Labelled.{Each, occ, occs, OneForOne, Over, Linked}
-use Rattle.represent.specs.Image.{pageImage, nodeAt, NodeIs}
+use Rattle.represent.specs.Image.{pageImage, NodeIs}
 
 -- a level-0 stretch: its page's number and its records
 abbrev pub Stretch : Type 0

@@ -1,16 +1,19 @@
--- What the second pass of a range writes: record after record, each at the end of those before.
+-- What the second pass of a range writes: words of pages, copied to the end of those before. And the ways out of range.
 use mathlib.Core.Path.{_≡_, refl, sym, ap, _∙_}
 use mathlib.Core.Bool.{Bool, true, false, false≢true}
 use mathlib.Core.Logic.{inl, inr}
 use mathlib.Core.List.{List, [], _∷_, _++_, append-assoc, append-nil}
-use Prim.Native.Nat.{ℕ, zero, suc, _+_, _-_, _*_, _/_, _≤_, _<_}
+use Prim.Native.Nat.{ℕ, zero, suc, _+_, _-_, _*_, _/_, _^_, _≤_, _<_}
 use native.Mathlib.Decide.{decLt, ℕ-discrete}
 use native.Mathlib.Omega.{arith}
-use lib.ListN.{length, take, drop, length-append, length-take, length-drop}
-use lib.Seq.{take-at, drop-at, take-length, drop-length, drop-drop}
-use native.Mathlib.Nat.{mul-le-mul-left, mul-comm, le-div-iff-mul-le}
+use lib.ListN.{length, getD, take, drop, set, length-append, length-take, length-drop}
+use lib.Seq.{take-at, drop-at, take-length, drop-length, drop-drop, getD-drop, paste, paste-suc}
+use native.Mathlib.Nat.{mul-le-mul-right, mul-comm, le-div-iff-mul-le}
+use native.Mathlib.Numerals.{add-one}
 use borrow.Author.Tests.{lt-ltb, le-ltb}
+use Rattle.lists.specs.Lists.{part}
 use Rattle.lists.proofs.Cases.{bool-cases}
+use Rattle.lists.proofs.Parts.{part-in}
 use Rattle.store.specs.Head.{headOf, headRule}
 use Rattle.store.specs.declared.Format.{Format}
 use Rattle.store.specs.declared.Head.{Head}
@@ -20,8 +23,8 @@ use Rattle.search.specs.declared.Sought.{Sought}
 use Rattle.search.specs.declared.Sought.the-variants.{Record, Nothing, Damaged}
 use Rattle.search.specs.Next.{nextOf}
 use Rattle.scan.specs.declared.Listing.{Listing}
-use Rattle.page.specs.Page.{itemWords, flat}
-use Rattle.page.proofs.Flat.{plot-words, length-item, length-flat, flat-last}
+use Rattle.page.specs.Page.{flat}
+use Rattle.page.proofs.Flat.{plot-words, length-flat}
 use Rattle.scan.specs.Range.{Ranged, also, rangeFrom, ranged, listing, firsts, rangeRefused, listed, rangeOf}
 use Rattle.scan.proofs.RangeLaws.{from-damaged, from-nothing, from-passed, from-full, from-last, from-on}
 
@@ -39,12 +42,6 @@ module _ (f : Format) (s : List ℕ) (h : Head) where
   pub firsts-lost : (strict : Bool) (k n : ℕ) → nextOf f s h strict k ≡ Damaged → firsts f s h strict k (suc n) ≡ []
   unfolding firsts
   firsts-lost strict k n e = rw (e, firsts)
-
--- room for one record more
-pub room-more : (w i n L : ℕ) → i < n → w * n ≤ L → w * i + w ≤ L
-room-more w i n L h l =
-    let m : w * (i + 1) ≤ w * n = mul-le-mul-left w (omega arith) in
-    omega arith
 
 pub part-room : (w at : ℕ) (out : List ℕ) → at + w ≤ length out → w ≤ length (take (length out - at) (drop at out))
 part-room w at out h = simp (length-take, length-drop) (omega arith)
@@ -68,44 +65,31 @@ append-at at pre X out first last o n e =
     let none : drop (length out - at) (drop at out) ≡ [] = rw (back, rest) (drop-length B) in
     rw (front, none, e, whole, ← drop-drop (length X) at first) (simp (append-nil, append-assoc))
 
--- one record more, at the end of those written
-pub fill-more : (f : Format) (its : List Item) (it : Item) (i at : ℕ) (out first last : List ℕ)
-    → out ≡ flat f its ++ drop (words f * i) first → length its ≡ i → at ≡ words f * i
-    → last ≡ itemWords f it ++ drop (words f) (take (length out - at) (drop at out))
-    → take at out ++ (last ++ drop (length out - at) (drop at out)) ≡ flat f (its ++ (it ∷ [])) ++ drop (words f * (i + 1)) first
-fill-more f its it i at out first last o l a e =
-    let w = length-item f it in
-    let next : at + length (itemWords f it) ≡ words f * (i + 1) = omega arith in
-    append-at at (flat f its) (itemWords f it) out first last (o ∙ rw (← a)) (length-flat f its ∙ rw l (sym a)) (e ∙ rw w)
-    ∙ rw (flat-last f its it, ← next)
+-- words of a page, from number a on, copied to the front of d: after j of them, one more, and all
+pub copied-more : (pg d out : List ℕ) (a j : ℕ) → out ≡ paste d 0 (drop a pg) j → j < length d → a + j < length pg
+    → set out j (getD pg (a + j) 0) ≡ paste d 0 (drop a pg) (j + 1)
+copied-more pg d out a j e l m =
+    let z : 0 + j ≡ j = omega arith in
+    ap (λ (o : List ℕ). set o j (getD pg (a + j) 0)) e
+    ∙ ap (λ (x : ℕ). set (paste d 0 (drop a pg) j) j x) (sym (getD-drop a pg j 0))
+    ∙ ap (λ (x : ℕ). set (paste d 0 (drop a pg) j) x (getD (drop a pg) j 0)) (sym z)
+    ∙ paste-suc d 0 (drop a pg) j 0 (omega arith) (omega (arith, length-drop a pg))
+    ∙ ap (paste d 0 (drop a pg)) (sym (add-one j))
 
--- the walk, one record on
-pub walk-more : (f : Format) (s : List ℕ) (h : Head) (strict : Bool) (k i n : ℕ) (its all : List Item) (it : Item) → i < n
-    → nextOf f s h strict k ≡ Record it → its ++ firsts f s h strict k (n - i) ≡ all
-    → (its ++ (it ∷ [])) ++ firsts f s h true (it .key) (n - (i + 1)) ≡ all
-walk-more f s h strict k i n its all it l e q =
-    let m : n - i ≡ suc (n - (i + 1)) = omega arith in
-    append-assoc its (it ∷ []) (firsts f s h true (it .key) (n - (i + 1)))
-    ∙ ap (λ (r : List Item). its ++ r) (sym (ap (firsts f s h strict k) m ∙ firsts-on f s h strict k (n - (i + 1)) it e)) ∙ q
+pub copied-all : (pg d out : List ℕ) (a n j : ℕ) → out ≡ paste d 0 (drop a pg) j → j ≡ n → a + n ≤ length pg
+    → out ≡ part pg a n ++ drop n d
+copied-all pg d out a n j e z l =
+    let y : 0 + n ≡ n = omega arith in
+    e ∙ ap (paste d 0 (drop a pg)) z
+    ∙ ap (λ (x : ℕ). take n (drop a pg) ++ drop x d) y
+    ∙ ap (λ (x : List ℕ). x ++ drop n d) (sym (part-in pg a n l))
 
--- a walk that ends early has fewer records
-pub walk-short : (f : Format) (s : List ℕ) (h : Head) (strict : Bool) (k i n : ℕ) (its all : List Item) → i < n → length its ≡ i
-    → firsts f s h strict k (suc (n - (i + 1))) ≡ [] → its ++ firsts f s h strict k (n - i) ≡ all → length all ≡ n → ⊥
-walk-short f s h strict k i n its all l c e q a =
-    let m : n - i ≡ suc (n - (i + 1)) = omega arith in
-    let z : its ++ [] ≡ all = ap (λ (r : List Item). its ++ r) (sym (ap (firsts f s h strict k) m ∙ e)) ∙ q in
-    omega (arith, ap length (sym (append-nil its) ∙ z))
+pub copied-fits : (w v i n L M : ℕ) → w ≡ v → v * (i + n) < L → v * n ≤ M → (w * n ≤ M) × (1 + w * i + w * n ≤ L)
+copied-fits w v i n L M e p q = rw e (q, omega arith)
 
-pub walk-end : (f : Format) (s : List ℕ) (h : Head) (strict : Bool) (k i n : ℕ) (its all : List Item) → i ≡ n
-    → its ++ firsts f s h strict k (n - i) ≡ all → its ≡ all
-unfolding firsts
-walk-end f s h strict k i n its all e q =
-    let z : n - i ≡ 0 = omega arith in
-    sym (append-nil its) ∙ ap (λ (m : ℕ). its ++ firsts f s h strict k m) (sym z) ∙ q
-
-pub fill-end : (f : Format) (its all : List Item) (i n : ℕ) (out first : List ℕ) → its ≡ all → i ≡ n
-    → out ≡ flat f its ++ drop (words f * i) first → out ≡ flat f all ++ drop (words f * n) first
-fill-end f its all i n out first a b e = e ∙ rw (a, b)
+-- the words of fewer than 2^32 records
+pub scaled : (w n : ℕ) → w ≤ 4 → n < 2 ^ 32 → w * n < 2 ^ 34
+scaled w n h l = let m : w * n ≤ 4 * n = mul-le-mul-right n h in omega arith
 
 -- a range's records are the first ones of its walk
 module _ (f : Format) (s : List ℕ) (h : Head) (high : ℕ) where

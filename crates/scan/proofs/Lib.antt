@@ -1,6 +1,8 @@
 pub mod RangeLaws
-pub mod CursorLaws
-pub mod SumLaws
 pub mod SummaryLaws
 pub mod FillLaws
+pub mod ChainLaws
+pub mod WalkLaws
+pub mod StandLaws
+pub mod FillWalk
 pub mod Promises

@@ -20,7 +20,7 @@ use Rattle.search.specs.declared.Sought.the-variants.{Record, Nothing, Damaged}
 use Rattle.search.specs.Next.{nextOf}
 use Rattle.search.proofs.NextLaws.{next-above}
 use Rattle.scan.specs.Range.{Ranged, ended, broken, also, rangeFrom, ranged, listing}
-use Rattle.scan.specs.Summary.{done, sumFrom}
+use Rattle.scan.specs.Summary.{done, damage, sumFrom}
 
 -- how many more turns there may be than keys left: one where the first key itself counts
 unfoldable pub lead : Bool → ℕ
@@ -133,6 +133,10 @@ module _ (f : Format) (s : List ℕ) (h : Head) (high : ℕ) where
 
     pub adds-nothing : nextOf f s h strict k ≡ Nothing → sumFrom f s h high today fuel strict k t ≡ record { ok = true; totals = t }
     adds-nothing e = sum-suc ∙ sum-nothing today (fuel - 1) strict k t e
+
+    pub adds-damaged : nextOf f s h strict k ≡ Damaged → sumFrom f s h high today fuel strict k t ≡ damage
+    unfolding sumFrom
+    adds-damaged e = sum-suc ∙ rw (e, sumFrom)
 
     module _ (it : Item) (e : nextOf f s h strict k ≡ Record it) where
       pub adds-passed : high < it .key → sumFrom f s h high today fuel strict k t ≡ record { ok = true; totals = t }

@@ -13,20 +13,6 @@ use Rattle.store.proofs.HeadLaws.{head-facts, levels-within}
 use Rattle.scan.specs.declared.Summing.{Summing}
 use Rattle.scan.specs.Summary.{summaryRefused, summed, summingReply, summaryOf}
 
--- what a store that keeps the head rule has, as the readings ask it
-pub readable : (f : Format) (s : List ℕ) (h : Head) → h ≡ headOf s → headRule f s ≡ true
-    → (h .theta ≤ 6) × (h .capacity ≤ 64) × (h .nodesTaken ≤ 4096) × (1 ≤ h .levels) × (h .levels ≤ 32)
-readable f s h e r =
-    let p = head-facts f s r in
-    let t = headOf s in
-    rw e (
-      p .limits .theta,
-      p .limits .capacity,
-      omega (arith, p .counts .taken, p .limits .nodes),
-      p .counts .levels-low,
-      omega (arith, p .counts .levels, levels-within f (t .theta) (t .capacity) (p .limits .theta-low)),
-    )
-
 module _ (f : Format) (s : List ℕ) (low high today : ℕ) where
   pub summary-head : headRule f s ≡ false → summaryRefused 3 ≡ summaryOf f s low high today
   unfolding summaryOf

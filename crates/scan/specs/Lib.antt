@@ -1,4 +1,4 @@
-pub mod Cursor
+pub mod Walk
 pub mod Range
 pub mod Summary
 pub mod Promises

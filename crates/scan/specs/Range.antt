@@ -3,7 +3,7 @@
 --   rangeFrom f s h high fuel strict k room == the records from the key k to high, with room for so many
 --   ranged f s h low high room == the same from low on
 --   listing r            == a range's outcome without its records
---   listingOf c n        == the outcome after n records, with the cursor c at the first one not written
+--   listingOf ok n       == the outcome after n records with no further one
 --   firsts f s h strict k n == the first n records from the key k on
 --   RangeReply, rangeReply == document 01's number and values for each case of a `RangeAnswer`
 --   rangeOf f s low high out == what range replies and the output words after it
@@ -22,7 +22,6 @@ use Rattle.store.specs.Format.{words}
 use Rattle.store.specs.Head.{headOf, headRule}
 use Rattle.page.specs.Page.{flat}
 use Rattle.search.specs.declared.Sought.the-variants.{Record, Nothing, Damaged}
-use Rattle.scan.specs.declared.Cursor.{Cursor}
 use Rattle.scan.specs.declared.Listing.{Listing}
 use Rattle.scan.specs.declared.RangeAnswer.{RangeAnswer}
 use Rattle.scan.specs.declared.RangeAnswer.the-variants.{Listed, RangeHeadBroken, LowAboveHigh, RangeDamaged}
@@ -75,10 +74,10 @@ listing r =
       | false ↦ record { ok = false; count = 0; more = 0 }
     ]
 
-unfoldable pub listingOf : Cursor → ℕ → Listing
-listingOf c n =
-    elim (c .ok) [
-      | true ↦ record { ok = true; count = n; more = c .item .key }
+unfoldable pub listingOf : Bool → ℕ → Listing
+listingOf ok n =
+    elim ok [
+      | true ↦ record { ok = true; count = n; more = 0 }
       | false ↦ record { ok = false; count = 0; more = 0 }
     ]
 

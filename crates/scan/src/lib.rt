@@ -1,78 +1,120 @@
-// Readings of many records: range and summary, each a walk by next.
-use search::Sought;
+// Readings of many records: range and summary, each a walk by next, some records of one page at a time.
+use search::Span;
+use search::Terminal;
 use store::Format;
 use store::Head;
 use store::Item;
 use totals::Totals;
 ghost use mathlib.Core.Path.{_≡_};
-ghost use mathlib.Core.Bool.{false};
+ghost use mathlib.Core.Bool.{true, false};
 ghost use mathlib.Core.List.{_++_};
-ghost use Prim.Native.Nat.{_*_, _^_, _≤_, _<_};
+ghost use Prim.Native.Nat.{_+_, _-_, _*_, _^_, _≤_, _<_, min};
 ghost use lib.ListN.{length, drop};
+ghost use Rattle.lists.specs.Lists.{part};
 ghost use Rattle.store.specs.Format.{words};
-ghost use Rattle.page.specs.Page.{flat};
-ghost use Rattle.scan.specs.Cursor.{pastLast, cursorAt, cursorFrom};
+ghost use Rattle.store.specs.Head.{Under};
+ghost use Rattle.page.specs.Page.{count, flat, Filled};
+ghost use Rattle.totals.specs.Totals.{Room, Bounded, updatedOf, totalsOf};
+ghost use Rattle.search.specs.Descent.{terminal};
+ghost use Rattle.search.specs.Span.{spanOf, Rows};
+ghost use Rattle.scan.specs.Walk.{walkOf, lastKey, Standing, endOf, rows};
 ghost use Rattle.scan.specs.Range.{ranged, listing, listingOf, firsts, rangeReply, rangeOf};
 ghost use Rattle.scan.specs.Summary.{summed, summingOf, summaryReply, summaryOf};
 
-// Where a walk by next stands: no damage met so far, whether there is a record, and the record.
-pub struct Cursor {
-    pub ok: bool,
-    pub more: bool,
-    pub item: Item,
+// A walk by next: the span of records where it stands, and the terminal node of the key from which it came there.
+pub struct Walk {
+    pub span: Span,
+    pub terminal: Terminal,
+    pub key: u64,
 }
 
-// A cursor past the last record.
-fn past_last(ok: bool) -> Cursor
-    ensures { λ r. ⌜ r ≡ pastLast ok ⌝ }
+// The walk at the first records above a key, or, if not strict, at or above it.
+fn walk_from(store: &[u32], f: Format, head: Head, strict: bool, key: u64, checked: bool) -> Walk
+    requires { ⌜ (Under f (now store) head) × (checked ≡ false → spanOf f (now store) head strict key .ok ≡ true) ⌝ }
+    ensures { λ r. ⌜ r ≡ walkOf f (now (store .entry)) head strict key ⌝ }
 {
-    Cursor {
-        ok,
-        more: false,
-        item: Item {
-            key: 0,
-            price: 0,
-            lease: 0,
-            last: 0,
-        },
+    let terminal = search::terminal_of(store, f, head, key, checked);
+    let span = search::span_at(store, f, head, strict, key, terminal, 0, 0, checked);
+    Walk {
+        span,
+        terminal,
+        key,
     }
 }
 
-// A cursor at what next gave, past the last record if that is above high.
-fn cursor_at(high: u64, a: Sought) -> Cursor
-    ensures { λ r. ⌜ r ≡ cursorAt high a ⌝ }
+// The terminal node of a key: that of another key, if both agree in the bits used before it.
+fn terminal_after(
+    store: &[u32],
+    f: Format,
+    head: Head,
+    t: Terminal,
+    other: u64,
+    key: u64,
+    checked: bool,
+) -> Terminal
+    requires { ⌜ (Under f (now store) head) × (t ≡ terminal f (now store) head other) × (t .ok ≡ true)
+        × (checked ≡ false → terminal f (now store) head key .ok ≡ true) ⌝ }
+    ensures { λ r. ⌜ r ≡ terminal f (now (store .entry)) head key ⌝ }
 {
-    match a {
-        Sought::Damaged => {
-            return past_last(false);
-        }
-        Sought::Nothing => {
-            return past_last(true);
-        }
-        Sought::Record(item) => {
-            if item.key > high {
-                return past_last(true);
-            }
-            return Cursor {
-                ok: true,
-                more: true,
-                item,
-            };
-        }
+    let low = store::width_of(f) - t.used;
+    if page::prefix(key, low) == page::prefix(other, low) {
+        return t;
+    }
+    search::terminal_of(store, f, head, key, checked)
+}
+
+// The key of the last record of a span.
+fn last_key(store: &[u32], f: Format, head: Head, r: Span) -> u64
+    requires { ⌜ (Under f (now store) head) × (Rows f (now store) head r) ⌝ }
+    ensures { λ k. ⌜ k ≡ lastKey f (now (store .entry)) head r ⌝ }
+{
+    let page = store::page_at(store, f, head, r.page);
+    let item = page::read_one(page, f, r.to - 1);
+    item.key
+}
+
+// The walk after the last record of its span. Where next from there visits the same blocks again it stays in them.
+fn advance(store: &[u32], f: Format, head: Head, w: Walk, checked: bool) -> Walk
+    requires { ⌜ (Under f (now store) head) × (Standing f (now store) head w)
+        × (checked ≡ false → spanOf f (now store) head true (lastKey f (now store) head (w .span)) .ok ≡ true) ⌝ }
+    ensures { λ r. ⌜ r ≡ walkOf f (now (store .entry)) head true (lastKey f (now (store .entry)) head (w .span)) ⌝ }
+{
+    let from = w.span;
+    let t = w.terminal;
+    let key = last_key(store, f, head, from);
+    let terminal = terminal_after(store, f, head, t, w.key, key, checked);
+    let span = search::span_at(
+        store,
+        f,
+        head,
+        true,
+        key,
+        terminal,
+        from.page,
+        from.to,
+        checked,
+    );
+    Walk {
+        span,
+        terminal,
+        key,
     }
 }
 
-// The cursor at the first record above the key, or, if not strict, at or above it. Nothing is read once the key reached is high.
-fn seek(store: &[u32], f: Format, head: Head, high: u64, strict: bool, key: u64) -> Cursor
-    requires { ⌜ (head .theta ≤ 6) × (head .capacity ≤ 64) × (head .nodesTaken ≤ 4096) × (1 ≤ head .levels) × (head .levels ≤ 32) ⌝ }
-    ensures { λ r. ⌜ r ≡ cursorFrom f (now (store .entry)) head high strict key ⌝ }
+// Where the records of a span that are not above high end.
+fn end_at(page: &[u32], f: Format, from: usize, to: usize, high: u64) -> usize
+    requires { ⌜ (Filled f (now page)) × (from < to) × (to ≤ count (now page)) × (to < 2 ^ 32) ⌝ }
+    ensures { λ r. ⌜ (r ≡ endOf f (now (page .entry)) from to high) × (from ≤ r) × (r ≤ to) ⌝ }
 {
-    if strict {
-        if key == high {
-            return past_last(true);
-        }
+    let item = page::read_one(page, f, to - 1);
+    if item.key <= high {
+        return to;
     }
-    cursor_at(high, search::next_under(store, f, head, strict, key))
+    let end = page::first_above(page, f, true, high);
+    if end < from {
+        return from;
+    }
+    end
 }
 
 pub enum RangeAnswer {
@@ -89,15 +131,15 @@ pub struct Listing {
     pub more: u64,
 }
 
-// How a range ends after so many records, with the cursor at the first one not written.
-fn listing_of(c: Cursor, count: u64) -> Listing
-    ensures { λ r. ⌜ r ≡ listingOf c count ⌝ }
+// How a range ends after so many records, with no further one.
+fn listing_of(ok: bool, count: u64) -> Listing
+    ensures { λ r. ⌜ r ≡ listingOf ok count ⌝ }
 {
-    if c.ok {
+    if ok {
         return Listing {
             ok: true,
             count,
-            more: c.item.key,
+            more: 0,
         };
     }
     Listing {
@@ -109,47 +151,82 @@ fn listing_of(c: Cursor, count: u64) -> Listing
 
 // The outcome of a range with room for so many records; nothing is written.
 fn list(store: &[u32], f: Format, head: Head, low: u64, high: u64, room: u64) -> Listing
-    requires { ⌜ (head .theta ≤ 6) × (head .capacity ≤ 64) × (head .nodesTaken ≤ 4096) × (1 ≤ head .levels) × (head .levels ≤ 32)
-        × (low ≤ high) ⌝ }
+    requires { ⌜ (Under f (now store) head) × (low ≤ high) ⌝ }
     ensures { λ r. ⌜ (r ≡ listing (ranged f (now (store .entry)) head low high room)) × (r .count ≤ room) ⌝ }
 {
     let mut count: u64 = 0;
-    let mut c = seek(store, f, head, high, false, low);
-    while c.more && count < room {
-        count += 1;
-        c = seek(store, f, head, high, true, c.item.key);
+    let mut w = walk_from(store, f, head, false, low, true);
+    while w.span.page != 0 {
+        let r = w.span;
+        let page = store::page_at(store, f, head, r.page);
+        let end = end_at(page, f, r.from, r.to, high);
+        let n = (end - r.from) as u64;
+        if n > room - count {
+            let first = r.from + (room - count) as usize;
+            let item = page::read_one(page, f, first);
+            return Listing {
+                ok: true,
+                count: room,
+                more: item.key,
+            };
+        }
+        count += n;
+        if last_key(store, f, head, r) >= high {
+            return listing_of(true, count);
+        }
+        w = advance(store, f, head, w, true);
     }
-    listing_of(c, count)
+    listing_of(w.span.ok, count)
 }
 
-// Writes the first n records at or above low.
-fn fill(store: &[u32], f: Format, head: Head, low: u64, n: u64, out: &mut [u32])
-    requires { ⌜ (head .theta ≤ 6) × (head .capacity ≤ 64) × (head .nodesTaken ≤ 4096) × (1 ≤ head .levels) × (head .levels ≤ 32)
-        × (words f * n ≤ length (now out)) × (length (firsts f (now store) head false low n) ≡ n) ⌝ }
-    ensures { λ _. ⌜ now (out .exit) ≡ flat f (firsts f (now (store .entry)) head false low n) ++ drop (words f * n) (now (out .entry)) ⌝ }
+// Copies n records of a page, from number i on, to the front of the output: their words as they stand.
+fn copy_rows(page: &[u32], f: Format, i: usize, n: usize, out: &mut [u32])
+    requires { ⌜ (i + n < 2 ^ 32) × (words f * (i + n) < length (now page)) × (words f * n ≤ length (now out)) ⌝ }
+    ensures { λ _. ⌜ now (out .exit) ≡ part (now (page .entry)) (1 + words f * i) (words f * n) ++ drop (words f * n) (now (out .entry)) ⌝ }
 {
     let w = store::words_of(f);
-    let mut strict = false;
-    let mut k = low;
+    let first = 1 + w * i;
+    let size = w * n;
+    let mut j: usize = 0;
+    while j < size {
+        out[j] = page[first + j];
+        j += 1;
+    }
+}
+
+// The smaller of two numbers.
+fn smaller(a: u64, b: u64) -> u64
+    ensures { λ r. ⌜ r ≡ min a b ⌝ }
+{
+    if a < b {
+        return a;
+    }
+    b
+}
+
+// Writes the first n records at or above low. They were found before, on the same words, so no block is checked again.
+fn fill(store: &[u32], f: Format, head: Head, low: u64, n: u64, out: &mut [u32])
+    requires { ⌜ (Under f (now store) head) × (words f * n ≤ length (now out)) × (length (firsts f (now store) head false low n) ≡ n) ⌝ }
+    ensures { λ _. ⌜ now (out .exit) ≡ flat f (firsts f (now (store .entry)) head false low n) ++ drop (words f * n) (now (out .entry)) ⌝ }
+{
+    if n == 0 {
+        return;
+    }
+    let words = store::words_of(f);
     let mut at: usize = 0;
-    let mut i: u64 = 0;
-    while i < n {
-        let a = search::next_under(store, f, head, strict, k);
-        match a {
-            Sought::Record(item) => {
-                page::write_item(&mut out[at..], f, item);
-                k = item.key;
-                strict = true;
-                at += w;
-                i += 1;
-            }
-            Sought::Nothing => {
-                return;
-            }
-            Sought::Damaged => {
-                return;
-            }
+    let mut left = n;
+    let mut w = walk_from(store, f, head, false, low, false);
+    loop {
+        let r = w.span;
+        let page = store::page_at(store, f, head, r.page);
+        let m = smaller((r.to - r.from) as u64, left);
+        copy_rows(page, f, r.from, m as usize, &mut out[at..]);
+        at += words * m as usize;
+        left -= m;
+        if left == 0 {
+            return;
         }
+        w = advance(store, f, head, w, false);
     }
 }
 
@@ -200,19 +277,50 @@ fn summing_of(ok: bool, totals: Totals) -> Summing
     }
 }
 
-// The totals of the records from low to high: one sheet, lent for each record.
+// The totals with a record added: the sheet is lent.
+fn added(totals: Totals, item: Item, today: u32) -> Totals
+    requires { ⌜ Room totals ⌝ }
+    ensures { λ r. ⌜ r ≡ updatedOf totals item today ⌝ }
+{
+    let mut sheet = totals;
+    totals::add(&mut sheet, item, today);
+    sheet
+}
+
+// The totals with the records of a page from number `from` up to `to`.
+fn add_rows(page: &[u32], f: Format, from: usize, to: usize, today: u32, totals: Totals) -> Totals
+    requires { ⌜ (to < 2 ^ 32) × (words f * to < length (now page)) × (Bounded totals) × (totals .count + (to - from) ≤ 2 ^ 32) ⌝ }
+    ensures { λ r. ⌜ (r ≡ totalsOf totals (rows f (now (page .entry)) from (to - from)) today) × (Bounded r)
+        × (r .count ≡ totals .count + (to - from)) ⌝ }
+{
+    let mut t = totals;
+    let mut i = from;
+    while i < to {
+        let item = page::read_one(page, f, i);
+        t = added(t, item, today);
+        i += 1;
+    }
+    t
+}
+
+// The totals of the records from low to high: one sheet, brought up to date record by record.
 fn sum(store: &[u32], f: Format, head: Head, low: u64, high: u64, today: u32) -> Summing
-    requires { ⌜ (head .theta ≤ 6) × (head .capacity ≤ 64) × (head .nodesTaken ≤ 4096) × (1 ≤ head .levels) × (head .levels ≤ 32)
-        × (low ≤ high) × (high < 2 ^ 32) ⌝ }
+    requires { ⌜ (Under f (now store) head) × (low ≤ high) × (high < 2 ^ 32) ⌝ }
     ensures { λ r. ⌜ r ≡ summed f (now (store .entry)) head low high today ⌝ }
 {
     let mut t = totals::no_totals();
-    let mut c = seek(store, f, head, high, false, low);
-    while c.more {
-        totals::add(&mut t, c.item, today);
-        c = seek(store, f, head, high, true, c.item.key);
+    let mut w = walk_from(store, f, head, false, low, true);
+    while w.span.page != 0 {
+        let r = w.span;
+        let page = store::page_at(store, f, head, r.page);
+        let end = end_at(page, f, r.from, r.to, high);
+        t = add_rows(page, f, r.from, end, today, t);
+        if last_key(store, f, head, r) >= high {
+            return summing_of(true, t);
+        }
+        w = advance(store, f, head, w, true);
     }
-    summing_of(c.ok, t)
+    summing_of(w.span.ok, t)
 }
 
 // Counts the records from low to high, adds up their balances today, and names the earliest to end.

@@ -1,5 +1,5 @@
 -- A descent, visit by visit: what a visited node gives, one turn of the way down, and what a whole way has at its end.
-use mathlib.Core.Path.{_≡_, refl, ap, _∙_}
+use mathlib.Core.Path.{_≡_, refl, sym, ap, _∙_}
 use mathlib.Core.Bool.{Bool, true, false, _&&_, false≢true}
 use mathlib.Core.List.{List}
 use mathlib.Core.Logic.{inl, inr}
@@ -8,62 +8,144 @@ use native.Mathlib.Omega.{arith}
 use lib.Dec.{leb}
 use lib.ListN.{length, getD, length-set, length-replicate}
 use lib.Seq.{getD-set-same}
-use borrow.Author.Tests.{le-leb}
-use Rattle.lists.proofs.Cases.{bool-cases}
+use borrow.Author.Tests.{leb-true, le-leb, ne-eqb}
+use Rattle.lists.proofs.Cases.{bool-cases, by-cases}
 use Rattle.lists.proofs.Tests.{and-true}
 use Rattle.store.specs.declared.Format.{Format}
 use Rattle.store.specs.declared.Head.{Head}
 use Rattle.store.specs.Format.{width}
-use Rattle.store.specs.Head.{nodeStart}
-use Rattle.node.specs.Node.{depthWord, entryDepth, entryPointer, nodeRule, entryNumber}
+use Rattle.store.specs.Head.{nodeStart, InUse}
+use Rattle.node.specs.Node.{depthWord, entryDepth, entryPointer, entryOf, pointerLow, pointerHigh, nodeRule, entryNumber}
 use Rattle.node.proofs.NodeLaws.{node-facts}
-use Rattle.node.proofs.RunWalk.{good-facts}
+use Rattle.node.proofs.RunWalk.{Good, good-facts}
+use Rattle.node.proofs.EntryNumber.{entry-below}
 use Rattle.search.specs.declared.Step.{Step}
 use Rattle.search.specs.declared.Visit.{Visit}
 use Rattle.search.specs.declared.Descent.{Descent}
-use Rattle.search.specs.Descent.{noStep, noSteps, damagedNode, entryVisit, stepOf, lost, stepTaken, descend, descent}
+use Rattle.search.specs.declared.Terminal.{Terminal}
+use Rattle.search.specs.Descent.{noStep, noSteps, damagedNode, entryVisit, soundNode, stepOf, lost, stepTaken, descend, descent}
+use Rattle.search.specs.Descent.{lostTerminal, terminalFrom, ownVisit}
 
--- a visit, by its two tests
+-- a visit
 module _ (f : Format) (s : List ℕ) (h : Head) (k level n used : ℕ) where
-  abbrev Visited : Visit → Type 0
-  Visited v = (v ≡ stepOf f s h k level n used) × (used + v .depth ≤ width f)
-
-  abbrev sound : Bool
-  sound = nodeRule h s (nodeStart h n) level && leb (used + depthWord s (nodeStart h n)) (width f)
-
-  step-damaged : sound ≡ false → damagedNode ≡ stepOf f s h k level n used
+  pub step-damaged : soundNode f s h level n used ≡ false → damagedNode ≡ stepOf f s h k level n used
   unfolding stepOf
   step-damaged e = rw (e, stepOf)
 
-  step-entry : sound ≡ true
-      → entryVisit s (nodeStart h n) (entryNumber (width f) k used (depthWord s (nodeStart h n))) ≡ stepOf f s h k level n used
-  unfolding stepOf
+  pub step-entry : soundNode f s h level n used ≡ true → ownVisit f s h k n used ≡ stepOf f s h k level n used
+  unfolding stepOf ownVisit
   step-entry e = rw (e, stepOf)
 
-  -- a node whose visit succeeds keeps the rule
-  pub visited-rule : stepOf f s h k level n used .ok ≡ true → nodeRule h s (nodeStart h n) level ≡ true
+  -- a visit from numbers that are known of the node
+  pub visit-entry : (d i deep pointer : ℕ) → nodeRule h s (nodeStart h n) level ≡ true → d ≡ depthWord s (nodeStart h n) → used + d ≤ width f
+      → i ≡ entryNumber (width f) k used d → deep ≡ entryDepth s (nodeStart h n) i → pointer ≡ entryPointer s (nodeStart h n) i
+      → record { ok = true; entry = i; depth = deep; pointer = pointer } ≡ stepOf f s h k level n used
+  unfolding ownVisit entryVisit
+  visit-entry d i deep pointer rule e room ei p q =
+      let t : leb (used + depthWord s (nodeStart h n)) (width f) ≡ true = le-leb _ _ (rw e at room) in
+      (rw (p, q, ei, e)) ∙ step-entry (rw (rule, t))
+
+  -- a node whose visit succeeds is sound
+  pub visited-sound : stepOf f s h k level n used .ok ≡ true → soundNode f s h level n used ≡ true
   unfolding damagedNode
-  visited-rule e =
-      elim (bool-cases sound) [
-        | inl a ↦ and-true _ _ a .0
+  visited-sound e =
+      elim (bool-cases (soundNode f s h level n used)) [
+        | inl a ↦ a
         | inr a ↦ absurd (false≢true (ap (λ v. v .ok) (step-damaged a) ∙ e))
       ]
 
-  module _ (at : ℕ) (start : at ≡ nodeStart h n) where
-    pub visit-damaged : (a b : Bool) → a ≡ nodeRule h s at level → b ≡ leb (used + depthWord s at) (width f) → (a && b) ≡ false
-        → used ≤ width f → Visited (record { ok = false; entry = 0; depth = 0; pointer = 0 })
-    unfolding damagedNode
-    visit-damaged a b p q e room = (step-damaged (rw (← start, ← p, ← q) e), omega arith)
+  pub visited-rule : stepOf f s h k level n used .ok ≡ true → nodeRule h s (nodeStart h n) level ≡ true
+  visited-rule e = and-true _ _ (visited-sound e) .0
 
-    pub visit-entry : (d i deep pointer : ℕ) → nodeRule h s at level ≡ true → d ≡ depthWord s at → used + d ≤ width f
-        → i ≡ entryNumber (width f) k used d → i < 2 ^ d → deep ≡ entryDepth s at i → pointer ≡ entryPointer s at i
-        → Visited (record { ok = true; entry = i; depth = deep; pointer = pointer })
-    unfolding entryVisit
-    visit-entry d i deep pointer rule e room ei below p q =
-        let runs = good-facts _ _ _ _ (node-facts h s at level rule .runs) in
-        let within : entryDepth s at i ≤ depthWord s at = runs .rule i (rw e at below) .0 in
-        let t : leb (used + depthWord s at) (width f) ≡ true = le-leb _ _ (rw e at room) in
-        ((rw (← start, ← e, ← ei, p, q)) ∙ step-entry (rw (← start, rule, t)), omega arith)
+  -- the key's entry in a sound node
+  module _ (e : soundNode f s h level n used ≡ true) where
+    rule : nodeRule h s (nodeStart h n) level ≡ true
+    rule = and-true (nodeRule h s (nodeStart h n) level) _ e .0
+
+    runs : Good (depthWord s (nodeStart h n)) (pointerLow level) (pointerHigh h level) (entryOf s (nodeStart h n))
+    runs = good-facts _ _ _ _ (node-facts h s (nodeStart h n) level rule .runs)
+
+    pub node-deep : depthWord s (nodeStart h n) ≤ h .theta
+    node-deep = node-facts h s (nodeStart h n) level rule .depth
+
+    pub node-bits : used + depthWord s (nodeStart h n) ≤ width f
+    node-bits = leb-true _ _ (and-true (nodeRule h s (nodeStart h n) level) _ e .1)
+
+    pub own-bits : used + ownVisit f s h k n used .depth ≤ width f
+    unfolding ownVisit entryVisit
+    own-bits = omega (arith, runs .rule _ (entry-below (width f) k used (depthWord s (nodeStart h n))) .0, node-bits)
+
+    pub own-pointer : (pointerLow level ≤ ownVisit f s h k n used .pointer) × (ownVisit f s h k n used .pointer ≤ pointerHigh h level)
+    unfolding ownVisit entryVisit
+    own-pointer = runs .pointers _ (entry-below (width f) k used (depthWord s (nodeStart h n)))
+
+-- above level 1 an entry leads to a node in use
+pub own-in-use : (f : Format) (s : List ℕ) (h : Head) (k level n used : ℕ) → soundNode f s h level n used ≡ true → 1 < level
+    → InUse h (ownVisit f s h k n used .pointer)
+unfolding pointerLow pointerHigh
+own-in-use f s h k level n used e up =
+    let p = rw (ne-eqb level 1 (λ z. omega arith), pointerLow, pointerHigh) at (own-pointer f s h k level n used e) in
+    record { positive = p .0; within = p .1 }
+
+-- what the code has of a visit, v, that succeeded
+module _ (f : Format) (s : List ℕ) (h : Head) (k level n used : ℕ) {v : Visit} (e : v ≡ stepOf f s h k level n used) (o : v .ok ≡ true) where
+  seen : soundNode f s h level n used ≡ true
+  seen = visited-sound f s h k level n used (sym (ap (λ x. x .ok) e) ∙ o)
+
+  pub seen-own : v ≡ ownVisit f s h k n used
+  seen-own = e ∙ sym (step-entry f s h k level n used seen)
+
+  pub seen-bits : used + v .depth ≤ width f
+  seen-bits = rw seen-own (own-bits f s h k level n used seen)
+
+  pub seen-in-use : 1 < level → InUse h (v .pointer)
+  seen-in-use up = rw seen-own (own-in-use f s h k level n used seen up)
+
+-- one turn of the way to the terminal node
+module _ (f : Format) (s : List ℕ) (h : Head) (k l n used : ℕ) (v : Visit) (e : v ≡ stepOf f s h k (suc (suc l)) n used) where
+  way-step : v .ok ≡ true → terminalFrom f s h k l (v .pointer) (used + v .depth) ≡ terminalFrom f s h k (suc l) n used
+  unfolding terminalFrom
+  way-step p = rw e (sym (rw (rw e at p, terminalFrom)))
+
+  way-end : v .ok ≡ false → lostTerminal ≡ terminalFrom f s h k (suc l) n used
+  unfolding terminalFrom
+  way-end p = sym (rw (rw e at p, terminalFrom))
+
+-- the same as a loop has it: what is left of the way is the whole, R
+module _ (f : Format) (s : List ℕ) (h : Head) (k level n used : ℕ) (R : Terminal) (inv : terminalFrom f s h k (level - 1) n used ≡ R) where
+  module _ (v : Visit) (e : v ≡ stepOf f s h k level n used) (up : 1 < level) where
+    whole : terminalFrom f s h k (suc (level - 2)) n used ≡ R
+    whole = let z : suc (level - 2) ≡ level - 1 = omega arith in ap (λ l. terminalFrom f s h k l n used) z ∙ inv
+
+    visit : v ≡ stepOf f s h k (suc (suc (level - 2))) n used
+    visit = let z : level ≡ suc (suc (level - 2)) = omega arith in e ∙ ap (λ l. stepOf f s h k l n used) z
+
+    pub way-lost : v .ok ≡ false → lostTerminal ≡ R
+    way-lost p = way-end f s h k (level - 2) n used v visit p ∙ whole
+
+    pub way-on : v .ok ≡ true → terminalFrom f s h k (level - 1 - 1) (v .pointer) (used + v .depth) ≡ R
+    way-on p =
+        let z : level - 1 - 1 ≡ level - 2 = omega arith in
+        ap (λ l. terminalFrom f s h k l (v .pointer) (used + v .depth)) z ∙ way-step f s h k (level - 2) n used v visit p ∙ whole
+
+    -- a way with an end passes a sound node
+    pub way-visited : R .ok ≡ true → v .ok ≡ true
+    unfolding lostTerminal
+    way-visited o = by-cases (v .ok) (λ p. p) (λ p. absurd (false≢true (ap (λ t. t .ok) (way-lost p) ∙ o)))
+
+  module _ (last : level ≡ 1) where
+    pub way-sound : soundNode f s h 1 n used ≡ true → record { ok = true; node = n; used = used } ≡ R
+    unfolding terminalFrom
+    way-sound t = sym (rw (t, terminalFrom)) ∙ rw last at inv
+
+    pub way-unsound : soundNode f s h 1 n used ≡ false → lostTerminal ≡ R
+    unfolding terminalFrom
+    way-unsound t = sym (rw (t, terminalFrom)) ∙ rw last at inv
+
+    pub way-ends : R .ok ≡ true → soundNode f s h 1 n used ≡ true
+    unfolding lostTerminal
+    way-ends o =
+        by-cases (soundNode f s h 1 n used) (λ p. p) (λ p. absurd (false≢true (ap (λ t. t .ok) (way-unsound p) ∙ o)))
 
 -- one turn
 module _ (f : Format) (s : List ℕ) (h : Head) (k : ℕ) where
@@ -103,10 +185,10 @@ module _ (f : Format) (s : List ℕ) (h : Head) (k : ℕ) where
         | inr a ↦ absurd (false≢true (ap (λ d. d .ok) (step-lost l n used steps _ refl a) ∙ e))
       ]
 
-  abbrev Terminal : Descent → Type 0
-  Terminal d = d .ok ≡ true → nodeRule h s (nodeStart h (getD (d .steps) 0 noStep .node)) 1 ≡ true
+  abbrev Ends : Descent → Type 0
+  Ends d = d .ok ≡ true → nodeRule h s (nodeStart h (getD (d .steps) 0 noStep .node)) 1 ≡ true
 
-  ends : (level n used : ℕ) (steps : List Step) → 1 ≤ level → level ≤ length steps → Terminal (descend f s h k level n used steps)
+  ends : (level n used : ℕ) (steps : List Step) → 1 ≤ level → level ≤ length steps → Ends (descend f s h k level n used steps)
   unfolding descend stepTaken
   ends zero n used steps low room ok = absurd (omega arith)
   ends (suc zero) n used steps low room ok =
@@ -119,6 +201,6 @@ module _ (f : Format) (s : List ℕ) (h : Head) (k : ℕ) where
       rw (← d) (ends (suc l) _ _ more (omega arith) (rw length-set (omega arith)) (rw (← d) at ok))
 
   -- the node of step 0 is a sound one of level 1
-  pub terminal-depth : 1 ≤ h .levels → h .levels ≤ 32 → Terminal (descent f s h k)
+  pub terminal-depth : 1 ≤ h .levels → h .levels ≤ 32 → Ends (descent f s h k)
   unfolding descent noSteps
   terminal-depth low high = ends (h .levels) (h .root) 0 noSteps low (rw length-replicate high)

@@ -14,7 +14,6 @@ use Rattle.store.specs.declared.Format.{Format}
 use Rattle.store.specs.declared.Head.{Head}
 use Rattle.store.specs.declared.Item.{Item}
 use Rattle.store.specs.Head.{headOf, headRule, pageAt}
-use Rattle.store.proofs.HeadLaws.{head-facts, levels-within}
 use Rattle.page.specs.Page.{count, itemAt, keyAt, lawfulItem, pageRule, agrees, firstAbove}
 use Rattle.page.proofs.Laws.{rule-facts}
 use Rattle.search.specs.declared.Descent.{Descent}
@@ -27,6 +26,10 @@ pub sound-is : (f : Format) (h : Head) (pg : List ℕ) (k used : ℕ) (a b : Boo
     → (a && b) ≡ soundPage f h pg k used
 unfolding soundPage
 sound-is f h pg k used a b p q = rw (p, q)
+
+pub sound-rule : (f : Format) (h : Head) (pg : List ℕ) (k used : ℕ) → soundPage f h pg k used ≡ true → pageRule f (h .capacity) pg ≡ true
+unfolding soundPage
+sound-rule f h pg k used e = and-true (pageRule f (h .capacity) pg) (agrees f pg k used) e .0
 
 pub sound-lawful : (f : Format) (h : Head) (pg : List ℕ) (k used i : ℕ) → soundPage f h pg k used ≡ true → i < count pg
     → lawfulItem f (itemAt f pg i) ≡ true
@@ -112,16 +115,3 @@ broken f s a e = rw (e, checked)
 pub answered : (f : Format) (s : List ℕ) (a : Sought) → headRule f s ≡ true → soughtReply a ≡ checked f s a
 unfolding checked
 answered f s a e = rw (e, checked)
-
--- what a head that keeps the rule has
-pub head-limits : (f : Format) (s : List ℕ) → headRule f s ≡ true
-    → let h = headOf s in (h .theta ≤ 6) × (h .capacity ≤ 64) × (h .nodesTaken ≤ 4096) × (1 ≤ h .levels) × (h .levels ≤ 32)
-head-limits f s e =
-    let t = head-facts f s e in
-    let l = levels-within f (headOf s .theta) (headOf s .capacity) (t .limits .theta-low) in (
-      t .limits .theta,
-      t .limits .capacity,
-      omega (arith, t .counts .taken, t .limits .nodes),
-      t .counts .levels-low,
-      omega (arith, t .counts .levels),
-    )

@@ -2,4 +2,11 @@ pub mod DescentLaws
 pub mod FindLaws
 pub mod NextLaws
 pub mod FromLaws
+pub mod TerminalLaws
+pub mod WithinLaws
+pub mod SpanLaws
+pub mod BlockLaws
+pub mod UseLaws
+pub mod ReachLaws
+pub mod RowLaws
 pub mod Promises

@@ -1,23 +1,23 @@
 -- The way on from a key's own page, test by test, and what it gives: a lawful record with a key above the given one.
 --   Walked s b H start i == the walk over the entries of a node from entry start on stands at entry i
---   Deep s h x           == the hop x leads to a node of a lawful depth, if to any
---   Given a, HopGiven x  == the answer a, or the hop x, gives no record or a lawful one with a key above k
+--   Ruled s h x          == the hop x leads to a node that keeps the node rule, if to any
+--   Given a              == the answer a gives no record or a lawful one with a key above k
 use mathlib.Core.Path.{_≡_, refl, sym, ap, _∙_, subst}
 use mathlib.Core.Bool.{Bool, true, false, _&&_}
 use mathlib.Core.List.{List}
 use Prim.Native.Nat.{ℕ, zero, suc, _+_, _-_, _%_, _^_, _≤_, _<_}
 use native.Mathlib.Omega.{arith}
-use lib.Dec.{ltb, eqb}
+use lib.Dec.{leb, ltb, eqb}
 use lib.Pow.{pow-pos, pow-mono}
-use borrow.Author.Tests.{lt-ltb, le-ltb, ltb-true, eq-eqb, ne-eqb}
+use borrow.Author.Tests.{leb-true, lt-ltb, le-ltb, ltb-true, eqb-false, eq-eqb, ne-eqb}
 use Rattle.lists.specs.Lists.{every}
 use Rattle.lists.proofs.Cases.{by-cases}
 use Rattle.lists.proofs.Tests.{and-true}
 use Rattle.store.specs.declared.Format.{Format}
 use Rattle.store.specs.declared.Head.{Head}
 use Rattle.store.specs.declared.Item.{Item}
-use Rattle.store.specs.Head.{nodeStart, pageAt}
-use Rattle.node.specs.Node.{depthWord, backWord, forwardWord, entryDepth, entryPointer, nodeRule}
+use Rattle.store.specs.Head.{nodeStart, pageAt, InUse}
+use Rattle.node.specs.Node.{depthWord, backWord, forwardWord, entryDepth, entryPointer, linkRule, nodeRule}
 use Rattle.node.proofs.NodeLaws.{node-facts}
 use Rattle.page.specs.Page.{count, itemAt, keyAt, lawfulItem, pageRule, above, firstAbove}
 use Rattle.page.proofs.Laws.{rule-facts, all-above, first-facts}
@@ -25,11 +25,14 @@ use Rattle.search.specs.declared.Descent.{Descent}
 use Rattle.search.specs.declared.Step.{Step}
 use Rattle.search.specs.declared.Sought.{Sought}
 use Rattle.search.specs.declared.Sought.the-variants.{Record, Nothing, Damaged}
+use Rattle.search.specs.declared.Reached.{Reached}
+use Rattle.search.specs.declared.Reached.the-variants.{Page, Past, Broken}
 use Rattle.search.specs.declared.Hop.{Hop}
 use Rattle.search.specs.declared.Hop.the-variants.{Ends, On}
 use Rattle.search.specs.Descent.{descent}
 use Rattle.search.specs.Find.{soundPage}
-use Rattle.search.specs.Next.{firstPointer, runAfter, visitAfter, linked, onward, hop, follow, afterOwn, fromDescent, nextOf}
+use Rattle.search.specs.Next.{firstPointer, runAfter, visitAfter, linked, onward, pointerFrom, hop, reach, visited, behind}
+use Rattle.search.specs.Next.{afterOwn, fromDescent, nextOf}
 use Rattle.search.proofs.FindLaws.{sound-lawful}
 
 -- where the next run starts, from numbers that the code has
@@ -104,71 +107,59 @@ module _ (f : Format) (s : List ℕ) (h : Head) (strict : Bool) (k p : ℕ) {pg 
     unfolding visitAfter
     visit-gives q = sym (rw (rw e at t, same-key q, visitAfter) (sym (ap Record (rw e at ei))))
 
--- a forward link; b is where the code has the node's block
-pub linked-is :
-    (h : Head) (s : List ℕ) (m n b : ℕ) (x y : Bool) →
-    b ≡ nodeStart h m →
-    x ≡ nodeRule h s b 1 →
-    y ≡ eqb (backWord s b) n →
-    (x && y) ≡ linked h s m n
-unfolding linked
-linked-is h s m n b x y e p q = rw (p, q, e)
+-- a node that a terminal node links to is in use
+module _ (h : Head) (s : List ℕ) (n : ℕ) (t : nodeRule h s (nodeStart h n) 1 ≡ true) where
+  pub forward-within : forwardWord s (nodeStart h n) ≤ h .nodesTaken
+  unfolding linkRule
+  forward-within =
+      let b : ℕ = nodeStart h n in
+      leb-true _ _ (and-true (leb (backWord s b) (h .nodesTaken)) (leb (forwardWord s b) (h .nodesTaken)) (node-facts h s b 1 t .links) .1)
 
-module _ (h : Head) (s : List ℕ) (n left : ℕ) {b m : ℕ} (eb : b ≡ nodeStart h n) (em : m ≡ forwardWord s b) where
-  abbrev forward : ℕ
-  forward = forwardWord s (nodeStart h n)
+  pub forward-used : (forwardWord s (nodeStart h n) ≡ 0 → ⊥) → InUse h (forwardWord s (nodeStart h n))
+  forward-used z = record { positive = omega arith; within = forward-within }
 
-  there : m ≡ forward
-  there = em ∙ ap (forwardWord s) eb
-
-  pub onward-none : m ≡ 0 → Ends Nothing ≡ onward h s n left
+-- the node after n; m is what the code has of its forward link
+module _ (h : Head) (s : List ℕ) (n left : ℕ) {m : ℕ} (em : m ≡ forwardWord s (nodeStart h n)) where
+  pub onward-none : m ≡ 0 → Ends Past ≡ onward h s n left
   unfolding onward
-  onward-none z = sym (rw (eq-eqb forward 0 (sym there ∙ z), onward))
+  onward-none z = sym (rw (eq-eqb _ 0 (sym em ∙ z), onward))
 
   module _ (z : m ≡ 0 → ⊥) where
-    more : eqb forward 0 ≡ false
-    more = ne-eqb forward 0 (λ q. z (there ∙ q))
+    more : eqb (forwardWord s (nodeStart h n)) 0 ≡ false
+    more = ne-eqb _ 0 (λ q. z (em ∙ q))
 
-    pub onward-spent : left ≡ 0 → Ends Damaged ≡ onward h s n left
+    pub onward-spent : left ≡ 0 → Ends Broken ≡ onward h s n left
     unfolding onward
     onward-spent l = sym (rw (more, eq-eqb left 0 l, onward))
 
     module _ (l : left ≡ 0 → ⊥) where
-      pub onward-broken : linked h s m n ≡ false → Ends Damaged ≡ onward h s n left
+      pub onward-broken : linked h s m n ≡ false → Ends Broken ≡ onward h s n left
       unfolding onward
-      onward-broken t = sym (rw (more, ne-eqb left 0 l, rw there at t, onward))
+      onward-broken t = sym (rw (more, ne-eqb left 0 l, rw em at t, onward))
 
       pub onward-goes : linked h s m n ≡ true → On m ≡ onward h s n left
       unfolding onward
-      onward-goes t = sym (rw (more, ne-eqb left 0 l, rw there at t, onward) (ap On (sym there)))
+      onward-goes t = sym (rw (more, ne-eqb left 0 l, rw em at t, onward) (ap On (sym em)))
 
--- a node's depth as the code has it
-pub depth-small : (s : List ℕ) (h : Head) (n : ℕ) {b d : ℕ} → b ≡ nodeStart h n → d ≡ depthWord s b
-    → depthWord s (nodeStart h n) ≤ h .theta → h .theta ≤ 6 → d ≤ 6
-depth-small s h n eb ed l m = omega (arith, ed ∙ ap (depthWord s) eb)
+      -- where no damage is met the node is linked
+      pub onward-linked : (onward h s n left ≡ Ends Broken → ⊥) → linked h s m n ≡ true
+      onward-linked ok = by-cases (linked h s m n) (λ t. t) (λ t. absurd (ok (sym (onward-broken t))))
 
--- a hop
-module _ (f : Format) (s : List ℕ) (h : Head) (strict : Bool) (k n i left : ℕ) {b d p : ℕ} (eb : b ≡ nodeStart h n)
-    (ed : d ≡ depthWord s b) (ep : p ≡ firstPointer s b d 64 i) where
-  abbrev first : ℕ
-  first = firstPointer s (nodeStart h n) (depthWord s (nodeStart h n)) 64 i
-
-  found : p ≡ first
-  found = ep ∙ ap (λ (x : ℕ). firstPointer s b x 64 i) ed ∙ ap (λ (x : ℕ). firstPointer s x (depthWord s x) 64 i) eb
-
-  pub hop-ends : {a : Sought} → (p ≡ 0 → ⊥) → a ≡ visitAfter f s h strict k p → Ends a ≡ hop f s h strict k n i left
+-- a hop; p is what the code has of the first pointer
+module _ (s : List ℕ) (h : Head) (n i left : ℕ) {p : ℕ} (ep : p ≡ pointerFrom s h n i) where
+  pub hop-ends : (p ≡ 0 → ⊥) → Ends (Page p) ≡ hop s h n i left
   unfolding hop
-  hop-ends z e = sym (rw (ne-eqb first 0 (λ q. z (found ∙ q)), hop) (ap Ends (sym (rw found at e))))
+  hop-ends z = sym (rw (ne-eqb (pointerFrom s h n i) 0 (λ q. z (ep ∙ q)), hop) (ap (λ x. Ends (Page x)) (sym ep)))
 
-  pub hop-onward : {r : Hop} → p ≡ 0 → r ≡ onward h s n left → r ≡ hop f s h strict k n i left
+  pub hop-onward : p ≡ 0 → onward h s n left ≡ hop s h n i left
   unfolding hop
-  hop-onward z e = sym (rw (eq-eqb first 0 (sym found ∙ z), hop) (sym e))
+  hop-onward z = sym (rw (eq-eqb (pointerFrom s h n i) 0 (sym ep ∙ z), hop))
 
 -- what holds of each outcome holds of the link and of the hop
 module _ (P : Hop → Type 0) (h : Head) (s : List ℕ) (n left : ℕ) where
   onward-rule :
-      P (Ends Nothing) →
-      P (Ends Damaged) →
+      P (Ends Past) →
+      P (Ends Broken) →
       (linked h s (forwardWord s (nodeStart h n)) n ≡ true → P (On (forwardWord s (nodeStart h n)))) →
       P (onward h s n left)
   unfolding onward
@@ -183,79 +174,81 @@ module _ (P : Hop → Type 0) (h : Head) (s : List ℕ) (n left : ℕ) where
       (λ t. rw (z, l, t, onward) (goes t))
       (λ t. rw (z, l, t, onward) damaged)))
 
-  hop-rule :
-      (f : Format) (strict : Bool) (k i : ℕ) →
-      ((p : ℕ) → P (Ends (visitAfter f s h strict k p))) →
-      P (onward h s n left) →
-      P (hop f s h strict k n i left)
+  hop-rule : (i : ℕ) → ((p : ℕ) → (p ≡ 0 → ⊥) → P (Ends (Page p))) → P (onward h s n left) → P (hop s h n i left)
   unfolding hop
-  hop-rule f strict k i ends goes =
-      by-cases (eqb (firstPointer s (nodeStart h n) (depthWord s (nodeStart h n)) 64 i) 0)
+  hop-rule i ends goes =
+      by-cases (eqb (pointerFrom s h n i) 0)
       (λ z. rw (z, hop) goes)
-      (λ z. rw (z, hop) (ends _))
+      (λ z. rw (z, hop) (ends _ (eqb-false _ _ z)))
 
 -- a node that a link leads to keeps the node rule
-linked-deep : (h : Head) (s : List ℕ) (m n : ℕ) → linked h s m n ≡ true → depthWord s (nodeStart h m) ≤ h .theta
+linked-rule : (h : Head) (s : List ℕ) (m n : ℕ) → linked h s m n ≡ true → nodeRule h s (nodeStart h m) 1 ≡ true
 unfolding linked
-linked-deep h s m n t = node-facts h s (nodeStart h m) 1 (and-true _ _ t .0) .depth
+linked-rule h s m n t = and-true _ _ t .0
 
-abbrev Deep : List ℕ → Head → Hop → Type 0
-Deep s h (Ends a) = Unit {0}
-Deep s h (On m) = depthWord s (nodeStart h m) ≤ h .theta
+abbrev Ruled : List ℕ → Head → Hop → Type 0
+Ruled s h (Ends a) = Unit {0}
+Ruled s h (On m) = nodeRule h s (nodeStart h m) 1 ≡ true
 
-module _ (f : Format) (s : List ℕ) (h : Head) (strict : Bool) (k : ℕ) where
-  pub hop-on : (n i left m : ℕ) → hop f s h strict k n i left ≡ On m → depthWord s (nodeStart h m) ≤ h .theta
+module _ (s : List ℕ) (h : Head) where
+  pub hop-on : (n i left m : ℕ) → hop s h n i left ≡ On m → nodeRule h s (nodeStart h m) 1 ≡ true
   hop-on n i left m e =
-      subst (Deep s h) e
-      (hop-rule (Deep s h) h s n left f strict k i (λ p. tt) (onward-rule (Deep s h) h s n left tt tt (linked-deep h s _ n)))
+      subst (Ruled s h) e (hop-rule (Ruled s h) h s n left i (λ p q. tt) (onward-rule (Ruled s h) h s n left tt tt (linked-rule h s _ n)))
 
   -- turn by turn
-  pub follow-spent : (n i : ℕ) → follow f s h strict k 0 n i ≡ Damaged
-  unfolding follow
-  follow-spent n i = refl
+  pub reach-ends : (left n i : ℕ) (a : Reached) → hop s h n i left ≡ Ends a → reach s h (suc left) n i ≡ a
+  unfolding reach
+  reach-ends left n i a e = rw (e, reach)
 
-  pub follow-ends : (left n i : ℕ) (a : Sought) → hop f s h strict k n i left ≡ Ends a → follow f s h strict k (suc left) n i ≡ a
-  unfolding follow
-  follow-ends left n i a e = rw (e, follow)
+  pub reach-on : (left n i m : ℕ) → hop s h n i left ≡ On m → reach s h (suc left) n i ≡ reach s h left m 0
+  unfolding reach
+  reach-on left n i m e = rw (e, reach)
 
-  pub follow-on : (left n i m : ℕ) → hop f s h strict k n i left ≡ On m
-      → follow f s h strict k (suc left) n i ≡ follow f s h strict k left m 0
-  unfolding follow
-  follow-on left n i m e = rw (e, follow)
+  pub reach-spent : (n i : ℕ) → Broken ≡ reach s h 0 n i
+  unfolding reach
+  reach-spent n i = refl
+
+  -- a page that is reached is no null
+  abbrev pub Some : Reached → Type 0
+  Some (Page p) = p ≡ 0 → ⊥
+  Some Past = Unit {0}
+  Some Broken = Unit {0}
+
+  abbrev HopSome : Hop → Type 0
+  HopSome (Ends a) = Some a
+  HopSome (On m) = Unit {0}
+
+  reach-step : (left : ℕ) → ((m : ℕ) → Some (reach s h left m 0)) → (n i : ℕ) (x : Hop) → hop s h n i left ≡ x → HopSome x
+      → Some (reach s h (suc left) n i)
+  reach-step left rest n i (Ends a) e q = subst Some (sym (reach-ends left n i a e)) q
+  reach-step left rest n i (On m) e q = subst Some (sym (reach-on left n i m e)) (rest m)
+
+  pub reach-some : (turns n i : ℕ) → Some (reach s h turns n i)
+  reach-some zero n i = subst Some (reach-spent n i) tt
+  reach-some (suc left) n i =
+      reach-step left (λ m. reach-some left m 0) n i (hop s h n i left) refl
+      (hop-rule HopSome h s n left i (λ p q. q) (onward-rule HopSome h s n left tt tt (λ t. tt)))
 
   -- a turn of the code, with the hop r
-  module _ (turns n i : ℕ) {r : Hop} (some : 0 < turns) (er : r ≡ hop f s h strict k n i (turns - 1)) where
+  module _ (turns n i : ℕ) {r : Hop} (some : 0 < turns) (er : r ≡ hop s h n i (turns - 1)) where
     one-more : suc (turns - 1) ≡ turns
     one-more = omega arith
 
-    pub turn-ends : {a : Sought} → r ≡ Ends a → a ≡ follow f s h strict k turns n i
-    turn-ends {a} e = sym (follow-ends (turns - 1) n i a (sym er ∙ e)) ∙ ap (λ (t : ℕ). follow f s h strict k t n i) one-more
+    pub turn-ends : {a : Reached} → r ≡ Ends a → a ≡ reach s h turns n i
+    turn-ends {a} e = sym (reach-ends (turns - 1) n i a (sym er ∙ e)) ∙ ap (λ (t : ℕ). reach s h t n i) one-more
 
-    pub turn-on : {m : ℕ} → r ≡ On m → follow f s h strict k (turns - 1) m 0 ≡ follow f s h strict k turns n i
-    turn-on {m} e = sym (follow-on (turns - 1) n i m (sym er ∙ e)) ∙ ap (λ (t : ℕ). follow f s h strict k t n i) one-more
+    pub turn-on : {m : ℕ} → r ≡ On m → reach s h (turns - 1) m 0 ≡ reach s h turns n i
+    turn-on {m} e = sym (reach-on (turns - 1) n i m (sym er ∙ e)) ∙ ap (λ (t : ℕ). reach s h t n i) one-more
 
-    pub turn-deep : {m : ℕ} → r ≡ On m → depthWord s (nodeStart h m) ≤ h .theta
-    turn-deep {m} e = hop-on n i (turns - 1) m (sym er ∙ e)
+    pub turn-rule : {m : ℕ} → r ≡ On m → nodeRule h s (nodeStart h m) 1 ≡ true
+    turn-rule {m} e = hop-on n i (turns - 1) m (sym er ∙ e)
 
-  pub own-is :
-      (t : Step) {b d start : ℕ} {a : Sought} →
-      b ≡ nodeStart h (t .node) →
-      d ≡ depthWord s b →
-      start ≡ runAfter d (t .depth) (t .entry) →
-      a ≡ follow f s h strict k (h .nodesTaken + 1) (t .node) start →
-      a ≡ afterOwn f s h strict k t
-  unfolding afterOwn
-  own-is t eb ed es ea = rw (es, ed, eb) at ea
-
+module _ (f : Format) (s : List ℕ) (h : Head) (strict : Bool) (k : ℕ) where
   -- every record that is given is lawful and has a key above
   abbrev Given : Sought → Type 0
   Given (Record it) = (above strict k (it .key) ≡ true) × (lawfulItem f it ≡ true)
   Given Nothing = Unit {0}
   Given Damaged = Unit {0}
-
-  abbrev HopGiven : Hop → Type 0
-  HopGiven (Ends a) = Given a
-  HopGiven (On m) = Unit {0}
 
   visit-given : (p : ℕ) → Given (visitAfter f s h strict k p)
   visit-given p =
@@ -268,22 +261,15 @@ module _ (f : Format) (s : List ℕ) (h : Head) (strict : Bool) (k : ℕ) where
       (λ a. subst Given (visit-below f s h strict k p refl t refl a) tt))
       (λ t. subst Given (visit-broken f s h strict k p refl t) tt)
 
-  hop-given : (n i left : ℕ) → HopGiven (hop f s h strict k n i left)
-  hop-given n i left =
-      hop-rule HopGiven h s n left f strict k i visit-given (onward-rule HopGiven h s n left tt tt (λ t. tt))
-
-  follow-step : (left : ℕ) → ((m : ℕ) → Given (follow f s h strict k left m 0)) → (n i : ℕ) (x : Hop)
-      → hop f s h strict k n i left ≡ x → HopGiven x → Given (follow f s h strict k (suc left) n i)
-  follow-step left rest n i (Ends a) e q = subst Given (sym (follow-ends left n i a e)) q
-  follow-step left rest n i (On m) e q = subst Given (sym (follow-on left n i m e)) (rest m)
-
-  follow-given : (turns n i : ℕ) → Given (follow f s h strict k turns n i)
-  follow-given zero n i = subst Given (sym (follow-spent n i)) tt
-  follow-given (suc left) n i = follow-step left (λ m. follow-given left m 0) n i (hop f s h strict k n i left) refl (hop-given n i left)
+  visited-given : (a : Reached) → Given (visited f s h strict k a)
+  unfolding visited
+  visited-given (Page p) = visit-given p
+  visited-given Past = tt
+  visited-given Broken = tt
 
   own-given : (t : Step) → Given (afterOwn f s h strict k t)
   unfolding afterOwn
-  own-given t = follow-given _ _ _
+  own-given t = visited-given _
 
   descent-given : (d : Descent) → Given (fromDescent f s h strict k d)
   unfolding fromDescent

@@ -6,21 +6,28 @@
 --   noStep, noSteps              == a step not taken; a path before its first step
 --   damagedNode, entryVisit s b i == what a visit gives: damage, or entry i of the node block at b
 --   stepTaken steps l n used v   == the path with the step of level l + 1
+--   soundNode f s h level n used == node n, reached after the used bits, keeps the rules of a node on a path at this level
+--   TerminalNode h s n           == n is a terminal (level-1) node in use that keeps the node rule
+--   terminalFrom f s h k l n used == the terminal node of the key k, from node n on, which is l levels above it
+--   terminal f s h k             == the same from the root: the path without its steps
+--   ownVisit f s h k n used      == the key's entry in its terminal node n
 -- A step is the node, the key's entry number in it, that entry's local depth, and the bits used before the node; the step of level l
 -- stands at l − 1 of the 32 steps.
-use mathlib.Core.Bool.{true, false, _&&_}
+use mathlib.Core.Path.{_≡_}
+use mathlib.Core.Bool.{Bool, true, false, _&&_}
 use mathlib.Core.List.{List}
-use Prim.Native.Nat.{ℕ, zero, suc, _+_}
+use Prim.Native.Nat.{ℕ, zero, suc, _+_, _-_}
 use lib.Dec.{leb}
 use lib.ListN.{set, replicate}
 use Rattle.store.specs.declared.Format.{Format}
 use Rattle.store.specs.declared.Head.{Head}
 use Rattle.store.specs.Format.{width}
-use Rattle.store.specs.Head.{nodeStart}
+use Rattle.store.specs.Head.{nodeStart, InUse}
 use Rattle.node.specs.Node.{depthWord, entryDepth, entryPointer, nodeRule, entryNumber}
 use Rattle.search.specs.declared.Step.{Step}
 use Rattle.search.specs.declared.Visit.{Visit}
 use Rattle.search.specs.declared.Descent.{Descent}
+use Rattle.search.specs.declared.Terminal.{Terminal}
 
 abbrev pub noStep : Step
 noStep = record { node = 0; entry = 0; depth = 0; used = 0 }
@@ -36,9 +43,12 @@ unfoldable pub entryVisit : List ℕ → ℕ → ℕ → Visit
 entryVisit s b i = record { ok = true; entry = i; depth = entryDepth s b i; pointer = entryPointer s b i }
 
 -- "On a path, the bits used before a node and its H together are at most 32"
+abbrev pub soundNode : Format → List ℕ → Head → ℕ → ℕ → ℕ → Bool
+soundNode f s h level n used = nodeRule h s (nodeStart h n) level && leb (used + depthWord s (nodeStart h n)) (width f)
+
 unfoldable pub stepOf : Format → List ℕ → Head → ℕ → ℕ → ℕ → ℕ → Visit
 stepOf f s h k level n used =
-    elim (nodeRule h s (nodeStart h n) level && leb (used + depthWord s (nodeStart h n)) (width f)) [
+    elim (soundNode f s h level n used) [
       | true ↦ entryVisit s (nodeStart h n) (entryNumber (width f) k used (depthWord s (nodeStart h n)))
       | false ↦ damagedNode
     ]
@@ -63,3 +73,26 @@ descend f s h k (suc l) n used steps =
 -- "The root's level is the head's."
 unfoldable pub descent : Format → List ℕ → Head → ℕ → Descent
 descent f s h k = descend f s h k (h .levels) (h .root) 0 noSteps
+
+pub record TerminalNode (h : Head) (s : List ℕ) (n : ℕ) : Type 0 where
+  pub in-use : InUse h n
+  pub rule : nodeRule h s (nodeStart h n) 1 ≡ true
+
+unfoldable pub lostTerminal : Terminal
+lostTerminal = record { ok = false; node = 0; used = 0 }
+
+-- find and next need the end of the path only
+unfoldable pub terminalFrom : Format → List ℕ → Head → ℕ → ℕ → ℕ → ℕ → Terminal
+terminalFrom f s h k zero n used =
+    elim (soundNode f s h 1 n used) [ true ↦ record { ok = true; node = n; used = used } | false ↦ lostTerminal ]
+terminalFrom f s h k (suc l) n used =
+    elim (stepOf f s h k (suc (suc l)) n used .ok) [
+      | true ↦ terminalFrom f s h k l (stepOf f s h k (suc (suc l)) n used .pointer) (used + stepOf f s h k (suc (suc l)) n used .depth)
+      | false ↦ lostTerminal
+    ]
+
+unfoldable pub terminal : Format → List ℕ → Head → ℕ → Terminal
+terminal f s h k = terminalFrom f s h k (h .levels - 1) (h .root) 0
+
+unfoldable pub ownVisit : Format → List ℕ → Head → ℕ → ℕ → ℕ → Visit
+ownVisit f s h k n used = entryVisit s (nodeStart h n) (entryNumber (width f) k used (depthWord s (nodeStart h n)))

@@ -2,15 +2,18 @@
 -- With strict false: at or above, which is how a range begins.
 --   firstPointer s b H n i == the first pointer that is not null, from entry i on, in the node block at b of depth H; 0 if none; at most
 --     n runs
+--   pointerFrom s h n i        == the same in node n
 --   runAfter H h i             == where the run after that of entry i starts, in a node of depth H, if entry i has the local depth h
 --   visitAfter f s h strict k p == what page p gives, read after the sought key's own: its first record
 --   linked h s m n             == node m, reached by a forward link, is a level-1 node that links back to n
---   hop f s h strict k n i left == what node n gives from entry i on, with so many links left: an answer, or the next node
---   follow f s h strict k turns n i == the answer from entry i of node n on
+--   hop s h n i left           == what node n leads to from entry i on, with so many links left: an end, or the next node
+--   reach s h turns n i        == the page that follows entry i of node n, or none, or damage met on the way
+--   visited f s h strict k a   == what next gives there
+--   behind s h n d i           == the page that follows the run of entry i, of local depth d, in node n
 --   nextOf f s h strict k      == next in a store that keeps the head rule
 --   nextReply f s k            == what next is to reply
---   onward h s n left          == the node behind n, with so many links left, or an end
---   afterOwn f s h strict k t  == the answer behind the run of the terminal step t
+--   onward h s n left          == the node after n, with so many links left, or an end
+--   afterOwn f s h strict k t  == the answer after the run of the terminal step t
 --   fromDescent f s h strict k d == the answer at the end of the descent d
 use mathlib.Core.Bool.{Bool, true, false, _&&_}
 use mathlib.Core.List.{List}
@@ -27,6 +30,8 @@ use Rattle.search.specs.declared.Descent.{Descent}
 use Rattle.search.specs.declared.Step.{Step}
 use Rattle.search.specs.declared.Sought.{Sought}
 use Rattle.search.specs.declared.Sought.the-variants.{Record, Nothing, Damaged}
+use Rattle.search.specs.declared.Reached.{Reached}
+use Rattle.search.specs.declared.Reached.the-variants.{Page, Past, Broken}
 use Rattle.search.specs.declared.Hop.{Hop}
 use Rattle.search.specs.declared.Hop.the-variants.{Ends, On}
 use Rattle.search.specs.Descent.{noStep, descent}
@@ -63,34 +68,42 @@ linked h s m n = nodeRule h s (nodeStart h m) 1 && eqb (backWord s (nodeStart h 
 unfoldable pub onward : Head → List ℕ → ℕ → ℕ → Hop
 onward h s n left =
     elim (eqb (forwardWord s (nodeStart h n)) 0) [
-      | true ↦ Ends Nothing
+      | true ↦ Ends Past
       | false ↦
           elim (eqb left 0) [
-            | true ↦ Ends Damaged
+            | true ↦ Ends Broken
             | false ↦
-                elim (linked h s (forwardWord s (nodeStart h n)) n) [ true ↦ On (forwardWord s (nodeStart h n)) | false ↦ Ends Damaged ]
+                elim (linked h s (forwardWord s (nodeStart h n)) n) [ true ↦ On (forwardWord s (nodeStart h n)) | false ↦ Ends Broken ]
           ]
     ]
 
-unfoldable pub hop : Format → List ℕ → Head → Bool → ℕ → ℕ → ℕ → ℕ → Hop
-hop f s h strict k n i left =
-    elim (eqb (firstPointer s (nodeStart h n) (depthWord s (nodeStart h n)) 64 i) 0) [
-      | false ↦ Ends (visitAfter f s h strict k (firstPointer s (nodeStart h n) (depthWord s (nodeStart h n)) 64 i))
-      | true ↦ onward h s n left
+-- the first pointer of node n that is not null, from entry i on
+abbrev pub pointerFrom : List ℕ → Head → ℕ → ℕ → ℕ
+pointerFrom s h n i = firstPointer s (nodeStart h n) (depthWord s (nodeStart h n)) 64 i
+
+unfoldable pub hop : List ℕ → Head → ℕ → ℕ → ℕ → Hop
+hop s h n i left =
+    elim (eqb (pointerFrom s h n i) 0) [ false ↦ Ends (Page (pointerFrom s h n i)) | true ↦ onward h s n left ]
+
+unfoldable pub reach : List ℕ → Head → ℕ → ℕ → ℕ → Reached
+reach s h zero n i = Broken
+reach s h (suc left) n i =
+    elim (hop s h n i left) [
+      | Ends a ↦ a
+      | On m ↦ reach s h left m 0
     ]
 
-unfoldable pub follow : Format → List ℕ → Head → Bool → ℕ → ℕ → ℕ → ℕ → Sought
-follow f s h strict k zero n i = Damaged
-follow f s h strict k (suc left) n i =
-    elim (hop f s h strict k n i left) [
-      | Ends a ↦ a
-      | On m ↦ follow f s h strict k left m 0
-    ]
+unfoldable pub visited : Format → List ℕ → Head → Bool → ℕ → Reached → Sought
+visited f s h strict k (Page p) = visitAfter f s h strict k p
+visited f s h strict k Past = Nothing
+visited f s h strict k Broken = Damaged
+
+unfoldable pub behind : List ℕ → Head → ℕ → ℕ → ℕ → Reached
+behind s h n d i = reach s h (h .nodesTaken + 1) n (runAfter (depthWord s (nodeStart h n)) d i)
 
 -- "passing null entries and forward links"; the terminal node is that of the first step
 unfoldable pub afterOwn : Format → List ℕ → Head → Bool → ℕ → Step → Sought
-afterOwn f s h strict k t =
-    follow f s h strict k (h .nodesTaken + 1) (t .node) (runAfter (depthWord s (nodeStart h (t .node))) (t .depth) (t .entry))
+afterOwn f s h strict k t = visited f s h strict k (behind s h (t .node) (t .depth) (t .entry))
 
 unfoldable pub fromDescent : Format → List ℕ → Head → Bool → ℕ → Descent → Sought
 fromDescent f s h strict k d =

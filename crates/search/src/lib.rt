@@ -1,15 +1,22 @@
-// Readings of a store: the descent with a key, find and next. Nothing is trusted: every visited block is checked.
+// Readings of a store: the descent with a key, find and next. Nothing is trusted: every visited block is checked. A function that may be
+// told not to (`checked` false) is told so only of blocks that were found sound, on the same words, before.
 use store::Format;
 use store::Head;
 use store::Item;
 ghost use mathlib.Core.Path.{_≡_};
-ghost use Prim.Native.Nat.{_+_, _-_, _^_, _≤_, _<_};
-ghost use Rattle.store.specs.Format.{width};
-ghost use Rattle.store.specs.Head.{nodeStart};
-ghost use Rattle.node.specs.Node.{depthWord};
-ghost use Rattle.search.specs.Descent.{stepOf, lost, descent};
+ghost use mathlib.Core.Bool.{true, false};
+ghost use Prim.Native.Nat.{_+_, _-_, _*_, _^_, _≤_, _<_};
+ghost use lib.ListN.{length};
+ghost use Rattle.store.specs.Format.{width, words};
+ghost use Rattle.store.specs.Head.{nodeWords, nodeStart, pageAt, InUse, Under};
+ghost use Rattle.node.specs.Node.{depthWord, nodeRule};
+ghost use Rattle.page.specs.Page.{pageRule, Lent, Filled};
+ghost use Rattle.search.specs.Descent.{soundNode, TerminalNode, stepOf, lost, descent, lostTerminal, terminal, ownVisit};
 ghost use Rattle.search.specs.Find.{reply, soughtReply, soundPage, inPage, findOf, findReply};
-ghost use Rattle.search.specs.Next.{firstPointer, runAfter, visitAfter, linked, onward, hop, follow, afterOwn, nextOf, nextReply};
+ghost use Rattle.search.specs.Next.{firstPointer, runAfter, linked, onward, hop, reach, behind, nextOf, nextReply};
+ghost use Rattle.search.specs.declared.Reached.the-variants.{Broken};
+ghost use Rattle.search.specs.declared.Hop.the-variants.{Ends};
+ghost use Rattle.search.specs.Span.{noSpan, reachedEnd, reachedSpan, spanAt, soughtOf, placeOf, AtKey};
 
 // One node on a key's path: its number, the key's entry in it, that entry's local depth, and the bits used before the node.
 pub struct Step {
@@ -35,14 +42,42 @@ pub struct Descent {
     pub steps: [Step; 32],
 }
 
+// The terminal node of a key: whether every node on the way is sound, and the bits used before the node.
+pub struct Terminal {
+    pub ok: bool,
+    pub node: u32,
+    pub used: u32,
+}
+
+// Records of one page that next gives in turn, numbers `from` up to `to`; page 0: none. Not ok: damage was met.
+pub struct Span {
+    pub ok: bool,
+    pub page: u32,
+    pub from: usize,
+    pub to: usize,
+}
+
+// Where the records above a key begin in its own page; not ok: the page is not sound.
+struct Place {
+    ok: bool,
+    from: usize,
+}
+
 pub enum Sought {
     Record(Item),
     Nothing,
     Damaged,
 }
 
+// Where the way on from an entry leads: to a page, past the last one, or to damage.
+pub enum Reached {
+    Page(u32),
+    Past,
+    Broken,
+}
+
 pub enum Hop {
-    Ends(Sought),
+    Ends(Reached),
     On(u32),
 }
 
@@ -51,6 +86,55 @@ pub enum FindAnswer {
     NotFound,
     HeadBroken,
     DamageMet,
+}
+
+// Whether a node block keeps the rule of a visited node of this level.
+fn node_passes(node: &[u32], head: Head, level: u32, checked: bool) -> bool
+    requires { ⌜ (head .theta ≤ 6) × (head .nodesTaken ≤ 4096) × (head .pagesTaken ≤ 4096)
+        × (length (now node) ≡ nodeWords (head .theta)) × (checked ≡ false → nodeRule head (now node) 0 level ≡ true) ⌝ }
+    ensures { λ r. ⌜ r ≡ nodeRule head (now (node .entry)) 0 level ⌝ }
+{
+    if checked {
+        return node::node_ok(node, head, level);
+    }
+    true
+}
+
+// Whether node n, reached after the used bits, is sound at this level.
+fn passes(
+    store: &[u32],
+    f: Format,
+    head: Head,
+    level: u32,
+    n: u32,
+    used: u32,
+    checked: bool,
+) -> bool
+    requires { ⌜ (Under f (now store) head) × (InUse head n) × (used ≤ width f)
+        × (checked ≡ false → soundNode f (now store) head level n used ≡ true) ⌝ }
+    ensures { λ r. ⌜ r ≡ soundNode f (now (store .entry)) head level n used ⌝ }
+{
+    let node = store::node_at(store, f, head, n);
+    if !node_passes(node, head, level, checked) {
+        return false;
+    }
+    used + node[0] <= store::width_of(f)
+}
+
+// The key's entry in node n, reached after the used bits.
+fn own_entry(store: &[u32], f: Format, head: Head, key: u64, n: u32, used: u32) -> Visit
+    requires { ⌜ (Under f (now store) head) × (InUse head n) × (depthWord (now store) (nodeStart head n) ≤ head .theta)
+        × (used + depthWord (now store) (nodeStart head n) ≤ width f) ⌝ }
+    ensures { λ r. ⌜ r ≡ ownVisit f (now (store .entry)) head key n used ⌝ }
+{
+    let node = store::node_at(store, f, head, n);
+    let i = node::entry_number(f, key, used, node[0]);
+    Visit {
+        ok: true,
+        entry: i as u32,
+        depth: node[4 + 2 * i],
+        pointer: node[5 + 2 * i],
+    }
 }
 
 // Visits node n at this level, after the used bits.
@@ -62,12 +146,13 @@ fn visit_node(
     level: u32,
     n: u32,
     used: u32,
+    checked: bool,
 ) -> Visit
-    requires { ⌜ (head .theta ≤ 6) × (used ≤ width f) ⌝ }
-    ensures { λ r. ⌜ (r ≡ stepOf f (now (store .entry)) head key level n used) × (used + r .depth ≤ width f) ⌝ }
+    requires { ⌜ (Under f (now store) head) × (InUse head n) × (used ≤ width f)
+        × (checked ≡ false → stepOf f (now store) head key level n used .ok ≡ true) ⌝ }
+    ensures { λ r. ⌜ r ≡ stepOf f (now (store .entry)) head key level n used ⌝ }
 {
-    let at = store::node_start(head, n);
-    if !node::node_ok(store, head, at, level) {
+    if !passes(store, f, head, level, n, used, checked) {
         return Visit {
             ok: false,
             entry: 0,
@@ -75,22 +160,7 @@ fn visit_node(
             pointer: 0,
         };
     }
-    let depth = store::word(store, at);
-    if used + depth > store::width_of(f) {
-        return Visit {
-            ok: false,
-            entry: 0,
-            depth: 0,
-            pointer: 0,
-        };
-    }
-    let i = node::entry_number(f, key, used, depth);
-    Visit {
-        ok: true,
-        entry: i as u32,
-        depth: store::word(store, at + 4 + 2 * i),
-        pointer: store::word(store, at + 5 + 2 * i),
-    }
+    own_entry(store, f, head, key, n, used)
 }
 
 // A way that met damage.
@@ -113,7 +183,7 @@ fn lost_way() -> Descent
 
 // The way of a key from the root down to its page.
 pub fn descend(store: &[u32], f: Format, head: Head, key: u64) -> Descent
-    requires { ⌜ (head .theta ≤ 6) × (head .levels ≤ 32) ⌝ }
+    requires { ⌜ Under f (now store) head ⌝ }
     ensures { λ r. ⌜ (r ≡ descent f (now (store .entry)) head key) × (r .used ≤ width f) ⌝ }
 {
     let blank = Step {
@@ -127,7 +197,7 @@ pub fn descend(store: &[u32], f: Format, head: Head, key: u64) -> Descent
     let mut used: u32 = 0;
     let mut level = store::to_index(head.levels);
     while level > 0 {
-        let v = visit_node(store, f, head, key, level as u32, node, used);
+        let v = visit_node(store, f, head, key, level as u32, node, used, true);
         if !v.ok {
             return lost_way();
         }
@@ -149,12 +219,59 @@ pub fn descend(store: &[u32], f: Format, head: Head, key: u64) -> Descent
     }
 }
 
+// The terminal node of a key: the way down without its steps.
+pub fn terminal_of(store: &[u32], f: Format, head: Head, key: u64, checked: bool) -> Terminal
+    requires { ⌜ (Under f (now store) head) × (checked ≡ false → terminal f (now store) head key .ok ≡ true) ⌝ }
+    ensures { λ r. ⌜ r ≡ terminal f (now (store .entry)) head key ⌝ }
+{
+    let mut node = head.root;
+    let mut used: u32 = 0;
+    let mut level = head.levels;
+    while level > 1 {
+        let v = visit_node(store, f, head, key, level, node, used, checked);
+        if !v.ok {
+            return Terminal {
+                ok: false,
+                node: 0,
+                used: 0,
+            };
+        }
+        level -= 1;
+        node = v.pointer;
+        used += v.depth;
+    }
+    if !passes(store, f, head, 1, node, used, checked) {
+        return Terminal {
+            ok: false,
+            node: 0,
+            used: 0,
+        };
+    }
+    Terminal {
+        ok: true,
+        node,
+        used,
+    }
+}
+
+// Whether a page keeps the rule of a visited one.
+fn page_passes(page: &[u32], f: Format, capacity: u32, checked: bool) -> bool
+    requires { ⌜ (capacity ≤ 64) × (Lent f capacity (now page)) × (checked ≡ false → pageRule f capacity (now page) ≡ true) ⌝ }
+    ensures { λ r. ⌜ r ≡ pageRule f capacity (now (page .entry)) ⌝ }
+{
+    if checked {
+        return page::page_ok(page, f, capacity);
+    }
+    true
+}
+
 // Whether the sought key's own page is sound.
-pub fn page_sound(page: &[u32], f: Format, head: Head, key: u64, used: u32) -> bool
-    requires { ⌜ (head .capacity ≤ 64) × (used ≤ width f) ⌝ }
+pub fn page_sound(page: &[u32], f: Format, head: Head, key: u64, used: u32, checked: bool) -> bool
+    requires { ⌜ (head .capacity ≤ 64) × (used ≤ width f) × (Lent f (head .capacity) (now page))
+        × (checked ≡ false → pageRule f (head .capacity) (now page) ≡ true) ⌝ }
     ensures { λ r. ⌜ r ≡ soundPage f head (now (page .entry)) key used ⌝ }
 {
-    if !page::page_ok(page, f, head.capacity) {
+    if !page_passes(page, f, head.capacity, checked) {
         return false;
     }
     page::keys_agree(page, f, key, used)
@@ -162,6 +279,7 @@ pub fn page_sound(page: &[u32], f: Format, head: Head, key: u64, used: u32) -> b
 
 // The record with the key in a page, or none.
 pub fn find_in(page: &[u32], f: Format, key: u64) -> Sought
+    requires { ⌜ Filled f (now page) ⌝ }
     ensures { λ r. ⌜ r ≡ inPage f (now (page .entry)) key ⌝ }
 {
     let i = page::first_above(page, f, false, key);
@@ -177,18 +295,19 @@ pub fn find_in(page: &[u32], f: Format, key: u64) -> Sought
 
 // Find, in a store that keeps the head rule.
 fn find_under(store: &[u32], f: Format, head: Head, key: u64) -> Sought
-    requires { ⌜ (head .theta ≤ 6) × (head .capacity ≤ 64) × (head .levels ≤ 32) ⌝ }
+    requires { ⌜ Under f (now store) head ⌝ }
     ensures { λ r. ⌜ r ≡ findOf f (now (store .entry)) head key ⌝ }
 {
-    let d = descend(store, f, head, key);
-    if !d.ok {
+    let t = terminal_of(store, f, head, key, true);
+    if !t.ok {
         return Sought::Damaged;
     }
-    if d.page == 0 {
+    let v = own_entry(store, f, head, key, t.node, t.used);
+    if v.pointer == 0 {
         return Sought::Nothing;
     }
-    let page = store::page_at(store, f, head, d.page);
-    if !page_sound(page, f, head, key, d.used) {
+    let page = store::page_at(store, f, head, v.pointer);
+    if !page_sound(page, f, head, key, t.used + v.depth, true) {
         return Sought::Damaged;
     }
     find_in(page, f, key)
@@ -226,18 +345,18 @@ pub fn less(x: u32, y: u32) -> u32
 }
 
 // The first pointer of a node that is not null, from entry i on; 0 if there is none.
-fn first_pointer(store: &[u32], at: usize, depth: u32, start: usize) -> u32
-    requires { ⌜ (at < 2 ^ 40) × (depth ≤ 6) × (start < 2 ^ 40) ⌝ }
-    ensures { λ r. ⌜ r ≡ firstPointer (now (store .entry)) at depth 64 start ⌝ }
+fn first_pointer(node: &[u32], depth: u32, start: usize) -> u32
+    requires { ⌜ (depth ≤ 6) × (4 + 2 * 2 ^ depth ≤ length (now node)) × (start < 2 ^ 40) ⌝ }
+    ensures { λ r. ⌜ r ≡ firstPointer (now (node .entry)) 0 depth 64 start ⌝ }
 {
     let n = store::pow2(depth);
     let mut i = start;
     while i < n {
-        let p = store::word(store, at + 5 + 2 * i);
+        let p = node[5 + 2 * i];
         if p != 0 {
             return p;
         }
-        i += store::pow2(less(depth, store::word(store, at + 4 + 2 * i)));
+        i += store::pow2(less(depth, node[4 + 2 * i]));
     }
     0
 }
@@ -252,94 +371,71 @@ fn run_after(depth: u32, local: u32, i: u32) -> usize
     at - at % n + n
 }
 
-// What a page gives that is read after the sought key's own. Its keys ascend, so the first one speaks for all.
-fn visit_after(store: &[u32], f: Format, head: Head, strict: bool, key: u64, p: u32) -> Sought
-    requires { ⌜ (head .theta ≤ 6) × (head .capacity ≤ 64) ⌝ }
-    ensures { λ r. ⌜ r ≡ visitAfter f (now (store .entry)) head strict key p ⌝ }
-{
-    let page = store::page_at(store, f, head, p);
-    if !page::page_ok(page, f, head.capacity) {
-        return Sought::Damaged;
-    }
-    let item = page::read_one(page, f, 0);
-    if !page::is_above(strict, key, item.key) {
-        return Sought::Damaged;
-    }
-    Sought::Record(item)
-}
-
 // Whether node m, reached by a forward link, is sound and links back to n.
-fn is_linked(store: &[u32], head: Head, m: u32, n: u32) -> bool
-    requires { ⌜ head .theta ≤ 6 ⌝ }
+fn is_linked(store: &[u32], f: Format, head: Head, m: u32, n: u32, checked: bool) -> bool
+    requires { ⌜ (Under f (now store) head) × (InUse head m) × (checked ≡ false → linked head (now store) m n ≡ true) ⌝ }
     ensures { λ r. ⌜ r ≡ linked head (now (store .entry)) m n ⌝ }
 {
-    let at = store::node_start(head, m);
-    if !node::node_ok(store, head, at, 1) {
+    let node = store::node_at(store, f, head, m);
+    if !node_passes(node, head, 1, checked) {
         return false;
     }
-    store::word(store, at + 2) == n
+    node[2] == n
 }
 
 // The node after n, with so many links left, or an end.
-fn go_on(store: &[u32], head: Head, n: u32, left: u32) -> Hop
-    requires { ⌜ head .theta ≤ 6 ⌝ }
+fn go_on(store: &[u32], f: Format, head: Head, n: u32, left: u32, checked: bool) -> Hop
+    requires { ⌜ (Under f (now store) head) × (TerminalNode head (now store) n)
+        × (checked ≡ false → onward head (now store) n left ≡ Ends Broken → ⊥) ⌝ }
     ensures { λ r. ⌜ r ≡ onward head (now (store .entry)) n left ⌝ }
 {
-    let m = store::word(store, store::node_start(head, n) + 3);
+    let node = store::node_at(store, f, head, n);
+    let m = node[3];
     if m == 0 {
-        return Hop::Ends(Sought::Nothing);
+        return Hop::Ends(Reached::Past);
     }
     if left == 0 {
-        return Hop::Ends(Sought::Damaged);
+        return Hop::Ends(Reached::Broken);
     }
-    if !is_linked(store, head, m, n) {
-        return Hop::Ends(Sought::Damaged);
+    if !is_linked(store, f, head, m, n, checked) {
+        return Hop::Ends(Reached::Broken);
     }
     Hop::On(m)
 }
 
-// What node n gives from entry i on, with so many links left.
-fn hop_from(
-    store: &[u32],
-    f: Format,
-    head: Head,
-    strict: bool,
-    key: u64,
-    n: u32,
-    i: usize,
-    left: u32,
-) -> Hop
-    requires { ⌜ (head .theta ≤ 6) × (head .capacity ≤ 64) × (i < 2 ^ 40) × (depthWord (now store) (nodeStart head n) ≤ head .theta) ⌝ }
-    ensures { λ r. ⌜ r ≡ hop f (now (store .entry)) head strict key n i left ⌝ }
+// What node n leads to from entry i on, with so many links left.
+fn hop_from(store: &[u32], f: Format, head: Head, n: u32, i: usize, left: u32, checked: bool) -> Hop
+    requires { ⌜ (Under f (now store) head) × (TerminalNode head (now store) n) × (i < 2 ^ 40)
+        × (checked ≡ false → hop (now store) head n i left ≡ Ends Broken → ⊥) ⌝ }
+    ensures { λ r. ⌜ r ≡ hop (now (store .entry)) head n i left ⌝ }
 {
-    let at = store::node_start(head, n);
-    let p = first_pointer(store, at, store::word(store, at), i);
+    let node = store::node_at(store, f, head, n);
+    let p = first_pointer(node, node[0], i);
     if p != 0 {
-        return Hop::Ends(visit_after(store, f, head, strict, key, p));
+        return Hop::Ends(Reached::Page(p));
     }
-    go_on(store, head, n, left)
+    go_on(store, f, head, n, left, checked)
 }
 
-// The answer from an entry of a node on, along the forward links.
-fn follow_from(
+// The page that follows an entry of a node, along the forward links.
+fn reach_from(
     store: &[u32],
     f: Format,
     head: Head,
-    strict: bool,
-    key: u64,
     first: u32,
     start: usize,
-) -> Sought
-    requires { ⌜ (head .theta ≤ 6) × (head .capacity ≤ 64) × (head .nodesTaken ≤ 4096) × (start < 2 ^ 40)
-        × (depthWord (now store) (nodeStart head first) ≤ head .theta) ⌝ }
-    ensures { λ r. ⌜ r ≡ follow f (now (store .entry)) head strict key (head .nodesTaken + 1) first start ⌝ }
+    checked: bool,
+) -> Reached
+    requires { ⌜ (Under f (now store) head) × (TerminalNode head (now store) first) × (start < 2 ^ 40)
+        × (checked ≡ false → reach (now store) head (head .nodesTaken + 1) first start ≡ Broken → ⊥) ⌝ }
+    ensures { λ r. ⌜ r ≡ reach (now (store .entry)) head (head .nodesTaken + 1) first start ⌝ }
 {
     let mut n = first;
     let mut i = start;
     let mut turns = head.nodesTaken + 1;
     while turns > 0 {
         turns -= 1;
-        let hop = hop_from(store, f, head, strict, key, n, i, turns);
+        let hop = hop_from(store, f, head, n, i, turns, checked);
         match hop {
             Hop::Ends(a) => {
                 return a;
@@ -350,42 +446,201 @@ fn follow_from(
             }
         }
     }
-    Sought::Damaged
+    Reached::Broken
 }
 
-// The answer after the sought key's own run in its terminal node.
-fn after_own(store: &[u32], f: Format, head: Head, strict: bool, key: u64, t: Step) -> Sought
-    requires { ⌜ (head .theta ≤ 6) × (head .capacity ≤ 64) × (head .nodesTaken ≤ 4096)
-        × (depthWord (now store) (nodeStart head (t .node)) ≤ head .theta) ⌝ }
-    ensures { λ r. ⌜ r ≡ afterOwn f (now (store .entry)) head strict key t ⌝ }
+// The page that follows the run of a key's entry v in its terminal node n.
+fn reach_behind(store: &[u32], f: Format, head: Head, n: u32, v: Visit, checked: bool) -> Reached
+    requires { ⌜ (Under f (now store) head) × (TerminalNode head (now store) n)
+        × (checked ≡ false → behind (now store) head n (v .depth) (v .entry) ≡ Broken → ⊥) ⌝ }
+    ensures { λ r. ⌜ r ≡ behind (now (store .entry)) head n (v .depth) (v .entry) ⌝ }
 {
-    let at = store::node_start(head, t.node);
-    let start = run_after(store::word(store, at), t.depth, t.entry);
-    follow_from(store, f, head, strict, key, t.node, start)
+    let node = store::node_at(store, f, head, n);
+    let start = run_after(node[0], v.depth, v.entry);
+    reach_from(store, f, head, n, start, checked)
+}
+
+// A span without records.
+fn no_span(ok: bool) -> Span
+    ensures { λ r. ⌜ r ≡ noSpan ok ⌝ }
+{
+    Span {
+        ok,
+        page: 0,
+        from: 0,
+        to: 0,
+    }
+}
+
+// Where the records of page p end that follow one another, p being reached from the terminal node t of the key: with the first one, if its
+// key does not come back to the page from the same node.
+fn reached_end(store: &[u32], f: Format, head: Head, key: u64, t: Terminal, p: u32) -> usize
+    requires { ⌜ (Under f (now store) head) × (t ≡ terminal f (now store) head key) × (t .ok ≡ true)
+        × (pageRule f (head .capacity) (pageAt f (now store) head p) ≡ true) ⌝ }
+    ensures { λ r. ⌜ r ≡ reachedEnd f (now (store .entry)) head key (t .node) (t .used) p ⌝ }
+{
+    let page = store::page_at(store, f, head, p);
+    let item = page::read_one(page, f, 0);
+    let low = store::width_of(f) - t.used;
+    if page::prefix(item.key, low) != page::prefix(key, low) {
+        return 1;
+    }
+    let v = own_entry(store, f, head, item.key, t.node, t.used);
+    if v.pointer != p {
+        return 1;
+    }
+    if !page::keys_agree(page, f, item.key, t.used + v.depth) {
+        return 1;
+    }
+    page::count_of(page)
+}
+
+// The records of a page that was reached after the sought key's own, from its terminal node t. Its keys ascend, so the first one speaks for
+// all.
+fn reached_span(
+    store: &[u32],
+    f: Format,
+    head: Head,
+    strict: bool,
+    key: u64,
+    t: Terminal,
+    a: Reached,
+    checked: bool,
+) -> Span
+    requires { ⌜ (Under f (now store) head)
+        × (checked ≡ false → reachedSpan f (now store) head strict key (t .node) (t .used) a .ok ≡ true)
+        × (t ≡ terminal f (now store) head key) × (t .ok ≡ true) ⌝ }
+    ensures { λ r. ⌜ r ≡ reachedSpan f (now (store .entry)) head strict key (t .node) (t .used) a ⌝ }
+{
+    match a {
+        Reached::Past => {
+            return no_span(true);
+        }
+        Reached::Broken => {
+            return no_span(false);
+        }
+        Reached::Page(p) => {
+            let page = store::page_at(store, f, head, p);
+            if !page_passes(page, f, head.capacity, checked) {
+                return no_span(false);
+            }
+            let item = page::read_one(page, f, 0);
+            if !page::is_above(strict, key, item.key) {
+                return no_span(false);
+            }
+            let to = reached_end(store, f, head, key, t, p);
+            return Span {
+                ok: true,
+                page: p,
+                from: 0,
+                to,
+            };
+        }
+    }
+}
+
+// Where the records above a key begin in its own page, which leads to it after the used bits; damage, if the page is not sound. The key may
+// be known to stand in page `known`, which keeps the page rule, before its record number `after`.
+fn own_place(
+    page: &[u32],
+    f: Format,
+    head: Head,
+    strict: bool,
+    key: u64,
+    used: u32,
+    at_key: bool,
+    after: usize,
+    checked: bool,
+) -> Place
+    requires { ⌜ (head .capacity ≤ 64) × (used ≤ width f) × (Lent f (head .capacity) (now page))
+        × («at_key» ≡ true → AtKey f (head .capacity) (now page) strict key after)
+        × (checked ≡ false → pageRule f (head .capacity) (now page) ≡ true) ⌝ }
+    ensures { λ r. ⌜ r ≡ placeOf f head (now (page .entry)) strict key used ⌝ }
+{
+    if !page_sound(page, f, head, key, used, checked & !at_key) {
+        return Place { ok: false, from: 0 };
+    }
+    if at_key {
+        return Place {
+            ok: true,
+            from: after,
+        };
+    }
+    Place {
+        ok: true,
+        from: page::first_above(page, f, strict, key),
+    }
+}
+
+// The records that follow a key, whose terminal node is t, in its own page or the first of the one after it. Where `known` is not 0 the key
+// is that of the record before number `after` in page `known`, which keeps the page rule.
+pub fn span_at(
+    store: &[u32],
+    f: Format,
+    head: Head,
+    strict: bool,
+    key: u64,
+    t: Terminal,
+    known: u32,
+    after: usize,
+    checked: bool,
+) -> Span
+    requires { ⌜ (Under f (now store) head) × (t ≡ terminal f (now store) head key)
+        × ((known ≡ 0 → ⊥) → AtKey f (head .capacity) (pageAt f (now store) head known) strict key after)
+        × (checked ≡ false → spanAt f (now store) head strict key t .ok ≡ true) ⌝ }
+    ensures { λ r. ⌜ r ≡ spanAt f (now (store .entry)) head strict key t ⌝ }
+{
+    if !t.ok {
+        return no_span(false);
+    }
+    let v = own_entry(store, f, head, key, t.node, t.used);
+    let p = v.pointer;
+    if p != 0 {
+        let page = store::page_at(store, f, head, p);
+        let used = t.used + v.depth;
+        let place = own_place(page, f, head, strict, key, used, p == known, after, checked);
+        if !place.ok {
+            return no_span(false);
+        }
+        let from = place.from;
+        let to = page::count_of(page);
+        if from < to {
+            return Span {
+                ok: true,
+                page: p,
+                from,
+                to,
+            };
+        }
+    }
+    let a = reach_behind(store, f, head, t.node, v, checked);
+    reached_span(store, f, head, strict, key, t, a, checked)
+}
+
+// The first record of a span.
+fn sought_of(store: &[u32], f: Format, head: Head, r: Span) -> Sought
+    requires { ⌜ (Under f (now store) head) × (r .from < 2 ^ 32)
+        × (r .ok ≡ true → (r .page ≡ 0 → ⊥) → words f * (r .from + 1) < length (pageAt f (now store) head (r .page))) ⌝ }
+    ensures { λ q. ⌜ q ≡ soughtOf f (now (store .entry)) head r ⌝ }
+{
+    if !r.ok {
+        return Sought::Damaged;
+    }
+    if r.page == 0 {
+        return Sought::Nothing;
+    }
+    let page = store::page_at(store, f, head, r.page);
+    Sought::Record(page::read_one(page, f, r.from))
 }
 
 // Next, in a store that keeps the head rule: the first record above the key, or, if not strict, at or above it.
-pub fn next_under(store: &[u32], f: Format, head: Head, strict: bool, key: u64) -> Sought
-    requires { ⌜ (head .theta ≤ 6) × (head .capacity ≤ 64) × (head .nodesTaken ≤ 4096) × (1 ≤ head .levels) × (head .levels ≤ 32) ⌝ }
+fn next_under(store: &[u32], f: Format, head: Head, strict: bool, key: u64) -> Sought
+    requires { ⌜ Under f (now store) head ⌝ }
     ensures { λ r. ⌜ r ≡ nextOf f (now (store .entry)) head strict key ⌝ }
 {
-    let d = descend(store, f, head, key);
-    if !d.ok {
-        return Sought::Damaged;
-    }
-    let t = d.steps[0];
-    if d.page == 0 {
-        return after_own(store, f, head, strict, key, t);
-    }
-    let page = store::page_at(store, f, head, d.page);
-    if !page_sound(page, f, head, key, d.used) {
-        return Sought::Damaged;
-    }
-    let i = page::first_above(page, f, strict, key);
-    if i < page::count_of(page) {
-        return Sought::Record(page::read_one(page, f, i));
-    }
-    after_own(store, f, head, strict, key, t)
+    let t = terminal_of(store, f, head, key, true);
+    let r = span_at(store, f, head, strict, key, t, 0, 0, true);
+    sought_of(store, f, head, r)
 }
 
 // The record with the smallest key above the given one, or none.

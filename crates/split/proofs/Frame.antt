@@ -15,12 +15,11 @@ use Rattle.lists.proofs.Elsewhere.{Elsewhere, elsewhere-replaced, elsewhere-set
 use Rattle.lists.proofs.Tests.{every-ext}
 use Rattle.store.specs.declared.Format.{Format}
 use Rattle.store.specs.declared.Head.{Head}
-use Rattle.store.specs.Head.{word, zeros, headOf, nodeWords, pageWords, nodeStart, pageStart, pageAt}
-use Rattle.represent.specs.Image.{nodeAt}
+use Rattle.store.specs.Head.{word, zeros, headOf, nodeWords, pageWords, nodeStart, pageStart, pageAt, nodeAt}
 use Rattle.represent.specs.Rep.{sizeOf, Sized}
 use Rattle.split.specs.Frame.{nodeOf, pageOf, putNode, putPage, putHead, putPagesTaken}
 use Rattle.split.specs.Insertion.{SameSizes}
-use Rattle.represent.proofs.Places.{node-start, node-end, nodes-apart, nodes-end, page-start, page-end, pages-apart}
+use Rattle.store.proofs.Places.{node-start, node-end, nodes-apart, nodes-end, page-start, page-end, pages-apart}
 
 -- all that a store's layout goes by are its sizes
 node-layout : (s : List ℕ) (h h′ : Head) (n : ℕ) → SameSizes h h′ → nodeAt s h′ n ≡ nodeAt s h n

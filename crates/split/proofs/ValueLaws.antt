@@ -19,10 +19,10 @@ use Rattle.lists.proofs.Parts.{part-in, length-part}
 use Rattle.lists.proofs.Tests.{length-tab, tab-ext, tab-last}
 use Rattle.tree.specs.Node.{Entry}
 use Rattle.store.specs.declared.Head.{Head}
-use Rattle.store.specs.Head.{word, nodeStart, nodeWords}
+use Rattle.store.specs.Head.{word, nodeStart, nodeWords, nodeAt}
 use Rattle.page.proofs.Flat.{set-four}
 use Rattle.node.specs.Node.{forwardWord, entryOf}
-use Rattle.represent.specs.Image.{entryWords, nodeAt}
+use Rattle.represent.specs.Image.{entryWords}
 use Rattle.represent.proofs.ImageLaws.{length-entryWords}
 use Rattle.split.specs.declared.Node.{Node}
 use Rattle.split.specs.Block.{kept, block, halves, linked, top}

@@ -10,8 +10,7 @@ use Prim.Native.Nat.{ℕ}
 use lib.ListN.{set}
 use Rattle.lists.specs.Lists.{replaced}
 use Rattle.store.specs.declared.Format.{Format}
-use Rattle.store.specs.Head.{headOf, nodeWords, nodeStart, pageWords, pageStart, pageAt}
-use Rattle.represent.specs.Image.{nodeAt}
+use Rattle.store.specs.Head.{headOf, nodeWords, nodeStart, pageWords, pageStart, pageAt, nodeAt}
 
 abbrev pub nodeOf : List ℕ → ℕ → List ℕ
 nodeOf s n = nodeAt s (headOf s) n

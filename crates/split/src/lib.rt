@@ -10,9 +10,9 @@ ghost use Rattle.lists.specs.Bits.{bits, index};
 ghost use Rattle.lists.specs.Lists.{tab, greatest, replaced};
 ghost use Rattle.tree.specs.Trie.{Key};
 ghost use Rattle.store.specs.Format.{width};
-ghost use Rattle.store.specs.Head.{nodeWords, nodeStart};
+ghost use Rattle.store.specs.Head.{nodeWords, nodeStart, nodeAt};
 ghost use Rattle.node.specs.Node.{depthWord, backWord, forwardWord};
-ghost use Rattle.represent.specs.Image.{entryWords, nodeAt};
+ghost use Rattle.represent.specs.Image.{entryWords};
 ghost use Rattle.split.specs.Block.{halveRun, double, grow, half, lower, upper, aim, linked, top};
 ghost use Rattle.split.specs.Value.{entryIn, blockOf, own, localAt, Reached};
 

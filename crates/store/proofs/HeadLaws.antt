@@ -1,6 +1,6 @@
 -- The head rule, test by test: what a row of tests comes to, and what a head that keeps the rule has.
 use mathlib.Core.Path.{_≡_, sym}
-use mathlib.Core.Bool.{Bool, true, _&&_}
+use mathlib.Core.Bool.{Bool, true, false, _&&_}
 use mathlib.Core.List.{List, []}
 use Prim.Native.Nat.{ℕ, _+_, _-_, _*_, _/_, _≤_, _<_}
 use native.Mathlib.Nat.{div-le-of-le-mul}
@@ -9,7 +9,7 @@ use lib.Dec.{leb}
 use lib.ListN.{length, take, drop}
 use borrow.Author.Tests.{leb-true, le-leb}
 use Rattle.lists.proofs.Parts.{part-in, part-out}
-use Rattle.lists.proofs.Tests.{and-true}
+use Rattle.lists.proofs.Tests.{untrue, and-true}
 use Rattle.tree.specs.Book.{log2, levelBound}
 use Rattle.store.specs.declared.Format.{Format}
 use Rattle.store.specs.declared.Format.the-variants.{Plots}
@@ -31,6 +31,10 @@ pub size-is : (f : Format) (θ C N P a b c d : ℕ) → a ≡ N → b ≡ nodeWo
     → 16 + a * b + c * d ≡ size f θ C N P
 unfolding size
 size-is f θ C N P a b c d p q r t = rw (p, q, r, t)
+
+pub size-head : (f : Format) (θ C N P : ℕ) → 16 ≤ size f θ C N P
+unfolding size
+size-head f θ C N P = omega arith
 
 pub node-start-is : (h : Head) (n a b : ℕ) → a ≡ n - 1 → b ≡ nodeWords (h .theta) → 16 + a * b ≡ nodeStart h n
 unfolding nodeStart
@@ -157,6 +161,11 @@ head-facts f s e =
     let b = and-true _ _ (a .0) in
     let c = and-true _ _ (b .0) in
     record { limits = sizes-limits _ _ _ _ (c .0); counts = counts-facts f (headOf s) (a .1); room = leb-true _ _ (b .1) }
+
+-- a store shorter than the head's sizes ask
+pub rule-short : (f : Format) (s : List ℕ) (h : Head) → h ≡ headOf s
+    → length s < size f (h .theta) (h .capacity) (h .nodeBlocks) (h .pageBlocks) → false ≡ headRule f s
+rule-short f s h e l = untrue (λ t. omega (arith, head-facts f s t .room, rw e at l))
 
 pub page-given : (f : Format) (s : List ℕ) (h : Head) (p a w : ℕ) → a ≡ pageStart f h p → w ≡ pageWords f (h .capacity)
     → a + w ≤ length s → take (a + w - a) (drop a s) ≡ pageAt f s h p

@@ -7,15 +7,18 @@
 --   size f θ C N P     == the words of a store
 --   nodeStart h n      == the first word of node block n
 --   pageStart f h p    == the first word of page block p
+--   nodeAt s h n       == the words of node block n
 --   pageAt f s h p     == the words of page block p
 --   lawfulSizes θ C N P == θ, C, N and P within their limits
 --   spareOk s          == the spare words of the head are zeros
 --   nodesInUse, pagesInUse, nodesLeft, pagesLeft h == node and page blocks in use, and those that remain
 --   InUse h n          == n is the number of a node in use
 --   headRule f s       == the head rule
+--   Under f s h        == h is the head of the store s, which keeps the head rule
 --   largestTheta, largestCapacity, largestBlocks == document 01's limits
 --   lawfulCounts f h   == the counts, the root and the levels of a head within their limits
-use mathlib.Core.Bool.{Bool, _&&_}
+use mathlib.Core.Path.{_≡_}
+use mathlib.Core.Bool.{Bool, true, _&&_}
 use mathlib.Core.List.{List}
 use Prim.Native.Nat.{ℕ, _+_, _-_, _*_, _^_, _≤_}
 use lib.Dec.{leb, eqb}
@@ -64,6 +67,9 @@ nodeStart h n = 16 + (n - 1) * nodeWords (h .theta)
 
 unfoldable pub pageStart : Format → Head → ℕ → ℕ
 pageStart f h p = 16 + h .nodeBlocks * nodeWords (h .theta) + (p - 1) * pageWords f (h .capacity)
+
+unfoldable pub nodeAt : List ℕ → Head → ℕ → List ℕ
+nodeAt s h n = part s (nodeStart h n) (nodeWords (h .theta))
 
 unfoldable pub pageAt : Format → List ℕ → Head → ℕ → List ℕ
 pageAt f s h p = part s (pageStart f h p) (pageWords f (h .capacity))
@@ -117,3 +123,8 @@ headRule f s =
     lawfulSizes (headOf s .theta) (headOf s .capacity) (headOf s .nodeBlocks) (headOf s .pageBlocks) && spareOk s
     && leb (size f (headOf s .theta) (headOf s .capacity) (headOf s .nodeBlocks) (headOf s .pageBlocks)) (length s)
     && lawfulCounts f (headOf s)
+
+-- h is the head of s, which keeps the head rule
+pub record Under (f : Format) (s : List ℕ) (h : Head) : Type 0 where
+  pub rule : headRule f s ≡ true
+  pub head : h ≡ headOf s

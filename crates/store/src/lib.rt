@@ -6,8 +6,8 @@ ghost use lib.ListN.{length, getD, replicate};
 ghost use Rattle.lists.specs.Lists.{part};
 ghost use Rattle.tree.specs.Book.{log2, levelBound};
 ghost use Rattle.store.specs.Format.{width, words};
-ghost use Rattle.store.specs.Head.{zeros, headOf, nodeWords, pageWords, size, nodeStart, pageStart, pageAt};
-ghost use Rattle.store.specs.Head.{lawfulSizes, lawfulCounts, headRule};
+ghost use Rattle.store.specs.Head.{zeros, headOf, nodeWords, pageWords, size, nodeStart, nodeAt, pageStart, pageAt};
+ghost use Rattle.store.specs.Head.{lawfulSizes, lawfulCounts, InUse, headRule, Under};
 ghost use Rattle.store.specs.SetUp.{marked, setUp, reply};
 
 pub enum Format {
@@ -90,19 +90,18 @@ pub fn pow2(k: u32) -> usize
     1usize << k
 }
 
-// Whether the n words from `at` on are 0.
-pub fn all_zero(store: &[u32], at: usize, n: usize) -> bool
-    requires { ⌜ at + n < 2 ^ 63 ⌝ }
-    ensures { λ r. ⌜ r ≡ zeros (now (store .entry)) at n ⌝ }
+// Whether every word of a part is 0: their bits are gathered, without a branch at each word.
+pub fn is_zero(part: &[u32]) -> bool
+    ensures { λ r. ⌜ r ≡ zeros (now (part .entry)) 0 (length (now (part .entry))) ⌝ }
 {
+    let n = part.len();
+    let mut bits: u32 = 0;
     let mut j: usize = 0;
     while j < n {
-        if word(store, at + j) != 0 {
-            return false;
-        }
+        bits |= part[j];
         j += 1;
     }
-    true
+    bits == 0
 }
 
 // The first eight words of a store.
@@ -241,9 +240,6 @@ pub fn head_ok(store: &[u32], f: Format) -> bool
     if !sizes_ok(head.theta, head.capacity, head.nodeBlocks, head.pageBlocks) {
         return false;
     }
-    if !all_zero(store, 8, 8) {
-        return false;
-    }
     if size_of(
         f,
         head.theta,
@@ -253,6 +249,9 @@ pub fn head_ok(store: &[u32], f: Format) -> bool
     )
         > store.len()
     {
+        return false;
+    }
+    if !is_zero(&store[8..16]) {
         return false;
     }
     counts_ok(f, head)
@@ -284,6 +283,16 @@ pub fn page_start(f: Format, head: Head, p: u32) -> usize
     16
         + to_index(head.nodeBlocks) * node_words(head.theta)
         + from_zero(p) * page_words(f, head.capacity)
+}
+
+// The words of a node block in use, in place.
+pub fn node_at(store: &[u32], f: Format, head: Head, n: u32) -> &[u32]
+    requires { ⌜ (Under f (now store) head) × (InUse head n) ⌝ }
+    ensures { λ r. ⌜ now r ≡ nodeAt (now (store .entry)) head n ⌝ }
+{
+    let start = node_start(head, n);
+    let end = start + node_words(head.theta);
+    &store[start..end]
 }
 
 // The words of a page block, in place.

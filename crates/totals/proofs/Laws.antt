@@ -16,7 +16,7 @@ use Rattle.plot.specs.Money.{Reply, reply, balanceReply}
 use Rattle.plot.proofs.Promises.{balance-within-price}
 use Rattle.store.specs.declared.Item.{Item}
 use Rattle.totals.specs.declared.Totals.{Totals}
-use Rattle.totals.specs.Totals.{noTotals, worth, earlier, updatedOf, totalsOf, Room}
+use Rattle.totals.specs.Totals.{noTotals, worth, earlier, updatedOf, totalsOf, Room, Bounded}
 use Rattle.totals.specs.Promises.{worths}
 
 -- A value that stands in the reply of `balance` is the record's worth.
@@ -103,10 +103,7 @@ unfolding totalsOf
 totals-total t [] today = omega arith
 totals-total t (it ∷ its) today = omega (arith, totals-total (updatedOf t it today) its today, updated-total t it today)
 
--- Each record counted has added at most 2^32 − 1.
-abbrev pub Bounded : Totals → Type 0
-Bounded t = t .total ≤ t .count * (2 ^ 32 - 1)
-
+-- totals as records are added
 pub bounded-none : Bounded noTotals
 unfolding noTotals
 bounded-none = omega arith

@@ -5,10 +5,11 @@
 --   earlier t it      == the record it has the earliest last day so far
 --   updatedOf t it today == the totals t with the record it
 --   totalsOf t its today == the totals t with the records its, one after another
+--   Bounded t         == each record counted has added at most 2^32 − 1
 --   Room t            == one record more does not overflow
 use mathlib.Core.Bool.{Bool, true, false, not, _&&_, _||_}
 use mathlib.Core.List.{List, [], _∷_}
-use Prim.Native.Nat.{ℕ, _+_, _≤_, _<_, _^_}
+use Prim.Native.Nat.{ℕ, _+_, _-_, _*_, _≤_, _<_, _^_}
 use lib.Dec.{eqb, ltb}
 use Rattle.plot.specs.Money.{balanceReply}
 use Rattle.store.specs.declared.Item.{Item}
@@ -34,6 +35,9 @@ updatedOf t it today =
 unfoldable pub totalsOf : Totals → List Item → ℕ → Totals
 totalsOf t [] today = t
 totalsOf t (it ∷ its) today = totalsOf (updatedOf t it today) its today
+
+abbrev pub Bounded : Totals → Type 0
+Bounded t = t .total ≤ t .count * (2 ^ 32 - 1)
 
 pub record Room (t : Totals) : Type 0 where
   pub count : t .count + 1 < 2 ^ 64

@@ -1,8 +1,8 @@
 // Group 6: sound stores with one to three words changed at random, and what holds of every call all the same.
 use crate::broken;
-use crate::orders;
-use crate::sets;
-use crate::sets::Setting;
+use groups::orders;
+use groups::sets;
+use groups::sets::Setting;
 use harness::calls;
 use harness::calls::Call;
 use harness::calls::Reply;

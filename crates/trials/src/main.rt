@@ -3,9 +3,10 @@
 mod broken; // group 5
 mod damage; // group 6
 mod desk; // group 1
-mod orders; // group 3
 mod refusals; // group 4
-mod sets; // group 2
+
+use groups::orders; // group 3
+use groups::sets; // group 2
 
 fn main() {
     let mut store = [0u32; 16384];

@@ -6,7 +6,6 @@ use Rattle.lists.specs.Keyed.{contains}
 use Rattle.lists.proofs.Tests.{passed, failed}
 use Rattle.store.specs.Head.{headRule}
 use Rattle.page.specs.Schema.{keyOf}
-use Rattle.search.proofs.FindLaws.{head-limits}
 use Rattle.insert.specs.Enter.{ownItems, undamaged}
 use Rattle.insert.proofs.Refusals.{enter-3, enter-6}
 use Rattle.insert.proofs.EnterCode.{Begun, begun-limits, begun-narrow, begun-counts, begun-long, begun-carries}
@@ -92,8 +91,7 @@ returns-2 : tie.Need-returns-2
 returns-2 c = refuses (enter-6 _ _ _ (ruled (c .before .before)) (failed (c .before .lawful-item .ensures) (c .if2 .taken)))
 
 descend-requires : tie.Need-descend-requires
-descend-requires c κs =
-    let l = head-limits _ _ (ruled (c .before .before .before .before .before)) in rw (c .before .head-of .ensures) (l .0, l .4)
+descend-requires c κs = record { rule = ruled (c .before .before .before .before .before); head = c .before .head-of .ensures }
 
 way-ok-requires : tie.Need-way-ok-requires
 way-ok-requires c κs =

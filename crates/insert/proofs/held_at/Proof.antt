@@ -1,5 +1,6 @@
 -- By the records of the key's own page.
 use borrow.Author.Needs.{needs}
+use Rattle.page.proofs.Inside.{page-lent}
 use Rattle.insert.proofs.EnterCode.{held-null, held-some, own-rule}
 use Rattle.insert.proofs.held_at.Statement.{statement}
 use Rattle.insert.proofs.held_at.Tie as tie
@@ -8,8 +9,10 @@ returns : tie.Need-returns
 returns c = held-null _ _ _ _ _ (c .if1 .taken)
 
 key-held-requires : tie.Need-key-held-requires
-key-held-requires c κs =
-    own-rule _ _ _ _ _ (c .before .if1 .left) (c .page-at .ensures) (c .before .before .before .before .pre .2)
+key-held-requires c κs = (
+  own-rule _ _ _ _ _ (c .before .if1 .left) (c .page-at .ensures) (c .before .before .before .before .pre .2),
+  rw (c .page-at .ensures) (page-lent _ _ _ _),
+)
 
 returns-2 : tie.Need-returns-2
 returns-2 c = held-some _ _ _ _ _ (c .before .before .if1 .left) (c .before .page-at .ensures) (c .key-held .ensures)

@@ -3,7 +3,7 @@ use borrow.Author.Needs.{needs}
 use mathlib.Core.Path.{sym, _∙_}
 use Prim.Native.Nat.{_≤_, _<_}
 use lib.ListN.{length}
-use Rattle.insert.proofs.PageCode.{part-limits, part-next, part-low, part-high, part-ready, part-both}
+use Rattle.insert.proofs.PageCode.{part-limits, part-asks, part-next, part-low, part-high, part-ready, part-both}
 use Rattle.insert.proofs.part_page.Statement.{statement}
 use Rattle.insert.proofs.part_page.Tie as tie
 
@@ -16,7 +16,9 @@ page-at-requires : tie.Need-page-at-requires
 page-at-requires c κs = let l = limits (c .before .before) in (l .1, l .2)
 
 low-count-requires : tie.Need-low-count-requires
-low-count-requires c κs = c .before .before .before .pre .1 .narrow
+low-count-requires c κs =
+    let s = c .before .before .before in
+    part-asks _ _ _ _ _ (s .pre .0) (s .pre .1) _ (c .page-at .ensures)
 
 returns : tie.Need-returns
 returns c =

@@ -1,7 +1,9 @@
 -- One law for each way out.
 use borrow.Author.Needs.{needs}
+use Rattle.page.proofs.Inside.{page-lent, filled}
+use Rattle.page.proofs.Laws.{rule-facts}
 use native.Mathlib.Omega.{arith}
-use Rattle.insert.proofs.EnterCode.{own-agrees, rounds-small, plan-null, plan-room, plan-full}
+use Rattle.insert.proofs.EnterCode.{own-rule, own-agrees, rounds-small, plan-null, plan-room, plan-full}
 use Rattle.insert.proofs.plan_for.Statement.{statement}
 use Rattle.insert.proofs.plan_for.Tie as tie
 
@@ -18,7 +20,9 @@ rounds-for-requires : tie.Need-rounds-for-requires
 rounds-for-requires c κs =
     let p = c .before .before .before in
     let pre = p .before .before .before .before .pre in
-    (pre .5, own-agrees _ _ _ _ _ (p .before .if1 .left) (p .page-at .ensures) (pre .7))
+    let e = p .page-at .ensures in
+    let r = own-rule _ _ _ _ _ (p .before .if1 .left) e (pre .7) in
+    (pre .5, own-agrees _ _ _ _ _ (p .before .if1 .left) e (pre .7), rule-facts _ _ _ r .some, filled _ _ _ r (rw e (page-lent _ _ _ _)))
 
 nodes-for-requires : tie.Need-nodes-for-requires
 nodes-for-requires c κs =

@@ -27,6 +27,11 @@ loop-holds c =
     let p = c .before .before in
     (search needs, omega (arith, p .pre .0, c .width-of .ensures), p .pre .1, omega arith)
 
+keys-agree-requires : tie.Need-keys-agree-requires Inv-loop μ-loop
+keys-agree-requires c κs =
+    let p = c .before .before .before .before .pre in
+    (omega (arith, c .loop-test .taken, c .before .before .width-of .ensures .0), p .2, p .3)
+
 -- a bit is left
 below : (c : tie.After-keys-agree Inv-loop μ-loop) → let p = c .before .before in p .loop .u < width (p .before .before .before .args .f)
 below c = omega (arith, c .before .loop-test .taken, c .before .before .before .width-of .ensures .0)
@@ -55,5 +60,5 @@ returns-2 c =
 pub rounds-for-spec : {M : Type 1} → statement M
 rounds-for-spec =
     tie.close
-    (tie.spec Inv-loop μ-loop (λ c κs. search needs) loop-holds (λ c. search needs) (λ c κs. search needs) (λ c. search needs) returns
+    (tie.spec Inv-loop μ-loop (λ c κs. search needs) loop-holds (λ c. search needs) keys-agree-requires (λ c. search needs) returns
     (λ c. search needs) loop-again (λ c. search needs) returns-2)

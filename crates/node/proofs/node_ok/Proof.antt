@@ -3,64 +3,96 @@ use borrow.Author.Needs.{needs}
 use mathlib.Core.Path.{_≡_, refl, sym, _∙_}
 use mathlib.Core.Bool.{true, false≢true}
 use native.Mathlib.Omega.{arith}
+use lib.ListN.{length}
+use Prim.Native.Nat.{_+_, _*_, _≤_}
 use borrow.Author.Tests.{eq-eqb, le-leb}
-use lib.Pow.{pow-mono}
 use Rattle.lists.proofs.Tests.{untrue, passed, failed}
-use Rattle.node.specs.Node.{depthWord, backWord, forwardWord, linkRule, pointerLow, pointerHigh, goodRuns, entryOf}
-use Rattle.node.proofs.NodeLaws.{node-rule-is, node-facts}
+use Rattle.node.specs.Node.{depthWord, pointerLow, pointerHigh, goodRuns, entryOf}
+use Rattle.node.proofs.NodeLaws.{low-most, high-most, back-most, block-words, block-holds, block-rest, node-rule-is, node-facts}
 use Rattle.node.proofs.node_ok.Statement.{statement}
 use Rattle.node.proofs.node_ok.Tie as tie
 
--- from the test of the links back to where the depth is read
-abbrev read : tie.After-links-ok → tie.After-word
-read c = c .before .before .before .before .before .before .before
+wide : (c : tie.Start) → 6 ≤ length (c .args .node .now)
+wide c = block-words _ (c .pre .3)
 
--- what two calls say of the node's words
-links-are : (c : tie.After-links-ok)
-    → let a = read c .before .before .args in
-    let s = a .store .now in
-    c .links-ok .result ≡ linkRule (a .head) (a .level) (backWord s (a .at)) (forwardWord s (a .at))
-links-are c = rw (c .before .before .word3 .ensures, c .before .word4 .ensures) at (c .links-ok .ensures)
+-- from the test of the runs back to that of the depth, and from there to the entry
+abbrev tested : tie.After-runs-ok → tie.Else1
+tested c = c .before .before .before .before .before .before .before .before .before
 
+abbrev entered : tie.Else1 → tie.Start
+entered c = c .before .before .before .before
+
+-- the runs, by what the calls say of the pointers
 runs-are : (c : tie.After-runs-ok)
-    → let a = read (c .before .before .before .before) .before .before .args in
-    let s = a .store .now in
-    c .runs-ok .result ≡ goodRuns (depthWord s (a .at)) (pointerLow (a .level)) (pointerHigh (a .head) (a .level)) (entryOf s (a .at))
-runs-are c =
-    rw
-    (c .before .before .pointer-low .ensures, c .before .pointer-high .ensures, read (c .before .before .before .before) .word .ensures)
-    at (c .runs-ok .ensures)
+    → let a = entered (tested c) .args in
+    let ws = a .node .now in
+    c .runs-ok .result ≡ goodRuns (depthWord ws 0) (pointerLow (a .level)) (pointerHigh (a .head) (a .level)) (entryOf ws 0)
+runs-are c = rw (c .before .before .pointer-low .ensures, c .before .pointer-high .ensures) at (c .runs-ok .ensures)
+
+-- the entries end within the block
+ends : (c : tie.After-pow2) → 4 + 2 * c .pow2 .result ≤ length (entered (tested (c .before .before)) .args .node .now)
+ends c =
+    let d = tested (c .before .before) in
+    rw (c .pow2 .ensures .0) (block-holds _ (entered d .pre .3) (d .if1 .left))
+
+shared-slice-read-depth : tie.Need-shared-slice-read-depth
+shared-slice-read-depth c = omega (arith, wide (c .before .before))
+
+shared-slice-read-if2 : tie.Need-shared-slice-read-if2
+shared-slice-read-if2 c = omega (arith, wide (c .before .before .before .before .before))
+
+shared-slice-read-links-ok : tie.Need-shared-slice-read-links-ok
+shared-slice-read-links-ok c = omega (arith, wide (c .before .before .before .before .before .before .before))
+
+shared-slice-read-links-ok-2 : tie.Need-shared-slice-read-links-ok-2
+shared-slice-read-links-ok-2 c = omega (arith, wide (c .before .before .before .before .before .before .before .before))
 
 returns : tie.Need-returns
-returns c = untrue (λ e. omega (arith, c .before .before .word .ensures, node-facts _ _ _ _ e .depth))
+returns c = untrue (λ e. omega (arith, node-facts _ _ _ _ e .depth))
 
 returns-2 : tie.Need-returns-2
-returns-2 c = untrue (λ e. c .if2 .taken (c .before .word2 .ensures ∙ node-facts _ _ _ _ e .level-is))
+returns-2 c = untrue (λ e. c .if2 .taken (node-facts _ _ _ _ e .level-is))
 
 returns-3 : tie.Need-returns-3
-returns-3 c = untrue (λ e. false≢true (sym (failed (links-are (c .before)) (c .if3 .taken)) ∙ node-facts _ _ _ _ e .links))
+returns-3 c = untrue (λ e. false≢true (sym (failed (c .before .links-ok .ensures) (c .if3 .taken)) ∙ node-facts _ _ _ _ e .links))
+
+runs-ok-requires : tie.Need-runs-ok-requires
+runs-ok-requires c κs =
+    let l = c .before .before in
+    let d = l .before .before .before .before .before .before in
+    let p = entered d .pre in
+    let back = back-most _ _ _ _ (passed (l .before .links-ok .ensures) (l .if3 .left)) in (
+      omega (arith, p .0),
+      rw (c .before .pointer-low .ensures) (low-most _),
+      rw (c .pointer-high .ensures) (high-most _ _ 4096 (p .1) (p .2)),
+      block-holds _ (p .3) (d .if1 .left),
+      omega (arith, back, p .1),
+    )
 
 returns-4 : tie.Need-returns-4
 returns-4 c = untrue (λ e. false≢true (sym (failed (runs-are (c .before)) (c .if4 .taken)) ∙ node-facts _ _ _ _ e .runs))
 
-sub-all-zero : tie.Need-sub-all-zero
-sub-all-zero c = rw (c .before .pow2 .ensures .0, c .pow22 .ensures .0) (pow-mono (omega arith))
+sub-is-zero : tie.Need-sub-is-zero
+sub-is-zero c = ends c
+
+part-is-zero-start : tie.Need-part-is-zero-start
+part-is-zero-start c = ends c
 
 returns-5 : tie.Need-returns-5
 returns-5 c =
-    let p = c .before .before .before in
-    let q = p .before .before .before .before in
-    let r = q .before .before .before .before in
-    let d = read (q .before) .word .ensures in
-    node-rule-is _ _ _ _ _ true true true true _ refl (sym (rw d at (le-leb _ _ (r .before .before .if1 .left))))
-    (sym (rw (r .before .word2 .ensures) at (eq-eqb _ _ (r .if2 .left)))) (sym (passed (links-are (q .before)) (q .if3 .left)))
-    (sym (passed (runs-are (p .before)) (p .if4 .left)))
-    (rw (c .before .before .pow2 .ensures .0, c .before .pow22 .ensures .0, d) at (c .all-zero .ensures))
+    let g = c .before .before .before in
+    let l = g .before .before .before .before in
+    let v = l .before .before .before .before in
+    let d = v .before .before in
+    let p = entered d .pre in
+    node-rule-is _ _ _ _ _ true true true true _ refl (sym (le-leb _ _ (d .if1 .left))) (sym (eq-eqb _ _ (v .if2 .left)))
+    (sym (passed (l .before .links-ok .ensures) (l .if3 .left))) (sym (passed (runs-are (g .before)) (g .if4 .left)))
+    (block-rest _ _ (p .3) (d .if1 .left) (c .before .before .pow2 .ensures .0) (c .is-zero .ensures))
 
 pub node-ok-spec : {M : Type 1} → statement M
 node-ok-spec =
     tie.close
-    (tie.spec (λ c κs. search needs) returns (λ c. search needs) (λ c κs. search needs) returns-2 (λ c. search needs) (λ c κs. search needs)
-    (λ c. search needs) (λ c κs. search needs) (λ c κs. search needs) returns-3 (λ c κs. search needs) (λ c κs. search needs)
-    (λ c κs. search needs) returns-4 (λ c κs. search needs) (λ c κs. search needs) (λ c. search needs) (λ c. search needs)
-    (λ c. search needs) sub-all-zero (λ c. search needs) (λ c κs. search needs) returns-5)
+    (tie.spec shared-slice-read-depth returns shared-slice-read-if2 returns-2 shared-slice-read-links-ok shared-slice-read-links-ok-2
+    (λ c κs. search needs) returns-3 (λ c κs. search needs) (λ c κs. search needs) runs-ok-requires returns-4 (λ c κs. search needs)
+    (λ c. search needs) (λ c. search needs) (λ c. search needs) sub-is-zero part-is-zero-start (λ c. search needs) (λ c κs. search needs)
+    returns-5)

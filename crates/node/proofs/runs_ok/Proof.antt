@@ -1,60 +1,72 @@
--- The walk has passed whole runs so far.
+-- The tests of the entries so far are gathered.
 use borrow.Author.Needs.{needs}
-use mathlib.Core.Path.{_≡_, sym}
+use mathlib.Core.Path.{_≡_, _∙_, subst}
 use native.Mathlib.Omega.{arith}
-use Prim.Native.Nat.{_+_, _-_, _^_, _≤_, max}
-use Rattle.lists.proofs.Tests.{passed, failed}
-use Rattle.node.specs.Node.{entryOf}
-use Rattle.node.proofs.RunWalk.{Passed, passed-none, passed-all}
-use Rattle.node.proofs.NodeLaws.{run-passes, run-refused}
+use Prim.Native.Nat.{_-_, _^_, _≤_}
+use Rattle.node.proofs.Neighbours.{aligned}
+use Rattle.node.proofs.FaultLaws.{Gathered, gathered-none, gathered-more, Fair, outside-breaks, torn-breaks, full-is}
 use Rattle.node.proofs.runs_ok.Statement.{statement}
 use Rattle.node.proofs.runs_ok.Tie as tie
 
 abbrev Inv-loop : tie.InvT-loop
-Inv-loop store at depth low high n deepest₀ i₀ deepest i =
-    (n ≡ 2 ^ depth) × (n ≤ 64) × Passed depth low high (entryOf store at) i deepest
+Inv-loop node depth low high n table g₀ i₀ g i = (n ≡ 2 ^ depth) × (n ≤ 64) × (i ≤ n) × Gathered depth low high node i g
 
 abbrev μ-loop : tie.MeasureT-loop
-μ-loop store at depth low high n deepest₀ i₀ deepest i = n - i
+μ-loop node depth low high n table g₀ i₀ g i = n - i
 
--- after a run that passes
-on : (c : tie.After-word Inv-loop μ-loop)
-    → let p = c .before .before .before .before in
-    let a = p .before .before .before .args in
-    (c .word .result ≤ a .depth)
-    × Passed (a .depth) (a .low) (a .high) (entryOf (a .store .now) (a .at)) (p .loop .i + 2 ^ (a .depth - c .word .result))
-    (max (p .loop .deepest) (c .word .result))
-on c =
-    rw (← (c .word .ensures)) at
-    (run-passes _ _ _ _ _ _ (c .before .before .before .before .loop .inv .2)
-    (omega (arith, c .before .before .before .before .loop .inv .0)) (passed (c .before .before .run-ok .ensures) (c .before .if1 .left)))
+-- what is asked, and what is known of the words
+fair : (c : tie.After-shared-slice-known Inv-loop μ-loop)
+    → let a = c .before .args in
+    Fair (a .depth) (a .low) (a .high) (a .node .now)
+fair c =
+    let p = c .before .pre in
+    record {
+      depth = p .0;
+      lows = p .1;
+      highs = p .2;
+      back = p .4;
+      words = λ j. omega (arith, c .shared-slice-known .given j);
+    }
+
+-- after the last entry
+whole : (c : tie.After-loop Inv-loop μ-loop)
+    → let a = c .before .before .before .before .args in
+    Gathered (a .depth) (a .low) (a .high) (a .node .now) (2 ^ a .depth) (c .before .loop .g)
+whole c =
+    let l = c .before .loop in
+    let a = c .before .before .before .before .args in
+    subst (λ n. Gathered (a .depth) (a .low) (a .high) (a .node .now) n (l .g)) (c .loop-test .left ∙ l .inv .0) (l .inv .3)
 
 loop-holds : tie.Need-loop-holds Inv-loop μ-loop
-loop-holds c = (c .pow2 .ensures .0, c .pow2 .ensures .2, passed-none _ _ _ _)
+loop-holds c = (c .pow2 .ensures .0, c .pow2 .ensures .2, search needs, gathered-none _ _ _ _)
 
-returns : tie.Need-returns Inv-loop μ-loop
-returns c =
-    sym
-    (run-refused _ _ _ _ _ _ (c .before .before .before .loop .inv .2) (omega (arith, c .before .before .before .loop .inv .0))
-    (failed (c .before .run-ok .ensures) (c .if1 .taken)))
-
-sub-pow2 : tie.Need-sub-pow2 Inv-loop μ-loop
-sub-pow2 c = on (c .before) .0
+gathered-requires : tie.Need-gathered-requires Inv-loop μ-loop
+gathered-requires c κs =
+    let l = c .before .before .loop in
+    (search needs, omega (arith, l .inv .0, c .before .before .before .before .before .pre .3))
 
 loop-again : tie.Need-loop-again Inv-loop μ-loop
+unfolding aligned
 loop-again c =
-    let l = c .before .before .before .before .before .before .loop in
-    (l .inv .0, l .inv .1, rw (c .before .larger .ensures, c .pow22 .ensures .0) (on (c .before .before) .1))
+    let l = c .before .before .before .loop in
+    (l .inv .0, l .inv .1, search needs, rw (c .gathered .ensures, c .before .behind .ensures) (gathered-more _ _ _ _ (l .inv .3)))
+
+returns : tie.Need-returns Inv-loop μ-loop
+returns c = let l = c .before .before in outside-breaks _ _ _ _ (fair (l .before .before .before)) (whole l) (c .if1 .taken)
 
 returns-2 : tie.Need-returns-2 Inv-loop μ-loop
 returns-2 c =
-    let l = c .before .loop in
-    let e : l .i ≡ 2 ^ c .before .before .before .before .args .depth = omega (arith, l .inv .0, l .inv .2 .within) in
-    sym (passed-all _ _ _ _ (l .deepest) (rw e at (l .inv .2)))
+    let l = c .before .before .before .before in
+    torn-breaks _ _ _ _ (fair (l .before .before .before)) (whole l) (c .if2 .taken)
+
+returns-3 : tie.Need-returns-3 Inv-loop μ-loop
+returns-3 c =
+    let o = c .before .before .before in
+    let l = o .before .before in
+    full-is _ _ _ _ (fair (l .before .before .before)) (whole l) (o .if1 .left) (c .before .if2 .left)
 
 pub runs-ok-spec : {M : Type 1} → statement M
 runs-ok-spec =
     tie.close
-    (tie.spec Inv-loop μ-loop (λ c κs. search needs) loop-holds (λ c κs. search needs) returns (λ c. search needs) (λ c. search needs)
-    (λ c. search needs) (λ c κs. search needs) (λ c κs. search needs) sub-pow2 (λ c κs. search needs) (λ c. search needs)
-    (λ c. search needs) loop-again returns-2)
+    (tie.spec Inv-loop μ-loop (λ c κs. search needs) loop-holds (λ c. search needs) (λ c. search needs) (λ c κs. search needs)
+    gathered-requires (λ c. search needs) (λ c. search needs) loop-again returns returns-2 returns-3)

@@ -53,6 +53,7 @@ use Rattle.store.proofs.Item.Laws as I′
 use Rattle.page.specs.Page.{itemAt}
 use Rattle.page.specs.declared.Reader.{Reader}
 use Rattle.page.specs.declared.Read.{Read}
+use Rattle.page.proofs.Inside.{Lies}
 use Rattle.page.proofs.Walks.{ReaderType, reader-laws, ReadType, read-laws, B, Q}
 use Rattle.page.proofs.Walks.{readerVal, readVal, itemVal, formatVal, sliceOf, Tok, hears, hears-plain, format-typed, item-typed}
 use Rattle.page.proofs.Reader as T
@@ -148,7 +149,7 @@ module _ {M : Type 1} (𝓤 : URA M) (H : Heap 𝓤) (A : Atoms 𝓤) (W : Given
         Seq K W (raw (After 𝓤 H A mem run .post to-after u) ∷ Γ) G
     after-after k soaks u = hears-plain k soaks usize after-ensured (λ n. n ≡ d .at + 1) after-said u (id⊢ 𝓤 _)
 
-    module _ (within : d .at < 2 ^ 32) (fits : d .at < 2 ^ 64) (f-is : Is F.the-row f (formatVal f ∷ [])) where
+    module _ (within : Lies f (now (d .page)) (d .at)) (fits : d .at < 2 ^ 64) (f-is : Is F.the-row f (formatVal f ∷ [])) where
       asks-item :
           ent 𝓤 (onEntry 𝓤 H A item.signature (κ, tt) (q, tt) (d .page, (f, (d .at, tt))) passed)
           (ItemAt 𝓤 H A mem run .pre to-item)
@@ -175,7 +176,7 @@ module _ {M : Type 1} (𝓤 : URA M) (H : Heap 𝓤) (A : Atoms 𝓤) (W : Given
 
       asks-after : ent 𝓤 (emp 𝓤) (After 𝓤 H A mem run .pre to-after)
       asks-after =
-          qed W [] ∵ says ! within $ nothing ! $
+          qed W [] ∵ says ! (within .0) $ nothing ! $
           owned ! usize (Is usize) (uint-makes 𝓤 H A W w64) (d .at) _ (refl, fits) $ fjoin ! $ nothing ! $ frame ! $ done !
 
       -- what whoever returns the struct owes: each field's relation
@@ -274,7 +275,7 @@ module _ {M : Type 1} (𝓤 : URA M) (H : Heap 𝓤) (A : Atoms 𝓤) (W : Given
         (λ κs. (LL.tells (ReaderType (κs .0)) (reader-laws (κs .0)), (EL.tells F.the-type F′.the-laws, tt)))
         (λ κs qs bounds a g are.
         let wt = LL.lawful (ReaderType (κs .0)) (reader-laws (κs .0)) 𝓤 H A W .typed (a .0) _ (are .0) .0 in
-        needs 𝓤 (a .0 .at < 2 ^ 32) _ (λ within.
+        needs 𝓤 (Lies (a .1 .0) (now (a .0 .page)) (a .0 .at)) _ (λ within.
         walk (κs .0) (qs .0) (a .0) (a .1 .0) within (wt .1 .1 .0 .fits) (are .1 .0) 𝓣 known-item known-after (are .0) wt))
 
     advance-meets : Meets 𝓤 H A adv.signature (WpFn 𝓤 H (𝓣 .C) (𝓣 .Λ) code.function) (adv.spec 𝓤 H A mem run)

@@ -4,7 +4,6 @@ use mathlib.Core.Path.{_≡_, refl, sym, ap, subst, _∙_}
 use mathlib.Core.Bool.{Bool, true, false}
 use mathlib.Core.WellFounded.{WellFounded, InvImage·wf}
 use Prim.Native.Nat.{ℕ, _<_, _^_}
-use native.Mathlib.Omega.{arith}
 use mathlib.Core.List.{List, [], _∷_}
 use lib.Dec.{T as Holds, lit<}
 use lib.Ieee.Bits.{is-true, is-false}
@@ -61,6 +60,7 @@ use Rattle.page.specs.Page.{itemAt, begun, goesOn, checkedOf}
 use Rattle.page.specs.declared.Progress.{Progress}
 use Rattle.page.specs.declared.Reader.{Reader}
 use Rattle.page.specs.declared.Read.{Read}
+use Rattle.page.proofs.Inside.{Lies, Room, lies, lies-at}
 use Rattle.page.proofs.Order.{Reached, starts, within, next, ends, less-left}
 use Rattle.page.proofs.Walks.{ReadType, read-laws, B, Q, readerVal, readVal, itemVal, formatVal, sliceOf, Own, Tok, hears-plain}
 use Rattle.page.proofs.Walks.{reader-told, read-told, item-is, rest-is, format-typed, item-typed, reader-typed, read-typed}
@@ -243,9 +243,10 @@ module _ {M : Type 1} (𝓤 : URA M) (H : Heap 𝓤) (A : Atoms 𝓤) (W : Given
                 (e .0 ∙ ap (λ (z : RefT (List ℕ)). itemAt f (now z) (t .r .at)) (t .page)) c (e .3);
           }
 
-    module _ (ok : n < 2 ^ 64) (few : n < 2 ^ 32) (f-is : Is F.the-row f (formatVal f ∷ [])) where
-      close : (t : Seen) → goesOn (t .p) ≡ true → t .r .at < 2 ^ 32
-      close t on = omega (arith, few, within f (now s) n (t .p) (t .r .at) (t .reached) on)
+    module _ (ok : n < 2 ^ 64) (room : Room f (now s) n) (f-is : Is F.the-row f (formatVal f ∷ [])) where
+      close : (t : Seen) → goesOn (t .p) ≡ true → Lies f (now (t .r .page)) (t .r .at)
+      close t on =
+          lies-at f (ap now (t .page)) refl (lies f (now s) n room (t .r .at) (within f (now s) n (t .p) (t .r .at) (t .reached) on))
 
       exits :
           (t : Seen) → goesOn (t .p) ≡ false →
@@ -458,8 +459,8 @@ module _ {M : Type 1} (𝓤 : URA M) (H : Heap 𝓤) (A : Atoms 𝓤) (W : Given
         (λ κs. (slice-vals, (EL.vals F.the-type F′.the-laws, (uint-vals w64, tt))))
         (λ κs. (shr-slice-tells (named 0) (κs .0) u32, (EL.tells F.the-type F′.the-laws, (uint-tells w64, tt))))
         (λ κs qs bounds a g are.
-        needs 𝓤 (a .1 .1 .0 < 2 ^ 32) _ (λ few.
-        walk (κs .0) (qs .0) (a .0) (a .1 .0) (a .1 .1 .0) (are .1 .1 .0 .1) few (are .1 .0)
+        needs 𝓤 (Room (a .1 .0) (now (a .0)) (a .1 .1 .0)) _ (λ room.
+        walk (κs .0) (qs .0) (a .0) (a .1 .0) (a .1 .1 .0) (are .1 .1 .0 .1) room (are .1 .0)
         𝓣 known-begin known-open known-goes-on known-advance known-checked (are .0)))
 
     in-order-meets : Meets 𝓤 H A ord.signature (WpFn 𝓤 H (𝓣 .C) (𝓣 .Λ) code.function) (ord.spec 𝓤 H A mem run)

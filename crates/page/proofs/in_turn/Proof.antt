@@ -1,17 +1,15 @@
 -- The two tests of the definition.
 use borrow.Author.Needs.{needs}
-use Rattle.lists.proofs.Tests.{passed, failed}
+use mathlib.Core.Path.{ap}
+use mathlib.Core.Bool.{_&&_}
+use lib.Dec.{ltb}
 use Rattle.page.specs.Page.{inTurn}
 use Rattle.page.proofs.in_turn.Statement.{statement}
 use Rattle.page.proofs.in_turn.Tie as tie
 
 returns : tie.Need-returns
 unfolding inTurn
-returns c = rw (failed (c .before .lawful-item .ensures) (c .if1 .taken))
-
-returns-2 : tie.Need-returns-2
-unfolding inTurn
-returns-2 c = rw (passed (c .before .before .lawful-item .ensures) (c .before .if1 .left))
+returns c = let a = c .before .before .args in ap (λ b. b && ltb (a .key) (a .item .key)) (c .before .lawful-item .ensures)
 
 pub in-turn-spec : {M : Type 1} → statement M
-in-turn-spec = tie.close (tie.spec (λ c κs. search needs) returns returns-2)
+in-turn-spec = tie.close (tie.spec (λ c κs. search needs) returns)

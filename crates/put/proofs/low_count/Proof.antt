@@ -9,7 +9,9 @@ use native.Mathlib.Omega.{arith}
 use Rattle.lists.specs.Bits.{bit as bitOf}
 use Rattle.store.specs.declared.Format.{Format}
 use Rattle.store.specs.declared.Item.{Item}
-use Rattle.page.specs.Page.{itemAt, keyAt}
+use Rattle.store.specs.Format.{words}
+use Rattle.page.specs.Page.{count, itemAt, keyAt}
+use Rattle.page.proofs.Inside.{inside}
 use Rattle.put.proofs.PutLaws.{width-small, low-first}
 use Rattle.put.proofs.low_count.Statement.{statement}
 use Rattle.put.proofs.low_count.Tie as tie
@@ -27,6 +29,12 @@ abbrev μ-loop : tie.MeasureT-loop
 
 loop-holds : tie.Need-loop-holds Inv-loop μ-loop
 loop-holds c = (search needs, below-none _)
+
+read-one-requires : tie.Need-read-one-requires Inv-loop μ-loop
+read-one-requires c κs =
+    let s = c .before .before .before .before in
+    let n = c .before .before .count-of .ensures in
+    (search needs, inside (words (s .args .f)) (count (s .args .page .now)) _ _ (s .pre .1) (omega (arith, n .0)))
 
 bit-set-requires : tie.Need-bit-set-requires Inv-loop μ-loop
 bit-set-requires c κs = omega (arith, width-small (c .before .before .before .before .before .args .f))
@@ -54,5 +62,5 @@ returns-2 c = (
 pub low-count-spec : {M : Type 1} → statement M
 low-count-spec =
     tie.close
-    (tie.spec Inv-loop μ-loop (λ c κs. search needs) loop-holds (λ c κs. search needs) bit-set-requires returns (λ c. search needs)
+    (tie.spec Inv-loop μ-loop (λ c κs. search needs) loop-holds read-one-requires bit-set-requires returns (λ c. search needs)
     (λ c. search needs) loop-again returns-2)

@@ -8,13 +8,13 @@ use lib.ListN.{length, length-set}
 use Rattle.represent.specs.Image.{pageImage}
 use Rattle.represent.proofs.PageImage.{page-count}
 use Rattle.put.proofs.WordLaws.{end-room, returned, returned-long}
-use Rattle.put.proofs.PutLaws.{room-more, first-within, put-words, insert-first}
+use Rattle.put.proofs.PutLaws.{room-more, put-words, insert-first}
 use Rattle.put.proofs.put_record.Statement.{statement}
 use Rattle.put.proofs.put_record.Tie as tie
 
 -- the new number is at most the count
 within : (c : tie.After-first-above) → c .first-above .result ≤ c .before .before .count-of .result
-within c = first-within _ _ _ _ _ _ (c .first-above .ensures .0) (c .before .before .count-of .ensures .0)
+within c = omega (arith, c .first-above .ensures .1, c .before .before .count-of .ensures .0)
 
 -- where the record goes
 abbrev at : tie.After-words-of → ℕ

@@ -1,149 +1,135 @@
 -- The records written so far are the first ones of the walk.
 use borrow.Author.Needs.{needs}
-use mathlib.Core.Path.{_≡_, refl, sym, _∙_}
-use mathlib.Core.Bool.{false}
-use mathlib.Core.List.{List, [], _∷_, _++_}
-use Prim.Native.Nat.{ℕ, suc, _+_, _-_, _*_, _≤_}
+use mathlib.Core.List.{_++_}
+use Prim.Native.Nat.{ℕ, _+_, _-_, _*_, _^_, _≤_, _<_}
 use native.Mathlib.Omega.{arith}
-use lib.ListN.{length, drop, length-append}
-use Rattle.store.specs.declared.Format.{Format}
-use Rattle.store.specs.declared.Item.{Item}
+use lib.ListN.{length, getD, take, drop}
 use Rattle.store.specs.Format.{words}
-use Rattle.page.specs.Page.{flat}
-use Rattle.search.specs.declared.Sought.the-variants.{Record}
-use Rattle.search.specs.Next.{nextOf}
-use Rattle.scan.specs.Range.{firsts}
-use Rattle.scan.proofs.FillLaws.{firsts-none, firsts-lost, walk-more, walk-short, walk-end}
-use Rattle.scan.proofs.FillLaws.{room-more, part-room, length-filled, fill-more, fill-end}
+use Rattle.store.proofs.Places.{under-limits}
+use Rattle.scan.proofs.FillWalk.{Filling, Turned, found-some, fill-none, fill-begins, fill-held, fill-length, fill-room, fill-asks}
+use Rattle.scan.proofs.FillWalk.{fill-turns}
 use Rattle.scan.proofs.fill.Statement.{statement}
 use Rattle.scan.proofs.fill.Tie as tie
 
 abbrev Inv-loop : tie.InvT-loop
-Inv-loop store f head low n out₀ w strict₀ k₀ at₀ i₀ out strict k at i =
-    (its : List Item) × (length its ≡ i) × (i ≤ n) × (at ≡ words f * i) × (length out ≡ length out₀)
-    × (out ≡ flat f its ++ drop (words f * i) out₀)
-    × (its ++ firsts f store head strict k (n - i) ≡ firsts f store head false low n) × (w ≡ words f)
+Inv-loop store f head low n out₀ words at₀ left₀ w₀ out at left w = Filling f store head low n out₀ out at left w
 
 abbrev μ-loop : tie.MeasureT-loop
-μ-loop store f head low n out₀ w strict₀ k₀ at₀ i₀ out strict k at i = n - i
+μ-loop store f head low n out₀ words at₀ left₀ w₀ out at left w = left
 
--- there is room for the record that is read
-room : (c : tie.In-loop Inv-loop μ-loop)
-    → let a = c .before .before .before .before .before .args in
-    let l = c .before .loop in
-    l .at + words (a .f) ≤ length (l .out)
-room c =
-    let start = c .before .before .before .before .before in
-    let a = start .args in
-    let l = c .before .loop in
-    let more = room-more (words (a .f)) (l .i) (a .n) (length (a .out .now)) (c .loop-test .taken) (start .pre .5) in
-    omega (arith, l .inv .3, l .inv .4, more)
+-- the store's words are words
+below : (c : tie.After-shared-slice-known Inv-loop μ-loop) (j : ℕ) → getD (c .before .args .store .now) j 0 < 2 ^ 32
+below c j = omega (arith, c .shared-slice-known .given j)
 
--- there is a record to be read
-not-short : (c : tie.After-next-under Inv-loop μ-loop)
-    → let a = c .before .before .before .before .before .before .args in
-    let l = c .before .before .loop in
-    firsts (a .f) (a .store .now) (a .head) (l .strict) (l .k) (suc (a .n - (l .i + 1))) ≡ [] → ⊥
-not-short c e =
-    let l = c .before .before .loop in
-    let start = c .before .before .before .before .before .before in
-    walk-short _ _ _ _ _ _ _ (l .inv .0) _ (c .before .loop-test .taken) (l .inv .1) e (l .inv .6) (start .pre .6)
+-- the output lies in memory
+short : (c : tie.After-slice-known Inv-loop μ-loop) → length (c .before .before .args .out .now) * 4 < 2 ^ 63
+short c = search needs
 
-record-is : (c : tie.After-a Inv-loop μ-loop)
-    → let l = c .before .before .before .before in
-    let a = l .before .before .before .before .args in
-    nextOf (a .f) (a .store .now) (a .head) (l .loop .strict) (l .loop .k) ≡ Record (c .a .given .0 .0)
-record-is c = sym (c .before .before .next-under .ensures) ∙ c .a .given .1
+returns : tie.Need-returns Inv-loop μ-loop
+returns c = fill-none _ _ _ _ _ _ (c .if1 .taken)
 
-start : (f : Format) (out : List ℕ) → out ≡ flat f [] ++ drop 0 out
-unfolding flat
-start f out = refl
+walk-from-requires : tie.Need-walk-from-requires Inv-loop μ-loop
+walk-from-requires c κs =
+    let p = c .before .before .before .before .pre in
+    (p .0, λ e. found-some (p .0) _ _ _ (omega (arith, c .before .if1 .left)) (p .2) .0)
 
 loop-holds : tie.Need-loop-holds Inv-loop μ-loop
 loop-holds c =
-    let a = c .before .before .before .args in
-    let z : words (a .f) * 0 ≡ 0 = omega arith in
-    let n : a .n - 0 ≡ a .n = omega arith in
-    rw (z, n) ([], refl, omega arith, refl, refl, start (a .f) (a .out .now), refl, c .words-of .ensures .0)
+    let p = c .before .before .before .before .before .pre in
+    fill-begins (p .0) (p .1) (p .2) (omega (arith, c .before .before .if1 .left)) (c .walk-from .ensures)
 
-mul-write-item : tie.Need-mul-write-item Inv-loop μ-loop
-mul-write-item c = let r = room (c .before .before .before .before) in search needs
+page-at-requires : tie.Need-page-at-requires Inv-loop μ-loop
+page-at-requires c κs = let l = under-limits (c .before .loop .inv .under) in (l .theta, l .capacity)
 
-sub-write-item : tie.Need-sub-write-item Inv-loop μ-loop
-sub-write-item c = omega (arith, room (c .before .before .before .before))
+sub-smaller : tie.Need-sub-smaller Inv-loop μ-loop
+sub-smaller c =
+    let l = c .before .before .before .loop in
+    let e : l .w .span .from ≤ l .w .span .to = omega (arith, fill-held (l .inv) .some) in
+    e
 
-part-write-item-start : tie.Need-part-write-item-start Inv-loop μ-loop
-part-write-item-start c = let r = room (c .before .before .before .before) in search needs
+-- there is room for the records that are copied
+room : (c : tie.After-smaller Inv-loop μ-loop)
+    → let l = c .before .before .before .before in
+    let a = l .before .before .before .before .before .before .args in
+    let m = c .smaller .result in
+    (1 ≤ m) × (m ≤ l .loop .left) × (l .loop .at + words (a .f) * m ≤ length (l .loop .out)) × (length (l .loop .out) * 4 < 2 ^ 63)
+room c =
+    let l = c .before .before .before .before in
+    let r = fill-room (l .loop .inv) (c .smaller .ensures) in
+    (r .0, r .1, r .2, omega (arith, fill-length (l .loop .inv), short (l .before .before .before .before)))
 
-part-write-item-end : tie.Need-part-write-item-end Inv-loop μ-loop
-part-write-item-end c = let r = room (c .before .before .before .before) in search needs
+mul-copy-rows : tie.Need-mul-copy-rows Inv-loop μ-loop
+mul-copy-rows c = let r = room c in search needs
 
-write-item-requires : tie.Need-write-item-requires Inv-loop μ-loop
-write-item-requires c κs =
-    let t = c .before .before .before .before .before in
-    part-room _ _ (t .before .loop .out) (room t)
+sub-copy-rows : tie.Need-sub-copy-rows Inv-loop μ-loop
+sub-copy-rows c = omega (arith, room c)
+
+part-copy-rows-start : tie.Need-part-copy-rows-start Inv-loop μ-loop
+part-copy-rows-start c = let r = room c in search needs
+
+part-copy-rows-end : tie.Need-part-copy-rows-end Inv-loop μ-loop
+part-copy-rows-end c = let r = room c in search needs
+
+copy-rows-requires : tie.Need-copy-rows-requires Inv-loop μ-loop
+copy-rows-requires c κs =
+    let t = c .before .before .before in
+    fill-asks (t .before .before .loop .inv) (c .before .smaller .ensures) (t .page-at .ensures)
+
+-- the words behind those that are copied, as the code counts them
+place : (c : tie.After-slice-known2 Inv-loop μ-loop)
+    → let s = c .before .before .before .before in
+    let l = s .before .before .before .before in
+    l .loop .at + l .before .before .words-of .result * s .smaller .result < 2 ^ 63
+place c =
+    let s = c .before .before .before .before in
+    let r = room s in
+    rw (s .before .before .before .before .before .before .words-of .ensures .0) (omega (arith, r .2, r .3))
+
+mul-at : tie.Need-mul-at Inv-loop μ-loop
+mul-at c = let z = place c in search needs
 
 add-at : tie.Need-add-at Inv-loop μ-loop
-add-at c =
-    let t = c .before .before .before .before .before .before .before .before in
-    omega (arith, room t, t .before .loop .inv .7)
+add-at c = let z = place c in search needs
 
-loop-again : tie.Need-loop-again Inv-loop μ-loop
-loop-again c =
-    let w = c .before .before in
-    let r = w .before .before .before in
-    let t = r .before .before .before in
-    let l = t .before .loop in
-    let start = t .before .before .before .before .before in
-    let a = start .args in
-    let it = r .a .given .0 .0 in
-    let its = l .inv .0 in
-    let len : length (its ++ (it ∷ [])) ≡ l .i + 1 = length-append its (it ∷ []) ∙ omega (arith, l .inv .1) in
-    let e =
-    fill-more (a .f) its it (l .i) (l .at) (l .out) (a .out .now) (w .write-item .last .0) (l .inv .5) (l .inv .1) (l .inv .3)
-    (w .write-item .ensures) in
-    let room = room-more (words (a .f)) (l .i) (a .n) (length (a .out .now)) (t .loop-test .taken) (start .pre .5) in (
-      its ++ (it ∷ []),
-      len,
-      omega (arith, t .loop-test .taken),
-      omega (arith, l .inv .3, l .inv .7),
-      length-filled (a .f) (its ++ (it ∷ [])) (l .i + 1) (a .out .now) _ len (omega arith) e,
-      e,
-      walk-more _ _ _ _ _ (l .i) (a .n) its _ it (t .loop-test .taken) (record-is r) (l .inv .6),
-      l .inv .7,
-    )
+sub-left : tie.Need-sub-left Inv-loop μ-loop
+sub-left c = room (c .before .before .before .before) .1
 
-enum-told : tie.Need-enum-told Inv-loop μ-loop
-enum-told c = search needs
+-- the records are copied
+turned : (c : tie.After-slice-known2 Inv-loop μ-loop)
+    → let y = c .before .before in
+    let s = y .before .before in
+    let l = s .before .before .before .before .loop in
+    let w = s .before .before .before .before .before .before in
+    let a = w .before .before .before .before .args in
+    Turned (a .f) (a .store .now) (a .head) (a .low) (a .n) (a .out .now)
+    (take (l .at) (l .out) ++ (y .copy-rows .last .1 .1 .1 .1 .0 ++ drop (length (l .out) - l .at) (drop (l .at) (l .out))))
+    (l .at + w .words-of .result * s .smaller .result) (l .left - s .smaller .result) (l .w)
+turned c =
+    let y = c .before .before in
+    let s = y .before .before in
+    let l = s .before .before .before .before in
+    let w = l .before .before in
+    fill-turns (l .loop .inv) (s .smaller .ensures) (s .before .before .page-at .ensures) (below (w .before .before .before))
+    (y .copy-rows .ensures) (w .words-of .ensures .0)
 
 same-length : tie.Need-same-length Inv-loop μ-loop
-same-length c = c .before .before .before .before .loop .inv .4
-
-returns : tie.Need-returns Inv-loop μ-loop
-returns c =
-    absurd
-    (not-short (c .before .before) (firsts-none _ _ _ _ _ _ (sym (c .before .before .next-under .ensures) ∙ c .enum-told .given .1)))
-
-same-length-2 : tie.Need-same-length-2 Inv-loop μ-loop
-same-length-2 c = c .before .before .before .before .loop .inv .4
+same-length c = turned (c .before) .same-length
 
 returns-2 : tie.Need-returns-2 Inv-loop μ-loop
-returns-2 c =
-    absurd
-    (not-short (c .before .before) (firsts-lost _ _ _ _ _ _ (sym (c .before .before .next-under .ensures) ∙ c .enum-told2 .given .1)))
+returns-2 c = turned (c .before) .ends (c .if2 .taken)
 
-same-length-3 : tie.Need-same-length-3 Inv-loop μ-loop
-same-length-3 c = c .before .loop .inv .4
+advance-requires : tie.Need-advance-requires Inv-loop μ-loop
+advance-requires c κs = let t = turned (c .before) in (t .under, t .stands, λ e. t .goes (c .if2 .left))
 
-returns-3 : tie.Need-returns-3 Inv-loop μ-loop
-returns-3 c =
-    let l = c .before .loop in
-    let e : l .i ≡ c .before .before .before .before .before .args .n = omega (arith, l .inv .2) in
-    fill-end _ (l .inv .0) _ _ _ _ _ (walk-end _ _ _ _ _ _ _ (l .inv .0) _ e (l .inv .6)) e (l .inv .5)
+loop-less : tie.Need-loop-less Inv-loop μ-loop
+loop-less c = omega (arith, room (c .before .before .before .before .before .before))
+
+loop-again : tie.Need-loop-again Inv-loop μ-loop
+loop-again c = turned (c .before .before) .again (c .before .if2 .left) (c .advance .ensures)
 
 pub fill-spec : {M : Type 1} → statement M
 fill-spec =
     tie.close
-    (tie.spec Inv-loop μ-loop (λ c κs. search needs) loop-holds (λ c κs. search needs) (λ c. search needs) mul-write-item sub-write-item
-    part-write-item-start part-write-item-end write-item-requires add-at (λ c. search needs) (λ c. search needs) loop-again enum-told
-    same-length returns (λ c. search needs) same-length-2 returns-2 same-length-3 returns-3)
+    (tie.spec Inv-loop μ-loop returns (λ c κs. search needs) walk-from-requires loop-holds page-at-requires sub-smaller
+    (λ c κs. search needs) mul-copy-rows sub-copy-rows part-copy-rows-start part-copy-rows-end copy-rows-requires mul-at add-at sub-left
+    same-length returns-2 advance-requires loop-less loop-again)

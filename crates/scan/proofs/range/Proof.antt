@@ -9,7 +9,6 @@ use Rattle.lists.proofs.Tests.{passed, failed}
 use Rattle.store.specs.Format.{words}
 use Rattle.store.specs.Head.{headOf, headRule}
 use Rattle.scan.specs.Range.{ranged, listing}
-use Rattle.scan.proofs.SummaryLaws.{readable}
 use Rattle.scan.proofs.FillLaws.{range-head, range-order, range-damaged, range-length, range-listed, records-fit}
 use Rattle.scan.proofs.range.Statement.{statement}
 use Rattle.scan.proofs.range.Tie as tie
@@ -48,8 +47,7 @@ div-room c = search needs
 
 list-requires : tie.Need-list-requires
 list-requires c κs =
-    let p = readable _ _ _ (c .before .head-of .ensures) (head-sound (c .before .before)) in
-    (p .0, p .1, p .2, p .3, p .4, in-order (c .before .before))
+    (record { rule = head-sound (c .before .before); head = c .before .head-of .ensures }, in-order (c .before .before))
 
 returns-3 : tie.Need-returns-3
 returns-3 c =
@@ -61,13 +59,8 @@ fill-requires c κs =
     let l = c .before .before .before in
     let t = l .before .before .before in
     let head = l .before .before .head-of .ensures in
-    let p = readable _ _ _ head (head-sound t) in
     let a = t .before .before .before .before .before .args in (
-      p .0,
-      p .1,
-      p .2,
-      p .3,
-      p .4,
+      record { rule = head-sound t; head = head },
       records-fit (a .f) _ _ (rw (l .before .words-of .ensures .0) at (l .list .ensures .1)),
       rw head (range-length (a .f) _ _ _ (a .out .now) (head-sound t) (in-order t) _ (list-is l) (not-false _ (c .before .if3 .left))),
     )

@@ -9,7 +9,7 @@ use Rattle.lists.proofs.Tests.{passed, failed}
 use Rattle.plot.specs.Plot.{lawfulDay}
 use Rattle.store.specs.Head.{headRule}
 use Rattle.scan.specs.Summary.{summingReply, summaryOf}
-use Rattle.scan.proofs.SummaryLaws.{readable, summary-head, summary-order, summary-day, summary-is, summing-bad, summing-good}
+use Rattle.scan.proofs.SummaryLaws.{summary-head, summary-order, summary-day, summary-is, summing-bad, summing-good}
 use Rattle.scan.proofs.summary.Statement.{statement}
 use Rattle.scan.proofs.summary.Tie as tie
 
@@ -61,9 +61,11 @@ widen-requires-2 : tie.Need-widen-requires-2
 widen-requires-2 c κs = search needs
 
 sum-requires : tie.Need-sum-requires
-sum-requires c κs =
-    let p = readable _ _ _ (c .before .before .head-of .ensures) (head-sound (c .before .before .before .before .before .before)) in
-    (p .0, p .1, p .2, p .3, p .4, omega arith, omega arith)
+sum-requires c κs = (
+  record { rule = head-sound (c .before .before .before .before .before .before); head = c .before .before .head-of .ensures },
+  omega arith,
+  omega arith,
+)
 
 returns-4 : tie.Need-returns-4
 returns-4 c = summing-bad (c .before .before .sum .result) (not-true _ (c .if4 .taken)) ∙ sum-is (c .before .before)

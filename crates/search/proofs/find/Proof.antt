@@ -5,7 +5,7 @@ use mathlib.Core.Bool.{true}
 use Rattle.lists.proofs.Tests.{passed, failed}
 use Rattle.store.specs.Head.{headRule}
 use Rattle.search.specs.Find.{soughtReply, findReply}
-use Rattle.search.proofs.FindLaws.{broken, answered, head-limits}
+use Rattle.search.proofs.FindLaws.{broken, answered}
 use Rattle.search.proofs.find.Statement.{statement}
 use Rattle.search.proofs.find.Tie as tie
 
@@ -18,7 +18,7 @@ unfolding findReply
 returns c = broken _ _ _ (failed (c .before .head-ok .ensures) (c .if1 .taken))
 
 find-under-requires : tie.Need-find-under-requires
-find-under-requires c κs = let l = head-limits _ _ (ruled (c .before)) in rw (c .head-of .ensures) (l .0, l .1, l .4)
+find-under-requires c κs = record { rule = ruled (c .before); head = c .head-of .ensures }
 
 returns-2 : tie.Need-returns-2
 unfolding findReply

@@ -1,24 +1,37 @@
 -- Test by test.
 use borrow.Author.Needs.{needs}
-use mathlib.Core.Path.{refl, sym, ap}
+use mathlib.Core.Path.{refl, sym}
 use mathlib.Core.Bool.{true, false}
-use lib.Dec.{eqb}
-use Rattle.lists.proofs.Tests.{passed, failed}
-use Rattle.search.proofs.NextLaws.{linked-is}
+use native.Mathlib.Omega.{arith}
+use Rattle.lists.proofs.Tests.{and-true, passed, failed}
+use Rattle.search.specs.Next.{linked}
+use Rattle.search.proofs.BlockLaws.{block-words}
+use Rattle.search.proofs.ReachLaws.{block-tested, linked-is}
 use Rattle.search.proofs.is_linked.Statement.{statement}
 use Rattle.search.proofs.is_linked.Tie as tie
 
+node-passes-requires : tie.Need-node-passes-requires
+unfolding linked
+node-passes-requires c κs =
+    let p = c .before .before .pre in
+    block-tested (p .0) (p .1) (c .node-at .ensures) 1 _ (λ q. and-true _ _ (p .2 q) .0)
+
 returns : tie.Need-returns
 returns c =
-    linked-is _ _ _ _ _ false _ (c .before .before .node-start .ensures .0)
-    (sym (failed (c .before .node-ok .ensures) (c .if1 .taken))) refl
+    let p = c .before .before in
+    linked-is (p .before .before .pre .0) (p .before .before .pre .1) (p .node-at .ensures) _ false _
+    (sym (failed (c .before .node-passes .ensures) (c .if1 .taken))) refl
+
+shared-slice-read-result : tie.Need-shared-slice-read-result
+shared-slice-read-result c =
+    let p = c .before .before .before in
+    omega (arith, block-words (p .before .before .pre .0) (p .before .before .pre .1) (p .node-at .ensures))
 
 returns-2 : tie.Need-returns-2
 returns-2 c =
-    let p = c .before .before in
-    linked-is _ _ _ _ _ true _ (p .before .node-start .ensures .0) (sym (passed (p .node-ok .ensures) (c .before .if1 .left)))
-    (ap (λ x. eqb x (p .before .before .before .args .n)) (c .word .ensures))
+    let p = c .before .before .before in
+    linked-is (p .before .before .pre .0) (p .before .before .pre .1) (p .node-at .ensures) _ true _
+    (sym (passed (c .before .before .node-passes .ensures) (c .before .if1 .left))) refl
 
 pub is-linked-spec : {M : Type 1} → statement M
-is-linked-spec =
-    tie.close (tie.spec (λ c κs. search needs) (λ c κs. search needs) returns (λ c. search needs) (λ c κs. search needs) returns-2)
+is-linked-spec = tie.close (tie.spec (λ c κs. search needs) node-passes-requires returns shared-slice-read-result returns-2)

@@ -1,4 +1,4 @@
--- A broken head is told; a sound one has the limits that next asks for.
+-- A broken head is told; a sound one is what next asks for.
 use borrow.Author.Needs.{needs}
 use mathlib.Core.Path.{_≡_, _∙_, ap}
 use mathlib.Core.Bool.{true}
@@ -6,7 +6,7 @@ use Rattle.lists.proofs.Tests.{passed, failed}
 use Rattle.store.specs.Head.{headRule}
 use Rattle.search.specs.Find.{soughtReply}
 use Rattle.search.specs.Next.{nextReply}
-use Rattle.search.proofs.FindLaws.{broken, answered, head-limits}
+use Rattle.search.proofs.FindLaws.{broken, answered}
 use Rattle.search.proofs.next.Statement.{statement}
 use Rattle.search.proofs.next.Tie as tie
 
@@ -19,7 +19,7 @@ unfolding nextReply
 returns c = broken _ _ _ (failed (c .before .head-ok .ensures) (c .if1 .taken))
 
 next-under-requires : tie.Need-next-under-requires
-next-under-requires c κs = rw (c .head-of .ensures) (head-limits _ _ (ruled (c .before)))
+next-under-requires c κs = record { rule = ruled (c .before); head = c .head-of .ensures }
 
 returns-2 : tie.Need-returns-2
 unfolding nextReply

@@ -1,56 +1,30 @@
--- Test by test; the entry is no deeper than its node.
+-- Damage, or the key's entry.
 use borrow.Author.Needs.{needs}
-use mathlib.Core.Path.{_≡_, refl, sym}
-use mathlib.Core.Bool.{true, false}
-use Prim.Native.Nat.{_≤_}
-use native.Mathlib.Omega.{arith}
-use borrow.Author.Tests.{lt-leb}
+use mathlib.Core.Path.{_∙_}
 use Rattle.lists.proofs.Tests.{passed, failed}
-use Rattle.store.proofs.HeadLaws.{width-within}
-use Rattle.node.specs.Node.{nodeRule}
-use Rattle.node.proofs.NodeLaws.{node-facts}
-use Rattle.search.proofs.DescentLaws.{visit-damaged, visit-entry}
+use Rattle.search.specs.Descent.{damagedNode}
+use Rattle.search.proofs.DescentLaws.{step-damaged, step-entry, visited-sound, node-deep, node-bits}
 use Rattle.search.proofs.visit_node.Statement.{statement}
 use Rattle.search.proofs.visit_node.Tie as tie
 
--- the node keeps the rule
-ruled : (c : tie.Else1)
-    → let p = c .before .before in
-    let a = p .before .before .args in nodeRule (a .head) (a .store .now) (p .node-start .result) (a .level) ≡ true
-ruled c = passed (c .before .node-ok .ensures) (c .if1 .left)
-
--- so it is no deeper than the head says
-deep : (c : tie.After-word) → c .word .result ≤ c .before .before .before .before .before .args .head .theta
-deep c = rw (← (c .word .ensures)) at (node-facts _ _ _ _ (ruled (c .before)) .depth)
+passes-requires : tie.Need-passes-requires
+passes-requires c κs = let p = c .before .pre in (p .0, p .1, p .2, λ z. visited-sound _ _ _ _ _ _ _ (p .3 z))
 
 returns : tie.Need-returns
-returns c =
-    visit-damaged _ _ _ _ _ _ _ _ (c .before .before .node-start .ensures .0) false _
-    (sym (failed (c .before .node-ok .ensures) (c .if1 .taken))) refl refl (omega arith)
+unfolding damagedNode
+returns c = step-damaged _ _ _ _ _ _ _ (failed (c .before .passes .ensures) (c .if1 .taken))
 
-add-if2 : tie.Need-add-if2
-add-if2 c = omega (arith, deep c, width-within (c .before .before .before .before .before .args .f))
+own-entry-requires : tie.Need-own-entry-requires
+own-entry-requires c κs =
+    let q = c .before .before .before in
+    let p = q .pre in
+    let t = passed (c .before .passes .ensures) (c .if1 .left) in
+    (p .0, p .1, node-deep _ _ _ (q .args .key) _ _ _ t, node-bits _ _ _ (q .args .key) _ _ _ t)
 
 returns-2 : tie.Need-returns-2
 returns-2 c =
-    let p = c .before .before .before in
-    visit-damaged _ _ _ _ _ _ _ _ (p .before .before .node-start .ensures .0) true false (sym (ruled p))
-    (sym (rw (c .before .before .word .ensures, c .before .width-of .ensures .0) at (lt-leb _ _ (c .if2 .taken)))) refl (omega arith)
-
-entry-number-requires : tie.Need-entry-number-requires
-entry-number-requires c κs = (omega (arith, c .before .width-of .ensures .0, c .if2 .left), omega (arith, deep (c .before .before)))
-
-returns-3 : tie.Need-returns-3
-returns-3 c =
-    let e = c .before .before .entry-number .ensures in
-    let p = c .before .before .before in
-    let q = p .before .before .before in
-    visit-entry _ _ _ _ _ _ _ _ (q .before .before .node-start .ensures .0) _ _ _ _ (ruled q) (p .before .before .word .ensures)
-    (rw (p .before .width-of .ensures .0) at (p .if2 .left)) (e .0) (e .1) (c .before .word2 .ensures) (c .word3 .ensures)
+    let t = passed (c .before .before .passes .ensures) (c .before .if1 .left) in
+    c .own-entry .ensures ∙ step-entry _ _ _ _ _ _ _ t
 
 pub visit-node-spec : {M : Type 1} → statement M
-visit-node-spec =
-    tie.close
-    (tie.spec (λ c κs. search needs) (λ c κs. search needs) returns (λ c κs. search needs) add-if2 (λ c κs. search needs) returns-2
-    entry-number-requires (λ c. search needs) (λ c. search needs) (λ c. search needs) (λ c. search needs) (λ c κs. search needs)
-    (λ c. search needs) (λ c. search needs) (λ c. search needs) (λ c κs. search needs) returns-3)
+visit-node-spec = tie.close (tie.spec passes-requires returns own-entry-requires returns-2)

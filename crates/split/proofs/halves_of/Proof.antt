@@ -3,7 +3,7 @@ use borrow.Author.Needs.{needs}
 use Prim.Native.Nat.{_-_}
 use Rattle.lists.specs.Bits.{bits}
 use Rattle.store.specs.Format.{width}
-use Rattle.represent.specs.Image.{nodeAt}
+use Rattle.store.specs.Head.{nodeAt}
 use Rattle.split.proofs.GrowLaws.{loaded-is}
 use Rattle.split.proofs.SplitLaws.{splittable, lower-of, upper-of, lower-back, upper-forward}
 use Rattle.split.proofs.halves_of.Statement.{statement}

@@ -3,7 +3,7 @@ use borrow.Author.Needs.{needs}
 use Prim.Native.Nat.{_-_, _≤_}
 use native.Mathlib.Omega.{arith}
 use Rattle.store.specs.Format.{width}
-use Rattle.represent.specs.Image.{nodeAt}
+use Rattle.store.specs.Head.{nodeAt}
 use Rattle.split.proofs.GrowLaws.{Loaded, loaded-is, loaded-local}
 use Rattle.split.proofs.SplitLaws.{entry-at, reached-width}
 use Rattle.split.proofs.open_node.Statement.{statement}

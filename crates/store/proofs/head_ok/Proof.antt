@@ -1,11 +1,16 @@
 -- Test by test.
 use borrow.Author.Needs.{needs}
-use mathlib.Core.Path.{_≡_, refl, sym}
+use mathlib.Core.Path.{_≡_, refl, sym, ap, _∙_}
 use mathlib.Core.Bool.{true, false}
+use Prim.Native.Nat.{_≤_}
+use native.Mathlib.Omega.{arith}
 use borrow.Author.Tests.{le-leb, lt-leb}
+use lib.Dec.{leb}
+use lib.ListN.{length}
 use Rattle.lists.proofs.Tests.{passed, failed}
-use Rattle.store.specs.Head.{lawfulSizes, zeros}
-use Rattle.store.proofs.HeadLaws.{Limits, rule-is, sizes-limits}
+use Rattle.store.specs.Head.{lawfulSizes, zeros, size}
+use Rattle.store.proofs.HeadLaws.{Limits, rule-is, rule-short, sizes-limits, size-head}
+use Rattle.store.proofs.Places.{zeros-lent}
 use Rattle.store.proofs.head_ok.Statement.{statement}
 use Rattle.store.proofs.head_ok.Tie as tie
 
@@ -18,40 +23,51 @@ sizes c = passed (c .before .sizes-ok .ensures) (c .if1 .left)
 limits : (c : tie.Else1) → let h = c .before .before .head-of .result in Limits (h .theta) (h .capacity) (h .nodeBlocks) (h .pageBlocks)
 limits c = sizes-limits _ _ _ _ (sizes c)
 
-eight-zeros : (c : tie.Else2) → zeros (c .before .before .before .before .before .before .args .store .now) 8 8 ≡ true
-eight-zeros c = passed (c .before .all-zero .ensures) (c .if2 .left)
+long : (c : tie.Else2) → 16 ≤ length (c .before .before .before .before .before .before .args .store .now)
+long c =
+    let h = c .before .before .before .before .head-of .result in
+    omega (arith, c .if2 .left, c .before .size-of .ensures .0, size-head (c .before .before .before .before .before .before .args .f) (h .theta) (h .capacity) (h .nodeBlocks) (h .pageBlocks))
+
+enough : (c : tie.Else2)
+    → let h = c .before .before .before .before .head-of .result in
+    leb (size (c .before .before .before .before .before .before .args .f) (h .theta) (h .capacity) (h .nodeBlocks) (h .pageBlocks)) (length (c .before .before .before .before .before .before .args .store .now)) ≡ true
+enough c = le-leb _ _ (rw (c .before .size-of .ensures .0) at (c .if2 .left))
+
+-- the eight words as they are lent
+spare : (c : tie.After-is-zero) → c .is-zero .result ≡ zeros (c .before .before .before .before .before .before .before .before .args .store .now) 8 8
+spare c = c .is-zero .ensures ∙ zeros-lent _ 8 16 (omega arith) (long (c .before .before))
 
 returns : tie.Need-returns
 returns c =
     rule-is _ _ _ false _ _ _ (c .before .before .head-of .ensures)
     (sym (failed (c .before .sizes-ok .ensures) (c .if1 .taken))) refl refl refl
 
-returns-2 : tie.Need-returns-2
-returns-2 c =
-    rule-is _ _ _ true false _ _ (c .before .before .before .before .head-of .ensures) (sym (sizes (c .before .before)))
-    (sym (failed (c .before .all-zero .ensures) (c .if2 .taken))) refl refl
-
 size-of-requires : tie.Need-size-of-requires
-size-of-requires c κs = let l = limits (c .before .before) in (l .theta, l .capacity, l .nodes, l .pages)
+size-of-requires c κs = let l = limits c in (l .theta, l .capacity, l .nodes, l .pages)
+
+returns-2 : tie.Need-returns-2
+returns-2 c = rule-short _ _ _ (c .before .before .before .before .head-of .ensures) (rw (c .before .size-of .ensures .0) at (c .if2 .taken))
+
+part-is-zero-end : tie.Need-part-is-zero-end
+part-is-zero-end c = omega (arith, long c)
 
 returns-3 : tie.Need-returns-3
 returns-3 c =
-    let p = c .before .before in
-    rule-is _ _ _ true true false _ (p .before .before .before .before .head-of .ensures) (sym (sizes (p .before .before)))
-    (sym (eight-zeros p)) (sym (lt-leb _ _ (rw (c .before .size-of .ensures .0) at (c .if3 .taken)))) refl
+    let q = c .before .before .before in
+    rule-is _ _ _ true false true _ (q .before .before .before .before .head-of .ensures) (sym (sizes (q .before .before))) (sym (failed (spare (c .before)) (c .if3 .taken)))
+    (sym (enough q)) refl
 
 counts-ok-requires : tie.Need-counts-ok-requires
-counts-ok-requires c κs =
-    let l = limits (c .before .before .before .before) in (l .theta-low, l .theta, l .capacity-low, l .capacity)
+counts-ok-requires c κs = let l = limits (c .before .before .before .before .before) in (l .theta-low, l .theta, l .capacity-low, l .capacity)
 
 returns-4 : tie.Need-returns-4
 returns-4 c =
-    let p = c .before .before .before in
-    rule-is _ _ _ true true true _ (p .before .before .before .before .head-of .ensures) (sym (sizes (p .before .before)))
-    (sym (eight-zeros p)) (sym (le-leb _ _ (rw (c .before .before .size-of .ensures .0) at (c .before .if3 .left)))) (c .counts-ok .ensures)
+    let q = c .before .before .before .before in
+    rule-is _ _ _ true true true _ (q .before .before .before .before .head-of .ensures) (sym (sizes (q .before .before)))
+    (sym (passed (spare (c .before .before)) (c .before .if3 .left))) (sym (enough q)) (c .counts-ok .ensures)
 
 pub head-ok-spec : {M : Type 1} → statement M
 head-ok-spec =
     tie.close
-    (tie.spec (λ c κs. search needs) (λ c κs. search needs) returns (λ c κs. search needs) returns-2 size-of-requires returns-3
-    counts-ok-requires returns-4)
+    (tie.spec (λ c κs. search needs) (λ c κs. search needs) returns size-of-requires returns-2 (λ c. search needs) (λ c. search needs)
+    part-is-zero-end (λ c κs. search needs) returns-3 counts-ok-requires returns-4)

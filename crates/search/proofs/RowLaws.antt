@@ -1,0 +1,254 @@
+-- Spanes as the code has them: its tests, one by one, and what a sound answer says of the blocks behind it.
+--   Low r == the span r begins within the capacity
+use mathlib.Core.Path.{_≡_, refl, sym, ap, ap₂, _∙_, subst}
+use mathlib.Core.Bool.{Bool, true, false, _&&_, not, false≢true}
+use mathlib.Core.List.{List}
+use Prim.Native.Nat.{ℕ, _+_, _-_, _*_, _/_, _^_, _≤_, _<_}
+use native.Mathlib.Decide.{decLt}
+use native.Mathlib.Omega.{arith}
+use lib.Dec.{eqb}
+use lib.ListN.{length}
+use borrow.Author.Tests.{eqb-true, eq-eqb, ne-eqb}
+use Rattle.lists.proofs.Cases.{by-cases}
+use Rattle.lists.proofs.Tests.{and-true}
+use Rattle.store.specs.declared.Format.{Format}
+use Rattle.store.specs.declared.Head.{Head}
+use Rattle.store.specs.declared.Item.{Item}
+use Rattle.store.specs.Format.{width, words}
+use Rattle.store.specs.Head.{pageAt, Under}
+use Rattle.store.proofs.Places.{under-limits}
+use Rattle.page.specs.Page.{count, itemAt, keyAt, Lent, Filled, pageRule, agrees, above, firstAbove}
+use Rattle.page.proofs.Laws.{rule-facts}
+use Rattle.page.proofs.Inside.{page-lent, filled, record-inside}
+use Rattle.search.specs.declared.Visit.{Visit}
+use Rattle.search.specs.declared.Terminal.{Terminal}
+use Rattle.search.specs.declared.Span.{Span}
+use Rattle.search.specs.declared.Place.{Place}
+use Rattle.search.specs.declared.Sought.the-variants.{Record, Nothing, Damaged}
+use Rattle.search.specs.declared.Reached.{Reached}
+use Rattle.search.specs.declared.Reached.the-variants.{Page, Past, Broken}
+use Rattle.search.specs.Descent.{terminal, ownVisit}
+use Rattle.search.specs.Find.{soundPage}
+use Rattle.search.specs.Next.{behind}
+use Rattle.search.specs.Span.{noSpan, reachedEnd, reachedSpan, ownSpan, spanAt, spanOf, soughtOf, Rows, placeOf, AtKey}
+use Rattle.search.proofs.WithinLaws.{first-after}
+use Rattle.search.proofs.BlockLaws.{under-levels}
+use Rattle.search.proofs.SpanLaws.{reached-gives, reached-below, reached-broken, reached-lost}
+use Rattle.search.proofs.SpanLaws.{own-null, own-unsound, own-rows, own-after, at-lost, at-terminal, span-kind, span-rows}
+
+-- the first record of a span
+module _ (f : Format) (s : List ℕ) (h : Head) (r : Span) where
+  pub sought-not : r .ok ≡ false → Damaged ≡ soughtOf f s h r
+  unfolding soughtOf
+  sought-not o = sym (rw (o, soughtOf))
+
+  module _ (o : r .ok ≡ true) where
+    pub sought-none : r .page ≡ 0 → Nothing ≡ soughtOf f s h r
+    unfolding soughtOf
+    sought-none z = sym (rw (o, eq-eqb _ _ z, soughtOf))
+
+    pub sought-first : (r .page ≡ 0 → ⊥) → {pg : List ℕ} {it : Item} → pg ≡ pageAt f s h (r .page) → it ≡ itemAt f pg (r .from)
+        → Record it ≡ soughtOf f s h r
+    unfolding soughtOf
+    sought-first z e ei = ap Record (rw e at ei) ∙ sym (rw (o, ne-eqb _ _ z, soughtOf))
+
+-- where the records above a key begin in its own page
+module _ (f : Format) (h : Head) (pg : List ℕ) (strict : Bool) (k used : ℕ) where
+  pub place-lost : soundPage f h pg k used ≡ false → _≡_ {A = Place} (record { ok = false; from = 0 }) (placeOf f h pg strict k used)
+  unfolding placeOf
+  place-lost t = sym (rw (t, placeOf))
+
+  pub place-from : (i : ℕ) → soundPage f h pg k used ≡ true → i ≡ firstAbove f pg strict k
+      → _≡_ {A = Place} (record { ok = true; from = i }) (placeOf f h pg strict k used)
+  unfolding placeOf
+  place-from i t e = ap (λ x. record { ok = true; from = x }) e ∙ sym (rw (t, placeOf))
+
+-- what is known of a page that is not to be checked (a false) and of one that the key stands in (b) holds where neither is checked
+pub rule-known : (a b : Bool) {R : Type 0} → (a ≡ false → R) → (b ≡ true → R) → (a && not b) ≡ false → R
+rule-known true true p q e = q refl
+rule-known true false p q e = absurd (false≢true (sym e))
+rule-known false b p q e = p refl
+
+-- record number `after` is the first above the key of the record before it
+pub after-first : {f : Format} {C : ℕ} {pg : List ℕ} {strict : Bool} {k after : ℕ} → AtKey f C pg strict k after
+    → after ≡ firstAbove f pg strict k
+after-first {f} {C} {pg} {strict} {k} {after} a =
+    let z : after - 1 + 1 ≡ after = omega (arith, a .low) in
+    sym
+    (ap₂ (firstAbove f pg) (a .above) (a .key) ∙ first-after f C pg (after - 1) (a .rule) (omega (arith, a .low, a .high)) ∙ z)
+
+-- no span is sound that met damage
+none-not : {r : Span} → r ≡ noSpan false → r .ok ≡ true → ⊥
+unfolding noSpan
+none-not e o = false≢true (sym (ap (λ r. r .ok) e) ∙ o)
+
+-- what the code has of a place, q
+module _ (f : Format) (h : Head) (pg : List ℕ) (strict : Bool) (k used : ℕ) {q : Place} (e : q ≡ placeOf f h pg strict k used) where
+  pub place-sound : q .ok ≡ true → (soundPage f h pg k used ≡ true) × (q .from ≡ firstAbove f pg strict k)
+  place-sound o =
+      by-cases (soundPage f h pg k used)
+      (λ t. (t, ap (λ x. x .from) (e ∙ sym (place-from f h pg strict k used _ t refl))))
+      (λ t. absurd (false≢true (sym (ap (λ x. x .ok) (e ∙ sym (place-lost f h pg strict k used t))) ∙ o)))
+
+  pub place-unsound : q .ok ≡ false → soundPage f h pg k used ≡ false
+  place-unsound o =
+      by-cases (soundPage f h pg k used)
+      (λ t. absurd (false≢true (sym o ∙ ap (λ x. x .ok) (e ∙ sym (place-from f h pg strict k used _ t refl)))))
+      (λ t. t)
+
+-- what is asked of a page that is lent, pg
+module _ {f : Format} {s : List ℕ} {h : Head} (u : Under f s h) (p : ℕ) {pg : List ℕ} (e : pg ≡ pageAt f s h p) where
+  pub page-asked : (b : Bool) → (b ≡ false → pageRule f (h .capacity) pg ≡ true)
+      → (h .capacity ≤ 64) × Lent f (h .capacity) pg × (b ≡ false → pageRule f (h .capacity) pg ≡ true)
+  page-asked b t = (under-limits u .capacity, rw e (page-lent f s h p), t)
+
+  pub page-filled : pageRule f (h .capacity) pg ≡ true → Filled f pg
+  page-filled t = filled f (h .capacity) pg t (rw e (page-lent f s h p))
+
+-- a page pg that was reached after the key's own
+module _ (f : Format) (s : List ℕ) (h : Head) (strict : Bool) (k n u : ℕ) {p : ℕ} {a : Reached} {pg : List ℕ}
+    (ea : a ≡ Page p) (e : pg ≡ pageAt f s h p) where
+  abbrev there : Span
+  there = reachedSpan f s h strict k n u a
+
+  pub page-broken : pageRule f (h .capacity) pg ≡ false → noSpan false ≡ there
+  page-broken t = sym (ap (reachedSpan f s h strict k n u) ea ∙ reached-broken f s h strict k n u p (rw e at t))
+
+  pub page-known : there .ok ≡ true → pageRule f (h .capacity) pg ≡ true
+  page-known o = by-cases (pageRule f (h .capacity) pg) (λ t. t) (λ t. absurd (none-not (sym (page-broken t)) o))
+
+  module _ (t : pageRule f (h .capacity) pg ≡ true) {it : Item} (ei : it ≡ itemAt f pg 0) where
+    first-key : {b : Bool} → above strict k (it .key) ≡ b → above strict k (keyAt f (pageAt f s h p) 0) ≡ b
+    first-key q = sym (ap (λ x. above strict k (x .key)) (rw e at ei)) ∙ q
+
+    pub page-below : above strict k (it .key) ≡ false → noSpan false ≡ there
+    page-below q = sym (ap (reachedSpan f s h strict k n u) ea ∙ reached-below f s h strict k n u p (rw e at t) (first-key q))
+
+    pub page-gives : above strict k (it .key) ≡ true → {to : ℕ} → to ≡ reachedEnd f s h k n u p
+        → _≡_ {A = Span} (record { ok = true; page = p; from = 0; to = to }) there
+    page-gives q et =
+        ap (λ x. record { ok = true; page = p; from = 0; to = x }) et
+        ∙ sym (ap (reachedSpan f s h strict k n u) ea ∙ reached-gives f s h strict k n u p (rw e at t) (first-key q))
+
+-- where its records end; first is what the code has of its first key, v of that key's entry
+module _ (f : Format) (s : List ℕ) (h : Head) (k n u p : ℕ) {pg : List ℕ} (e : pg ≡ pageAt f s h p) {first : ℕ} (ef : first ≡ keyAt f pg 0) where
+  is-first : first ≡ keyAt f (pageAt f s h p) 0
+  is-first = rw e at ef
+
+  pub end-other : (first / 2 ^ (width f - u) ≡ k / 2 ^ (width f - u) → ⊥) → 1 ≡ reachedEnd f s h k n u p
+  unfolding reachedEnd
+  end-other q = sym (rw (ne-eqb _ _ (rw is-first at q), reachedEnd))
+
+  module _ (q : first / 2 ^ (width f - u) ≡ k / 2 ^ (width f - u)) {v : Visit} (ev : v ≡ ownVisit f s h first n u) where
+    same-bits : eqb (keyAt f (pageAt f s h p) 0 / 2 ^ (width f - u)) (k / 2 ^ (width f - u)) ≡ true
+    same-bits = eq-eqb _ _ (rw is-first at q)
+
+    entry-is : v ≡ ownVisit f s h (keyAt f (pageAt f s h p) 0) n u
+    entry-is = ev ∙ ap (λ x. ownVisit f s h x n u) is-first
+
+    pub end-elsewhere : (v .pointer ≡ p → ⊥) → 1 ≡ reachedEnd f s h k n u p
+    unfolding reachedEnd
+    end-elsewhere z = sym (rw (same-bits, ne-eqb _ _ (rw entry-is at z), reachedEnd))
+
+    module _ (z : v .pointer ≡ p) where
+      comes-back : eqb (ownVisit f s h (keyAt f (pageAt f s h p) 0) n u .pointer) p ≡ true
+      comes-back = eq-eqb _ _ (rw entry-is at z)
+
+      pub end-first : agrees f pg first (u + v .depth) ≡ false → 1 ≡ reachedEnd f s h k n u p
+      unfolding reachedEnd
+      end-first g = sym (rw (same-bits, comes-back, rw (e, entry-is, is-first) at g, reachedEnd))
+
+      pub end-all : agrees f pg first (u + v .depth) ≡ true → {c : ℕ} → c ≡ count pg → c ≡ reachedEnd f s h k n u p
+      unfolding reachedEnd
+      end-all g ec = ec ∙ ap count e ∙ sym (rw (same-bits, comes-back, rw (e, entry-is, is-first) at g, reachedEnd))
+
+-- a sound span behind an entry: the way on met no damage
+pub reached-whole : (f : Format) (s : List ℕ) (h : Head) (strict : Bool) (k n u : ℕ) (a : Reached)
+    → reachedSpan f s h strict k n u a .ok ≡ true → a ≡ Broken → ⊥
+reached-whole f s h strict k n u a o e = none-not (ap (reachedSpan f s h strict k n u) e ∙ reached-lost f s h strict k n u) o
+
+-- from a terminal node t and the key's entry v in it
+module _ (f : Format) (s : List ℕ) (h : Head) (strict : Bool) (k : ℕ) (t : Terminal) (o : t .ok ≡ true) {v : Visit}
+    (ev : v ≡ ownVisit f s h k (t .node) (t .used)) where
+  abbrev whole : Span
+  whole = spanAt f s h strict k t
+
+  abbrev onwards : Span
+  onwards = reachedSpan f s h strict k (t .node) (t .used) (behind s h (t .node) (v .depth) (v .entry))
+
+  at-own : whole ≡ ownSpan f s h strict k (t .node) (t .used) v
+  at-own = at-terminal f s h strict k t o ∙ ap (ownSpan f s h strict k (t .node) (t .used)) (sym ev)
+
+  pub at-null : v .pointer ≡ 0 → whole ≡ onwards
+  at-null z = at-own ∙ own-null f s h strict k (t .node) (t .used) v z
+
+  -- its page pg, which is not null
+  module _ (z : v .pointer ≡ 0 → ⊥) {pg : List ℕ} (e : pg ≡ pageAt f s h (v .pointer)) where
+    unsound : soundPage f h pg k (t .used + v .depth) ≡ false → whole ≡ noSpan false
+    unsound p = at-own ∙ own-unsound f s h strict k (t .node) (t .used) v z (rw e at p)
+
+    -- the page of a sound span keeps the rule
+    pub at-known : whole .ok ≡ true → pageRule f (h .capacity) pg ≡ true
+    unfolding soundPage
+    at-known q =
+        by-cases (soundPage f h pg k (t .used + v .depth))
+        (λ p. and-true _ _ p .0)
+        (λ p. absurd (none-not (unsound p) q))
+
+    -- the key stands in the page that is known, if that is this one
+    pub at-key : (known after : ℕ) → ((known ≡ 0 → ⊥) → AtKey f (h .capacity) (pageAt f s h known) strict k after)
+        → eqb (v .pointer) known ≡ true → AtKey f (h .capacity) pg strict k after
+    at-key known after a q =
+        let d = eqb-true (v .pointer) known q in
+        rw (e, d) (a (λ y. z (d ∙ y)))
+
+    module _ {q : Place} (eq : q ≡ placeOf f h pg strict k (t .used + v .depth)) where
+      pub at-unsound : q .ok ≡ false → noSpan false ≡ whole
+      at-unsound b = sym (unsound (place-unsound f h pg strict k (t .used + v .depth) eq b))
+
+      module _ (b : q .ok ≡ true) {n : ℕ} (en : n ≡ count pg) where
+        sound : soundPage f h (pageAt f s h (v .pointer)) k (t .used + v .depth) ≡ true
+        sound = rw e at (place-sound f h pg strict k (t .used + v .depth) eq b .0)
+
+        begins : q .from ≡ firstAbove f (pageAt f s h (v .pointer)) strict k
+        begins = rw e at (place-sound f h pg strict k (t .used + v .depth) eq b .1)
+
+        ends : n ≡ count (pageAt f s h (v .pointer))
+        ends = rw e at en
+
+        pub at-rows : q .from < n → _≡_ {A = Span} (record { ok = true; page = v .pointer; from = q .from; to = n }) whole
+        at-rows l =
+            ap₂ (λ x y. record { ok = true; page = v .pointer; from = x; to = y }) begins ends
+            ∙ sym (at-own ∙ own-rows f s h strict k (t .node) (t .used) v z sound (omega (arith, begins, ends)))
+
+        pub at-after : n ≤ q .from → whole ≡ onwards
+        at-after l = at-own ∙ own-after f s h strict k (t .node) (t .used) v z sound (omega (arith, begins, ends))
+
+-- the first record of a span lies in its page
+module _ {f : Format} {s : List ℕ} {h : Head} (u : Under f s h) (strict : Bool) (k : ℕ) where
+  abbrev Low : Span → Type 0
+  Low r = r .from ≤ h .capacity
+
+  none-low : (b : Bool) → Low (noSpan b)
+  unfolding noSpan
+  none-low b = omega arith
+
+  span-low : Low (spanOf f s h strict k)
+  unfolding soundPage
+  span-low =
+      span-kind f s h strict k Low none-low (λ p t o. omega arith)
+      (λ o z p l. omega (arith, l, rule-facts f (h .capacity) _ (and-true _ _ p .0) .fits))
+
+  row-inside : {r : Span} → r ≡ spanOf f s h strict k → r .ok ≡ true → (r .page ≡ 0 → ⊥)
+      → words f * (r .from + 1) < length (pageAt f s h (r .page))
+  row-inside {r} e o z =
+      let w = subst (λ x. x .ok ≡ true → (x .page ≡ 0 → ⊥) → Rows f s h x) (sym e)
+      (λ p q. span-rows f s h strict k (under-levels u .0) (under-levels u .1) p q .0) o z in
+      record-inside (filled f (h .capacity) (pageAt f s h (r .page)) (w .rule) (page-lent f s h (r .page)))
+      (omega (arith, w .some, w .within))
+
+  pub row-asked : {r : Span} → r ≡ spanOf f s h strict k
+      → Under f s h × (r .from < 2 ^ 32)
+      × (r .ok ≡ true → (r .page ≡ 0 → ⊥) → words f * (r .from + 1) < length (pageAt f s h (r .page)))
+  row-asked e =
+      (u, omega (arith, ap (λ x. x .from) e, span-low, under-limits u .capacity), row-inside e)

@@ -1,0 +1,310 @@
+-- Next by spans: the first record of a span is next's, and within it next goes from record to record.
+--   GoesOn f s h r == next goes from each record of the span r to the one after it
+use mathlib.Core.Path.{_≡_, refl, sym, ap, _∙_, subst}
+use mathlib.Core.Bool.{Bool, true, false, _&&_, false≢true}
+use mathlib.Core.List.{List}
+use Prim.Native.Nat.{ℕ, _+_, _-_, _/_, _^_, _≤_, _<_}
+use native.Mathlib.Decide.{decLt}
+use native.Mathlib.Omega.{arith}
+use lib.Dec.{eqb}
+use lib.ListN.{getD}
+use borrow.Author.Tests.{eqb-true, lt-ltb, le-ltb, eq-eqb, ne-eqb}
+use Rattle.lists.proofs.Cases.{by-cases}
+use Rattle.lists.proofs.Tests.{and-true, and-three}
+use Rattle.store.specs.declared.Format.{Format}
+use Rattle.store.specs.declared.Head.{Head}
+use Rattle.store.specs.Format.{width}
+use Rattle.store.specs.Head.{pageAt}
+use Rattle.page.specs.Page.{count, itemAt, keyAt, pageRule, agrees, above, firstAbove}
+use Rattle.page.proofs.Laws.{rule-facts, all-above}
+use Rattle.search.specs.declared.Visit.{Visit}
+use Rattle.search.specs.declared.Terminal.{Terminal}
+use Rattle.search.specs.declared.Span.{Span}
+use Rattle.search.specs.declared.Sought.the-variants.{Record, Nothing, Damaged}
+use Rattle.search.specs.declared.Reached.{Reached}
+use Rattle.search.specs.declared.Reached.the-variants.{Page, Past, Broken}
+use Rattle.search.specs.Descent.{noStep, descent, terminal, ownVisit}
+use Rattle.search.specs.Find.{soundPage}
+use Rattle.search.specs.Next.{visitAfter, visited, behind, afterOwn, nextOf}
+use Rattle.search.specs.Span.{noSpan, reachedEnd, reachedSpan, ownSpan, spanAt, spanOf, soughtOf, Rows}
+use Rattle.search.proofs.FindLaws.{Led}
+use Rattle.search.proofs.NextLaws.{visit-broken, visit-below, visit-gives, Some, reach-some}
+use Rattle.search.proofs.FromLaws.{from-lost, from-null, from-unsound, from-found, from-after}
+use Rattle.search.proofs.TerminalLaws.{Ended, terminal-ok, terminal-ended, terminal-same}
+use Rattle.search.proofs.WithinLaws.{next-within, within-at}
+
+-- the first record of a span, by its kinds
+module _ (f : Format) (s : List ℕ) (h : Head) where
+  pub sought-damaged : soughtOf f s h (noSpan false) ≡ Damaged
+  unfolding soughtOf noSpan
+  sought-damaged = refl
+
+  pub sought-nothing : soughtOf f s h (noSpan true) ≡ Nothing
+  unfolding soughtOf noSpan
+  sought-nothing = refl
+
+  pub sought-record : (p i j : ℕ) → (p ≡ 0 → ⊥)
+      → soughtOf f s h (record { ok = true; page = p; from = i; to = j }) ≡ Record (itemAt f (pageAt f s h p) i)
+  unfolding soughtOf
+  sought-record p i j some = rw (ne-eqb p 0 some, soughtOf)
+
+module _ (f : Format) (s : List ℕ) (h : Head) (strict : Bool) (k : ℕ) where
+  -- a page reached after the key's own
+  module _ (n u p : ℕ) where
+    pub reached-gives : pageRule f (h .capacity) (pageAt f s h p) ≡ true → above strict k (keyAt f (pageAt f s h p) 0) ≡ true
+        → reachedSpan f s h strict k n u (Page p) ≡ record { ok = true; page = p; from = 0; to = reachedEnd f s h k n u p }
+    unfolding reachedSpan
+    reached-gives t a = rw (t, a, reachedSpan)
+
+    pub reached-below : pageRule f (h .capacity) (pageAt f s h p) ≡ true → above strict k (keyAt f (pageAt f s h p) 0) ≡ false
+        → reachedSpan f s h strict k n u (Page p) ≡ noSpan false
+    unfolding reachedSpan
+    reached-below t a = rw (t, a, reachedSpan)
+
+    pub reached-broken : pageRule f (h .capacity) (pageAt f s h p) ≡ false → reachedSpan f s h strict k n u (Page p) ≡ noSpan false
+    unfolding reachedSpan
+    reached-broken t = rw (t, reachedSpan)
+
+    reached-page : (p ≡ 0 → ⊥) → soughtOf f s h (reachedSpan f s h strict k n u (Page p)) ≡ visitAfter f s h strict k p
+    reached-page some =
+        by-cases (pageRule f (h .capacity) (pageAt f s h p))
+        (λ t.
+        by-cases (above strict k (keyAt f (pageAt f s h p) 0))
+        (λ a.
+        ap (soughtOf f s h) (reached-gives t a) ∙ sought-record f s h p 0 (reachedEnd f s h k n u p) some ∙ visit-gives f s h strict k p refl t refl a)
+        (λ a. ap (soughtOf f s h) (reached-below t a) ∙ sought-damaged f s h ∙ visit-below f s h strict k p refl t refl a))
+        (λ t. ap (soughtOf f s h) (reached-broken t) ∙ sought-damaged f s h ∙ visit-broken f s h strict k p refl t)
+
+  pub reached-past : (n u : ℕ) → reachedSpan f s h strict k n u Past ≡ noSpan true
+  unfolding reachedSpan
+  reached-past n u = refl
+
+  pub reached-lost : (n u : ℕ) → reachedSpan f s h strict k n u Broken ≡ noSpan false
+  unfolding reachedSpan
+  reached-lost n u = refl
+
+  reached-sought : (n u : ℕ) (a : Reached) → Some s h a → soughtOf f s h (reachedSpan f s h strict k n u a) ≡ visited f s h strict k a
+  unfolding visited
+  reached-sought n u (Page p) some = reached-page n u p some
+  reached-sought n u Past some = ap (soughtOf f s h) (reached-past n u) ∙ sought-nothing f s h
+  reached-sought n u Broken some = ap (soughtOf f s h) (reached-lost n u) ∙ sought-damaged f s h
+
+  behind-some : (n d i : ℕ) → Some s h (behind s h n d i)
+  unfolding behind
+  behind-some n d i = reach-some s h _ _ _
+
+  -- from the key's entry v in its terminal node n, reached after u bits
+  module _ (n u : ℕ) (v : Visit) where
+    abbrev after : Span
+    after = reachedSpan f s h strict k n u (behind s h n (v .depth) (v .entry))
+
+    pub own-null : v .pointer ≡ 0 → ownSpan f s h strict k n u v ≡ after
+    unfolding ownSpan
+    own-null z = rw (eq-eqb (v .pointer) 0 z, ownSpan)
+
+    module _ (z : v .pointer ≡ 0 → ⊥) where
+      abbrev own-page : List ℕ
+      own-page = pageAt f s h (v .pointer)
+
+      pub own-unsound : soundPage f h own-page k (u + v .depth) ≡ false → ownSpan f s h strict k n u v ≡ noSpan false
+      unfolding ownSpan
+      own-unsound p = rw (ne-eqb (v .pointer) 0 z, p, ownSpan)
+
+      module _ (p : soundPage f h own-page k (u + v .depth) ≡ true) where
+        pub own-rows : firstAbove f own-page strict k < count own-page
+            → ownSpan f s h strict k n u v
+            ≡ record { ok = true; page = v .pointer; from = firstAbove f own-page strict k; to = count own-page }
+        unfolding ownSpan
+        own-rows l = rw (ne-eqb (v .pointer) 0 z, p, lt-ltb _ _ l, ownSpan)
+
+        pub own-after : count own-page ≤ firstAbove f own-page strict k → ownSpan f s h strict k n u v ≡ after
+        unfolding ownSpan
+        own-after l = rw (ne-eqb (v .pointer) 0 z, p, le-ltb _ _ l, ownSpan)
+
+  pub at-lost : (t : Terminal) → t .ok ≡ false → spanAt f s h strict k t ≡ noSpan false
+  unfolding spanAt
+  at-lost t o = rw (o, spanAt)
+
+  pub at-terminal : (t : Terminal) → t .ok ≡ true
+      → spanAt f s h strict k t ≡ ownSpan f s h strict k (t .node) (t .used) (ownVisit f s h k (t .node) (t .used))
+  unfolding spanAt
+  at-terminal t o = rw (o, spanAt)
+
+  -- the first record of a span is next's
+  module _ (low : 1 ≤ h .levels) (high : h .levels ≤ 32) where
+    abbrev end : Terminal
+    end = terminal f s h k
+
+    abbrev own : Visit
+    own = ownVisit f s h k (end .node) (end .used)
+
+    next-after : (o : terminal f s h k .ok ≡ true)
+        → afterOwn f s h strict k (getD (descent f s h k .steps) 0 noStep) ≡ soughtOf f s h (after (end .node) (end .used) own)
+    unfolding afterOwn
+    next-after o =
+        rw (terminal-ended f s h k low high o .step)
+        (sym (reached-sought (end .node) (end .used) (behind s h (end .node) (own .depth) (own .entry)) (behind-some (end .node) (own .depth) (own .entry))))
+
+    next-own : (o : terminal f s h k .ok ≡ true)
+        → nextOf f s h strict k ≡ soughtOf f s h (ownSpan f s h strict k (end .node) (end .used) own)
+    next-own o =
+        let e = terminal-ended f s h k low high o in
+        let d = descent f s h k in
+        let ok : d .ok ≡ true = terminal-ok f s h k low high ∙ o in
+        elim (decLt 0 (own .pointer)) [
+          | no q ↦
+              let z : own .pointer ≡ 0 = omega arith in
+              sym (from-null f s h strict k d refl ok (e .page ∙ z)) ∙ next-after o
+              ∙ ap (soughtOf f s h) (sym (own-null (end .node) (end .used) own z))
+          | yes q ↦
+              let z : own .pointer ≡ 0 → ⊥ = λ y. omega arith in
+              let led : Led f s h k d (pageAt f s h (own .pointer)) =
+              record { way = refl; ok = ok; some = λ q. z (sym (e .page) ∙ q); page = ap (pageAt f s h) (sym (e .page)) } in
+              by-cases (soundPage f h (pageAt f s h (own .pointer)) k (end .used + own .depth))
+              (λ p.
+              elim (decLt (firstAbove f (pageAt f s h (own .pointer)) strict k) (count (pageAt f s h (own .pointer)))) [
+                | yes l ↦
+                    sym (from-found strict led (rw (e .used) p) refl refl refl l)
+                    ∙ sym (sought-record f s h (own .pointer) _ _ z)
+                    ∙ ap (soughtOf f s h) (sym (own-rows (end .node) (end .used) own z p l))
+                | no l ↦
+                    sym (from-after strict led (rw (e .used) p) refl refl (omega arith))
+                    ∙ next-after o
+                    ∙ ap (soughtOf f s h) (sym (own-after (end .node) (end .used) own z p (omega arith)))
+              ])
+              (λ p.
+              sym (from-unsound strict led (rw (e .used) p)) ∙ sym (sought-damaged f s h)
+              ∙ ap (soughtOf f s h) (sym (own-unsound (end .node) (end .used) own z p)))
+        ]
+
+    pub next-span : nextOf f s h strict k ≡ soughtOf f s h (spanOf f s h strict k)
+    next-span =
+        by-cases (terminal f s h k .ok)
+        (λ o. next-own o ∙ ap (soughtOf f s h) (sym (at-terminal end o)))
+        (λ o.
+        sym (from-lost f s h strict k (descent f s h k) refl (terminal-ok f s h k low high ∙ o)) ∙ sym (sought-damaged f s h)
+        ∙ ap (soughtOf f s h) (sym (at-lost end o)))
+
+-- a span with records: next goes from each to the one after it
+abbrev pub GoesOn : Format → List ℕ → Head → Span → Type 0
+GoesOn f s h r =
+    (i : ℕ) → r .from ≤ i → i + 1 < r .to
+    → nextOf f s h true (keyAt f (pageAt f s h (r .page)) i) ≡ Record (itemAt f (pageAt f s h (r .page)) (i + 1))
+
+-- what holds of each kind of span holds of every one
+module _ (f : Format) (s : List ℕ) (h : Head) (strict : Bool) (k : ℕ) (P : Span → Type 0) (none : (b : Bool) → P (noSpan b))
+    (first :
+    (p : ℕ) → pageRule f (h .capacity) (pageAt f s h p) ≡ true → let t = terminal f s h k in t .ok ≡ true
+    → P (record { ok = true; page = p; from = 0; to = reachedEnd f s h k (t .node) (t .used) p })) where
+  abbrev there : Terminal
+  there = terminal f s h k
+
+  abbrev entry : Visit
+  entry = ownVisit f s h k (there .node) (there .used)
+
+  abbrev leaf : List ℕ
+  leaf = pageAt f s h (entry .pointer)
+
+  page-kind : there .ok ≡ true → (p : ℕ) → P (reachedSpan f s h strict k (there .node) (there .used) (Page p))
+  page-kind o p =
+      by-cases (pageRule f (h .capacity) (pageAt f s h p))
+      (λ t.
+      by-cases (above strict k (keyAt f (pageAt f s h p) 0))
+      (λ a. subst P (sym (reached-gives f s h strict k _ _ p t a)) (first p t o))
+      (λ a. subst P (sym (reached-below f s h strict k _ _ p t a)) (none false)))
+      (λ t. subst P (sym (reached-broken f s h strict k _ _ p t)) (none false))
+
+  reached-kind : there .ok ≡ true → (a : Reached) → P (reachedSpan f s h strict k (there .node) (there .used) a)
+  reached-kind o (Page p) = page-kind o p
+  reached-kind o Past = subst P (sym (reached-past f s h strict k _ _)) (none true)
+  reached-kind o Broken = subst P (sym (reached-lost f s h strict k _ _)) (none false)
+
+  module _
+      (own :
+      there .ok ≡ true → (entry .pointer ≡ 0 → ⊥) → soundPage f h leaf k (there .used + entry .depth) ≡ true
+      → firstAbove f leaf strict k < count leaf
+      → P (record { ok = true; page = entry .pointer; from = firstAbove f leaf strict k; to = count leaf })) where
+    own-kind : there .ok ≡ true → P (ownSpan f s h strict k (there .node) (there .used) entry)
+    own-kind o =
+        let n : ℕ = there .node in
+        let u : ℕ = there .used in
+        elim (decLt 0 (entry .pointer)) [
+          | no q ↦ subst P (sym (own-null f s h strict k n u entry (omega arith))) (reached-kind o _)
+          | yes q ↦
+              let z : entry .pointer ≡ 0 → ⊥ = λ y. omega arith in
+              by-cases (soundPage f h leaf k (u + entry .depth))
+              (λ p.
+              elim (decLt (firstAbove f leaf strict k) (count leaf)) [
+                | yes l ↦ subst P (sym (own-rows f s h strict k n u entry z p l)) (own o z p l)
+                | no l ↦ subst P (sym (own-after f s h strict k n u entry z p (omega arith))) (reached-kind o _)
+              ])
+              (λ p. subst P (sym (own-unsound f s h strict k n u entry z p)) (none false))
+        ]
+
+    pub span-kind : P (spanOf f s h strict k)
+    span-kind =
+        by-cases (there .ok)
+        (λ o. subst P (sym (at-terminal f s h strict k there o)) (own-kind o))
+        (λ o. subst P (sym (at-lost f s h strict k there o)) (none false))
+
+module _ (f : Format) (s : List ℕ) (h : Head) (strict : Bool) (k : ℕ) where
+  abbrev Sound : Span → Type 0
+  Sound r = r .ok ≡ true → (r .page ≡ 0 → ⊥) → Rows f s h r × GoesOn f s h r
+
+  none-sound : (b : Bool) → Sound (noSpan b)
+  unfolding noSpan
+  none-sound b o q = absurd (q refl)
+
+  -- a page that was reached: its first record alone, or all of them where its first key comes back to it
+  reached-rows : 1 ≤ h .levels → h .levels ≤ 32 → (p : ℕ) → pageRule f (h .capacity) (pageAt f s h p) ≡ true → terminal f s h k .ok ≡ true
+      → (p ≡ 0 → ⊥)
+      → let t = terminal f s h k in
+      let r : Span = record { ok = true; page = p; from = 0; to = reachedEnd f s h k (t .node) (t .used) p } in
+      Rows f s h r × GoesOn f s h r
+  unfolding reachedEnd soundPage
+  reached-rows low high p t o z =
+      let e : Terminal = terminal f s h k in
+      let pg : List ℕ = pageAt f s h p in
+      let k₂ : ℕ = keyAt f pg 0 in
+      let v : Visit = ownVisit f s h k₂ (e .node) (e .used) in
+      let some = rule-facts f (h .capacity) pg t .some in
+      by-cases (eqb (k₂ / 2 ^ (width f - e .used)) (k / 2 ^ (width f - e .used)) && eqb (v .pointer) p && agrees f pg k₂ (e .used + v .depth))
+      (λ b.
+      let c = and-three _ _ _ b in
+      let same : terminal f s h k₂ ≡ e = terminal-same f s h k k₂ o (eqb-true _ _ (c .0)) in
+      let back : v .pointer ≡ p = eqb-true _ _ (c .1) in
+      rw (b, reachedEnd) (
+        record { rule = t; some = some; within = omega arith },
+        λ i m l. within-at f s h k₂ i low high e same o p back z (rw (t, c .2)) l,
+      ))
+      (λ b. rw (b, reachedEnd) (record { rule = t; some = omega arith; within = some }, λ i m l. absurd (omega arith)))
+
+  pub span-rows : 1 ≤ h .levels → h .levels ≤ 32 → Sound (spanOf f s h strict k)
+  unfolding soundPage
+  span-rows low high =
+      span-kind f s h strict k Sound none-sound
+      (λ p t o y q. reached-rows low high p t o q)
+      (λ o z p l y q.
+      (record { rule = and-true _ _ p .0; some = l; within = omega arith }, λ i m n. next-within f s h k i low high o z p n))
+
+  -- a span with records met no damage, and its terminal node is sound
+  abbrev Whole : Span → Type 0
+  Whole r = (r .page ≡ 0 → ⊥) → (r .ok ≡ true) × (terminal f s h k .ok ≡ true)
+
+  none-whole : (b : Bool) → Whole (noSpan b)
+  unfolding noSpan
+  none-whole b q = absurd (q refl)
+
+  pub span-whole : Whole (spanOf f s h strict k)
+  span-whole q =
+      by-cases (terminal f s h k .ok)
+      (λ t. span-kind f s h strict k Whole none-whole (λ p r o z. (refl, t)) (λ o z p l y. (refl, o)) q)
+      (λ t. subst Whole (sym (at-lost f s h strict k (terminal f s h k) t)) (none-whole false) q)
+
+  -- a span that met no damage has a sound terminal node
+  pub terminal-whole : spanOf f s h strict k .ok ≡ true → terminal f s h k .ok ≡ true
+  unfolding noSpan
+  terminal-whole o =
+      by-cases (terminal f s h k .ok)
+      (λ t. t)
+      (λ t. absurd (false≢true (ap (λ r. r .ok) (sym (at-lost f s h strict k (terminal f s h k) t)) ∙ o)))

@@ -1,0 +1,56 @@
+-- What the way from where the loop stands leads to is what the whole way leads to.
+use borrow.Author.Needs.{needs}
+use mathlib.Core.Path.{_≡_, refl, sym, _∙_}
+use Prim.Native.Nat.{_+_, _^_, _<_}
+use native.Mathlib.Omega.{arith}
+use Rattle.store.proofs.Places.{under-limits, under-counts}
+use Rattle.search.specs.Descent.{TerminalNode}
+use Rattle.search.specs.Next.{reach}
+use Rattle.search.proofs.NextLaws.{reach-spent, turn-ends, turn-on}
+use Rattle.search.proofs.ReachLaws.{turn-node, turn-sound}
+use Rattle.search.proofs.reach_from.Statement.{statement}
+use Rattle.search.proofs.reach_from.Tie as tie
+
+abbrev Inv-loop : tie.InvT-loop
+Inv-loop store f head first start checked n₀ i₀ turns₀ n i turns =
+    (i < 2 ^ 40) × TerminalNode head store n × (reach store head turns n i ≡ reach store head (head .nodesTaken + 1) first start)
+
+abbrev μ-loop : tie.MeasureT-loop
+μ-loop store f head first start checked n₀ i₀ turns₀ n i turns = turns
+
+add-turns : tie.Need-add-turns Inv-loop μ-loop
+add-turns c =
+    let u = c .before .before .pre .0 in omega (arith, under-counts u .taken, under-limits u .nodes)
+
+loop-holds : tie.Need-loop-holds Inv-loop μ-loop
+loop-holds c = let p = c .before .before .pre in (p .2, p .1, refl)
+
+hop-from-requires : tie.Need-hop-from-requires Inv-loop μ-loop
+hop-from-requires c κs =
+    let p = c .before .before .before .before .pre in
+    let l = c .before .loop .inv in
+    (p .0, l .1, l .0, λ q. turn-sound _ _ _ _ _ (c .loop-test .taken) (l .1) (l .2) (p .3 q))
+
+returns : tie.Need-returns Inv-loop μ-loop
+returns c =
+    let p = c .before .before .before in
+    turn-ends _ _ _ _ _ (p .before .loop-test .taken) (p .hop-from .ensures) (c .before .hop .given .1)
+    ∙ p .before .before .loop .inv .2
+
+loop-again : tie.Need-loop-again Inv-loop μ-loop
+loop-again c =
+    let p = c .before .before .before in
+    let l = p .before .before .loop .inv in (
+      omega arith,
+      turn-node _ _ _ _ _ (p .before .loop-test .taken) (l .1) (p .hop-from .ensures) (c .before .hop2 .given .1),
+      turn-on _ _ _ _ _ (p .before .loop-test .taken) (p .hop-from .ensures) (c .before .hop2 .given .1) ∙ l .2,
+    )
+
+returns-2 : tie.Need-returns-2 Inv-loop μ-loop
+returns-2 c = let e : 0 ≡ c .before .loop .turns = omega arith in reach-spent _ _ _ _ ∙ rw (sym e) at (c .before .loop .inv .2)
+
+pub reach-from-spec : {M : Type 1} → statement M
+reach-from-spec =
+    tie.close
+    (tie.spec Inv-loop μ-loop add-turns loop-holds (λ c. search needs) hop-from-requires (λ c. search needs) returns
+    (λ c. search needs) (λ c. search needs) loop-again returns-2)
