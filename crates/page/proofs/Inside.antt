@@ -11,12 +11,13 @@ use native.Mathlib.Nat.{mul-le-mul-left}
 use native.Mathlib.Omega.{arith}
 use lib.ListN.{length}
 use Rattle.lists.proofs.Parts.{part-out, length-part}
+use Rattle.plot.specs.Plot.{lawfulTerm}
 use Rattle.store.specs.declared.Format.{Format}
 use Rattle.store.specs.declared.Head.{Head}
 use Rattle.store.specs.Format.{words}
 use Rattle.store.specs.Head.{pageWords, pageStart, pageAt}
-use Rattle.page.specs.Page.{count, Lent, Filled, pageRule}
-use Rattle.page.proofs.Laws.{rule-facts, facts-ordered}
+use Rattle.page.specs.Page.{count, itemAt, Lent, Filled, pageRule}
+use Rattle.page.proofs.Laws.{rule-facts, ordered-facts, facts-ordered, item-term}
 
 abbrev pub Room : Format → List ℕ → ℕ → Type 0
 Room f pg n = (n < 2 ^ 32) × (words f * n < length pg)
@@ -38,6 +39,11 @@ lies f pg n h i q = (omega (arith, h .0), inside (words f) n i (length pg) (h .1
 -- each record of a filled page
 pub record-inside : {f : Format} {pg : List ℕ} {i : ℕ} → Filled f pg → i < count pg → words f * (i + 1) < length pg
 record-inside {f} {pg} {i} h q = inside (words f) (count pg) i (length pg) (h .inside) q
+
+pub record-term :
+    {f : Format} {pg : List ℕ} {i : ℕ} → Filled f pg → i < count pg
+    → lawfulTerm (itemAt f pg i .lease) (itemAt f pg i .last) ≡ true
+record-term {f} {pg} {i} h q = item-term f (itemAt f pg i) (ordered-facts f pg (count pg) (h .order) .lawful i q)
 
 -- a page block is lent whole, or no word of it
 pub page-lent : (f : Format) (s : List ℕ) (h : Head) (p : ℕ) → Lent f (h .capacity) (pageAt f s h p)

@@ -1,18 +1,19 @@
 -- What the functions' proofs and the promises share: bounds on products and quotients, days left and balances, and the limits of labels
 -- and keys.
-use mathlib.Core.Bool.{true, false, _&&_, and-false, and-eq-true-iff, not-eq-not}
-use mathlib.Core.Path.{_≡_, sym, subst⁻¹, _∙_}
+use mathlib.Core.Bool.{true, false, not, _&&_, and-false, and-eq-true-iff, not-eq-not}
+use mathlib.Core.Path.{_≡_, sym, ap, subst⁻¹, _∙_}
 use mathlib.Core.Logic.{inl, inr}
-use Prim.Native.Nat.{ℕ, _+_, _*_, _/_, _^_, _≤_, _<_}
-use native.Mathlib.Nat.{le-of-lt, lt-of-le-of-lt, mul-le-mul-left, mul-lt-mul-of-pos-right, mul-comm}
-use native.Mathlib.Nat.{div-le-of-le-mul, div-zero, div-mul-le-self, lt-div-mul-add}
+use Prim.Native.Nat.{ℕ, _+_, _*_, _/_, _%_, _^_, _≤_, _<_, max}
+use native.Mathlib.Nat.{le-of-lt, lt-of-le-of-lt, mul-le-mul-left, mul-lt-mul-of-pos-right, mul-comm, mul-assoc}
+use native.Mathlib.Nat.{div-le-of-le-mul, div-zero, div-mul-le-self, lt-div-mul-add, mul-add-div, mod-add-div, div-lt-iff-lt-mul}
 use native.Mathlib.Decide.{ℕ-discrete}
 use native.Mathlib.Omega.{arith}
-use lib.Dec.{leb, ltb}
+use lib.Dec.{leb, ltb, eqb}
 use lib.Pow.{pow-pos, pow-add}
 use borrow.Author.Tests.{leb-true, ltb-true, eqb-true, le-leb, lt-ltb, eq-eqb, ne-eqb}
+use Rattle.plot.specs.declared.Record.{Record}
 use Rattle.plot.specs.declared.Label.{Label}
-use Rattle.plot.specs.Plot.{lawfulDay, lawfulTerm}
+use Rattle.plot.specs.Plot.{isWord, lawfulDay, lawfulTerm, lawful}
 use Rattle.plot.specs.Money.{daysLeft, amount, balanceReply}
 use Rattle.plot.specs.Label.{lawfulLabel, pack, sectionOf, rowOf, placeOf, hasLabel, keyOfReply, labelOfReply}
 use Rattle.plot.specs.Promises.{InTerm, Limits}
@@ -26,6 +27,26 @@ product-below k {a} {b} ha hb =
 -- x × d / l is at most x where d is at most l.
 pub share-le : (x d l : ℕ) → d ≤ l → x * d / l ≤ x
 share-le x d l h = div-le-of-le-mul l (rw (mul-comm l x) (mul-le-mul-left x h))
+
+-- Below l × 2^32, where it is a number of 32 bits times at most l, and then the quotient by l has 32 bits.
+pub share-fits : {x d l : ℕ} → x < 2 ^ 32 → d ≤ l → 1 ≤ l → x * d < l * 2 ^ 32
+share-fits {x} {d} {l} h w p =
+    rw (mul-comm l (2 ^ 32)) (lt-of-le-of-lt (mul-le-mul-left x w) (mul-lt-mul-of-pos-right h p))
+
+-- A division in two steps of 16 binary digits: the high digits, and the rest of them before the low digits.
+module _ (x l : ℕ) (p : 1 ≤ l) where
+  abbrev high : ℕ
+  high = x / 65536
+
+  pub two-steps : high / l * 65536 + (high % l * 65536 + x % 65536) / l ≡ x / l
+  two-steps =
+      let q : ℕ = high / l in
+      let e : l * (q * 65536) + (high % l * 65536 + x % 65536) ≡ x =
+          omega (arith, mul-assoc l q 65536, mod-add-div high l) in
+      sym (mul-add-div p (q * 65536) (high % l * 65536 + x % 65536)) ∙ ap (λ n. n / l) e
+
+  pub quotient-below : x < l * 2 ^ 32 → x / l < 2 ^ 32
+  quotient-below h = div-lt-iff-lt-mul p .1 (rw (mul-comm (2 ^ 32) l) h)
 
 -- The limits of lease days, a last day and today.
 module _ (day : ℕ) where
@@ -53,6 +74,17 @@ module _ (lease last : ℕ) where
   facts-term (inl a) = rw (eq-eqb lease 0 (a .0), eq-eqb last 0 (a .1), lawfulTerm)
   facts-term (inr a) = rw (ne-eqb lease 0 (λ z. omega arith), le-leb lease 36525 (a .1), limit-day last (a .2), lawfulTerm)
 
+pub lawful-term : (r : Record) → lawful r ≡ true → lawfulTerm (r .lease) (r .last) ≡ true
+unfolding lawful
+lawful-term r e =
+    let a = and-eq-true-iff (isWord (r .key)) _ .0 e in
+    let b = and-eq-true-iff (not (eqb (r .key) 0)) _ .0 (a .1) in
+    and-eq-true-iff (isWord (r .price)) _ .0 (b .1) .1
+
+-- Lease days of a lawful term, with 1 for none, as a divisor of 16 binary digits.
+pub divisor-fits : (lease last : ℕ) → lawfulTerm lease last ≡ true → max lease 1 < 2 ^ 16
+divisor-fits lease last e = elim (term-facts lease last e) [ inl a ↦ omega (arith, a .0) | inr a ↦ omega (arith, a .1) ]
+
 -- Days left: at most the lease days, and 0 from the last day on.
 module _ (lease last today : ℕ) where
   pub days-within : daysLeft lease last today ≤ lease
@@ -75,6 +107,16 @@ module _ (price lease last today : ℕ) where
       elim (ℕ-discrete lease 0) [
         | yes h ↦ amount-perpetual h ∙ sym (rw h (div-zero _))
         | no h ↦ rw (ne-eqb lease 0 h, amount)
+      ]
+
+  -- a perpetual lease has no days left, so 1 serves as its lease days
+  pub amount-share : amount price lease last today ≡ price * daysLeft lease last today / max lease 1
+  amount-share =
+      elim (ℕ-discrete lease 0) [
+        | yes h ↦
+            let d : daysLeft lease last today ≡ 0 = omega (arith, days-within lease last today) in
+            amount-perpetual h ∙ sym (rw (d, h) (omega arith))
+        | no h ↦ let m : max lease 1 ≡ lease = omega arith in rw m amount-quotient
       ]
 
   pub amount-exact : 1 ≤ lease

@@ -1,8 +1,9 @@
 // Plots and money: a record's limits, what is left of a price, and the labels of keys.
 ghost use mathlib.Core.Path.{_≡_};
-ghost use Prim.Native.Nat.{_*_};
+ghost use Prim.Native.Nat.{_*_, _/_, _<_, _≤_, _^_, max};
+ghost use mathlib.Core.Bool.{true};
 ghost use Rattle.plot.specs.Plot.{lawfulDay, lawfulTerm, lawful};
-ghost use Rattle.plot.specs.Money.{daysLeft, reply, balanceReply};
+ghost use Rattle.plot.specs.Money.{daysLeft, amount, reply, balanceReply};
 ghost use Rattle.plot.specs.Label.{lawfulLabel, keyReply, keyOfReply, labelReply, labelOfReply};
 
 // What is held of a plot: its key, the price in pence, the lease days (0: perpetual) and the last day.
@@ -78,7 +79,34 @@ fn wide_product(a: u32, b: u32) -> u64
     (a as u64) * (b as u64)
 }
 
-// What is left of a price: price × days left / lease days, rounded down, the product in 64 bits.
+fn at_least_one(n: u32) -> u32
+    ensures { λ r. ⌜ r ≡ max n 1 ⌝ }
+{
+    if n == 0 {
+        return 1;
+    }
+    n
+}
+
+// A quotient that fits 32 bits, by two divisions of 32-bit numbers, 16 digits each, which take less time than one of 64 bits.
+fn quotient(product: u64, by: u32) -> u32
+    requires { ⌜ (1 ≤ by) × (by < 2 ^ 16) × (product < by * 2 ^ 32) ⌝ }
+    ensures { λ r. ⌜ r ≡ product / by ⌝ }
+{
+    let high = (product / 65536) as u32;
+    let rest = (high % by) * 65536 + (product % 65536) as u32;
+    (high / by) * 65536 + rest / by
+}
+
+// What is left of the price of a lawful term: price × days left / lease days, rounded down, the product in 64 bits.
+pub fn amount_left(price: u32, lease: u32, last: u32, today: u32) -> u32
+    requires { ⌜ lawfulTerm lease last ≡ true ⌝ }
+    ensures { λ r. ⌜ r ≡ amount price lease last today ⌝ }
+{
+    quotient(wide_product(price, days_left(lease, last, today)), at_least_one(lease))
+}
+
+// What is left of a price, where the term and today are within their limits.
 pub fn balance(price: u32, lease: u32, last: u32, today: u32) -> BalanceAnswer
     ensures { λ r. ⌜ reply r ≡ balanceReply price lease last today ⌝ }
 {
@@ -88,12 +116,7 @@ pub fn balance(price: u32, lease: u32, last: u32, today: u32) -> BalanceAnswer
     if !lawful_day(today) {
         return BalanceAnswer::OutsideLimits;
     }
-    if lease == 0 {
-        return BalanceAnswer::Pence(0);
-    }
-    let left = days_left(lease, last, today);
-    let product = wide_product(price, left);
-    BalanceAnswer::Pence((product / (lease as u64)) as u32)
+    BalanceAnswer::Pence(amount_left(price, lease, last, today))
 }
 
 // The key of a label.

@@ -7,7 +7,7 @@ use mathlib.Core.Bool.{Bool, true, false, false≢true}
 use mathlib.Core.List.{List, [], _∷_, _++_}
 use Prim.Native.Nat.{ℕ, zero, suc, _+_, _-_, _*_, _^_, _≤_, _<_, max}
 use native.Mathlib.Decide.{decLe, decLt}
-use native.Mathlib.Nat.{add-zero, mod-eq-of-lt, mul-le-mul-left}
+use native.Mathlib.Nat.{add-zero, mod-eq-of-lt}
 use native.Mathlib.Omega.{arith}
 use lib.ListN.{length, getD, take, drop}
 use lib.Seq.{take-add, take-at, drop-drop, drop-cons}
@@ -23,7 +23,7 @@ use Rattle.store.specs.declared.Item.{Item}
 use Rattle.store.specs.Format.{words}
 use Rattle.store.specs.Head.{pageAt, Under}
 use Rattle.store.proofs.Places.{under-limits}
-use Rattle.page.specs.Page.{count, itemAt, keyAt, itemWords, flat, pageRule, above, firstAbove, Filled}
+use Rattle.page.specs.Page.{count, itemAt, keyAt, itemWords, flat, pageRule, above, firstAbove}
 use Rattle.page.proofs.Flat.{length-flat, flat-append}
 use Rattle.page.proofs.Inside.{page-lent, filled, record-inside}
 use Rattle.page.proofs.Laws.{rule-facts, first-facts}
@@ -447,7 +447,3 @@ rows-lie {f} {s} {h} {r} u w {pg} e i l =
     let k = rule-facts f (h .capacity) (pageAt f s h (r .page)) (w .rule) in
     let q = filled f (h .capacity) (pageAt f s h (r .page)) (w .rule) (page-lent f s h (r .page)) in
     (omega (arith, w .within, k .fits, under-limits u .capacity), rw e (record-inside q (omega (arith, w .within))))
-
--- so many records lie in a page
-pub rows-inside : {f : Format} {pg : List ℕ} {n : ℕ} → Filled f pg → n ≤ count pg → words f * n < length pg
-rows-inside {f} {pg} {n} h q = omega (arith, h .inside, mul-le-mul-left {m = n} {n = count pg} (words f) q)

@@ -11,6 +11,7 @@ ghost use mathlib.Core.List.{_++_};
 ghost use Prim.Native.Nat.{_+_, _-_, _*_, _^_, _≤_, _<_, min};
 ghost use lib.ListN.{length, drop};
 ghost use Rattle.lists.specs.Lists.{part};
+ghost use Rattle.plot.specs.Plot.{lawfulDay};
 ghost use Rattle.store.specs.Format.{words};
 ghost use Rattle.store.specs.Head.{Under};
 ghost use Rattle.page.specs.Page.{count, flat, Filled};
@@ -279,7 +280,7 @@ fn summing_of(ok: bool, totals: Totals) -> Summing
 
 // The totals with a record added: the sheet is lent.
 fn added(totals: Totals, item: Item, today: u32) -> Totals
-    requires { ⌜ Room totals ⌝ }
+    requires { ⌜ Room totals item today ⌝ }
     ensures { λ r. ⌜ r ≡ updatedOf totals item today ⌝ }
 {
     let mut sheet = totals;
@@ -289,7 +290,8 @@ fn added(totals: Totals, item: Item, today: u32) -> Totals
 
 // The totals with the records of a page from number `from` up to `to`.
 fn add_rows(page: &[u32], f: Format, from: usize, to: usize, today: u32, totals: Totals) -> Totals
-    requires { ⌜ (to < 2 ^ 32) × (words f * to < length (now page)) × (Bounded totals) × (totals .count + (to - from) ≤ 2 ^ 32) ⌝ }
+    requires { ⌜ (Filled f (now page)) × (to ≤ count (now page)) × (to < 2 ^ 32) × (lawfulDay today ≡ true) × (Bounded totals)
+        × (totals .count + (to - from) ≤ 2 ^ 32) ⌝ }
     ensures { λ r. ⌜ (r ≡ totalsOf totals (rows f (now (page .entry)) from (to - from)) today) × (Bounded r)
         × (r .count ≡ totals .count + (to - from)) ⌝ }
 {
@@ -305,7 +307,7 @@ fn add_rows(page: &[u32], f: Format, from: usize, to: usize, today: u32, totals:
 
 // The totals of the records from low to high: one sheet, brought up to date record by record.
 fn sum(store: &[u32], f: Format, head: Head, low: u64, high: u64, today: u32) -> Summing
-    requires { ⌜ (Under f (now store) head) × (low ≤ high) × (high < 2 ^ 32) ⌝ }
+    requires { ⌜ (Under f (now store) head) × (low ≤ high) × (high < 2 ^ 32) × (lawfulDay today ≡ true) ⌝ }
     ensures { λ r. ⌜ r ≡ summed f (now (store .entry)) head low high today ⌝ }
 {
     let mut t = totals::no_totals();

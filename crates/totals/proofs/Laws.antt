@@ -10,23 +10,22 @@ use lib.Dec.{ltb}
 use lib.ListN.{length}
 use borrow.Author.Tests.{eq-eqb, ne-eqb, ltb-true, ltb-false}
 use Rattle.lists.proofs.Cases.{bool-cases}
-use Rattle.plot.specs.declared.BalanceAnswer.{BalanceAnswer}
 use Rattle.plot.specs.Plot.{lawfulDay, lawfulTerm}
-use Rattle.plot.specs.Money.{Reply, reply, balanceReply}
+use Rattle.plot.specs.Money.{amount, balanceReply}
 use Rattle.plot.proofs.Promises.{balance-within-price}
 use Rattle.store.specs.declared.Item.{Item}
 use Rattle.totals.specs.declared.Totals.{Totals}
 use Rattle.totals.specs.Totals.{noTotals, worth, earlier, updatedOf, totalsOf, Room, Bounded}
 use Rattle.totals.specs.Promises.{worths}
 
--- A value that stands in the reply of `balance` is the record's worth.
-pub worth-replied :
-    (it : Item) (today : ℕ) {b a : BalanceAnswer} →
-    b ≡ a →
-    reply b ≡ balanceReply (it .price) (it .lease) (it .last) today →
-    reply a .value ≡ worth it today
-unfolding worth
-worth-replied it today e h = sym (ap (λ b. reply b .value) e) ∙ ap (λ (r : Reply). r .value) h
+-- The worth of a record with a lawful term is its amount; any record's is at most its price.
+pub worth-lawful :
+    (it : Item) (today : ℕ) →
+    lawfulTerm (it .lease) (it .last) ≡ true →
+    lawfulDay today ≡ true →
+    worth it today ≡ amount (it .price) (it .lease) (it .last) today
+unfolding worth balanceReply
+worth-lawful it today t d = rw (t, d, worth, balanceReply)
 
 pub worth-within : (it : Item) (today : ℕ) → worth it today ≤ it .price
 unfolding worth balanceReply
@@ -111,5 +110,11 @@ bounded-none = omega arith
 pub bounded-updated : (t : Totals) (it : Item) (today : ℕ) → Bounded t → it .price < 2 ^ 32 → Bounded (updatedOf t it today)
 bounded-updated t it today b h = omega (arith, updated-count t it today, updated-total-within t it today h)
 
-pub bounded-room : (t : Totals) → Bounded t → t .count < 2 ^ 32 → Room t
-bounded-room t b h = record { count = omega arith; total = omega arith }
+pub bounded-room :
+    (t : Totals) (it : Item) (today : ℕ) →
+    Bounded t →
+    t .count < 2 ^ 32 →
+    lawfulTerm (it .lease) (it .last) ≡ true →
+    lawfulDay today ≡ true →
+    Room t it today
+bounded-room t it today b h l d = record { count = omega arith; total = omega arith; term = l; day = d }

@@ -6,11 +6,13 @@
 --   updatedOf t it today == the totals t with the record it
 --   totalsOf t its today == the totals t with the records its, one after another
 --   Bounded t         == each record counted has added at most 2^32 − 1
---   Room t            == one record more does not overflow
+--   Room t it today   == the record it has a lawful term, and with it nothing overflows
 use mathlib.Core.Bool.{Bool, true, false, not, _&&_, _||_}
+use mathlib.Core.Path.{_≡_}
 use mathlib.Core.List.{List, [], _∷_}
 use Prim.Native.Nat.{ℕ, _+_, _-_, _*_, _≤_, _<_, _^_}
 use lib.Dec.{eqb, ltb}
+use Rattle.plot.specs.Plot.{lawfulDay, lawfulTerm}
 use Rattle.plot.specs.Money.{balanceReply}
 use Rattle.store.specs.declared.Item.{Item}
 use Rattle.totals.specs.declared.Totals.{Totals}
@@ -39,6 +41,8 @@ totalsOf t (it ∷ its) today = totalsOf (updatedOf t it today) its today
 abbrev pub Bounded : Totals → Type 0
 Bounded t = t .total ≤ t .count * (2 ^ 32 - 1)
 
-pub record Room (t : Totals) : Type 0 where
+pub record Room (t : Totals) (it : Item) (today : ℕ) : Type 0 where
   pub count : t .count + 1 < 2 ^ 64
   pub total : t .total + 2 ^ 32 ≤ 2 ^ 64
+  pub term : lawfulTerm (it .lease) (it .last) ≡ true
+  pub day : lawfulDay today ≡ true

@@ -1,8 +1,9 @@
 // A summary's running totals, lent to be brought up to date record by record.
-use plot::BalanceAnswer;
 use store::Item;
 ghost use mathlib.Core.Path.{_≡_};
+ghost use mathlib.Core.Bool.{true};
 ghost use Prim.Native.Nat.{_+_, _<_, _≤_, _^_};
+ghost use Rattle.plot.specs.Plot.{lawfulDay, lawfulTerm};
 ghost use Rattle.totals.specs.Totals.{Room, noTotals, worth, earlier, updatedOf};
 
 // How many records, their balances together, and of the earliest last day among leased ones the key (0: none) and the day.
@@ -26,31 +27,22 @@ pub fn no_totals() -> Totals
 
 // The balance of a record.
 fn worth_of(item: Item, today: u32) -> u64
+    requires { ⌜ (lawfulTerm (item .lease) (item .last) ≡ true) × (lawfulDay today ≡ true) ⌝ }
     ensures { λ r. ⌜ (r ≡ worth item today) × (r < 2 ^ 32) ⌝ }
 {
-    let answer = plot::balance(item.price, item.lease, item.last, today);
-    match answer {
-        BalanceAnswer::Pence(p) => store::widen(p),
-        BalanceAnswer::OutsideLimits => 0,
-    }
+    store::widen(plot::amount_left(item.price, item.lease, item.last, today))
 }
 
-// Whether a record has the earliest last day so far.
+// Whether a record has the earliest last day so far, without a branch.
 fn is_earlier(totals: Totals, item: Item) -> bool
     ensures { λ r. ⌜ r ≡ earlier totals item ⌝ }
 {
-    if item.lease == 0 {
-        return false;
-    }
-    if totals.key == 0 {
-        return true;
-    }
-    item.last < totals.last
+    (item.lease != 0) & ((totals.key == 0) | (item.last < totals.last))
 }
 
 // The work: the totals with a record added.
 fn updated(totals: Totals, item: Item, today: u32) -> Totals
-    requires { ⌜ Room totals ⌝ }
+    requires { ⌜ Room totals item today ⌝ }
     ensures { λ r. ⌜ r ≡ updatedOf totals item today ⌝ }
 {
     let count = totals.count + 1;
@@ -73,7 +65,7 @@ fn updated(totals: Totals, item: Item, today: u32) -> Totals
 
 // The totals are lent, and the update is handed through.
 pub fn add(totals: &mut Totals, item: Item, today: u32)
-    requires { ⌜ Room (now totals) ⌝ }
+    requires { ⌜ Room (now totals) item today ⌝ }
     ensures { λ _. ⌜ now (totals .exit) ≡ updatedOf (now (totals .entry)) item today ⌝ }
 {
     *totals = updated(*totals, item, today);

@@ -4,9 +4,8 @@ use mathlib.Core.Path.{_≡_, sym, ap, ap₂, _∙_}
 use Prim.Native.Nat.{_+_, _-_, _≤_, _<_}
 use native.Mathlib.Decide.{decLt}
 use native.Mathlib.Omega.{arith}
-use Rattle.page.specs.Page.{itemAt}
-use Rattle.page.proofs.Inside.{inside}
-use Rattle.store.specs.Format.{words}
+use Rattle.page.specs.Page.{count, itemAt}
+use Rattle.page.proofs.Inside.{record-inside, record-term}
 use Rattle.totals.specs.Totals.{Bounded, updatedOf, totalsOf}
 use Rattle.totals.proofs.Laws.{bounded-updated, bounded-room, updated-count}
 use Rattle.scan.specs.Walk.{rows}
@@ -28,18 +27,21 @@ loop-holds c =
     let s = c .before in
     let a = s .args in
     let z : a .from - a .from ≡ 0 = omega arith in
-    (omega arith, sym (rw (z, rows-none (a .f) (a .page .now) (a .from), totalsOf)), s .pre .2, omega arith, λ q. absurd (omega arith))
+    (omega arith, sym (rw (z, rows-none (a .f) (a .page .now) (a .from), totalsOf)), s .pre .4, omega arith, λ q. absurd (omega arith))
 
 read-one-requires : tie.Need-read-one-requires Inv-loop μ-loop
 read-one-requires c κs =
     let p = c .before .before .before .pre in
-    (omega (arith, p .0, c .loop-test .taken), inside _ _ _ _ (p .1) (c .loop-test .taken))
+    let l : c .before .loop .i < count (c .before .before .before .args .page .now) = omega (arith, p .1, c .loop-test .taken) in
+    (omega (arith, p .2, c .loop-test .taken), record-inside (p .0) l)
 
 added-requires : tie.Need-added-requires Inv-loop μ-loop
 added-requires c κs =
     let l = c .before .before .loop in
-    let p = c .before .before .before .before .pre in
-    bounded-room (l .t) (l .inv .2) (omega (arith, l .inv .0, l .inv .3, p .3, c .before .loop-test .taken))
+    let s = c .before .before .before .before in
+    let i : l .i < count (s .args .page .now) = omega (arith, s .pre .1, c .before .loop-test .taken) in
+    bounded-room (l .t) _ _ (l .inv .2) (omega (arith, l .inv .0, l .inv .3, s .pre .5, c .before .loop-test .taken))
+    (rw (c .read-one .ensures) (record-term (s .pre .0) i)) (s .pre .3)
 
 loop-again : tie.Need-loop-again Inv-loop μ-loop
 loop-again c =

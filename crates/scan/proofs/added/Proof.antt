@@ -105,7 +105,7 @@ module _ {M : Type 1} (𝓤 : URA M) (H : Heap 𝓤) (A : Atoms 𝓤) (W : Given
       abbrev to-add : Add .Ghost
       to-add = (((ν ∷ [], tt), (fullShare, tt), tt, (ref, (r, (n, tt))), (vptr l 0 ∷ [], (v ∷ [], (vint w32 n ∷ [], tt)))), tt)
 
-      goes-add : Room h → ent 𝓤 (sep 𝓤 (A .lft (ν ∷ []) fullShare) (sem 𝓤 H A Lent)) (Add .pre to-add)
+      goes-add : Room h r n → ent 𝓤 (sep 𝓤 (A .lft (ν ∷ []) fullShare) (sem 𝓤 H A Lent)) (Add .pre to-add)
       goes-add room =
           qed W (‵ (flft (ν ∷ []) fullShare) ∷ ‵ Lent ∷ []) ∵
           says ! room $ nothing ! $ move ! (1 ∷ 0 ∷ []) $ join ! $ frame ! $
@@ -114,7 +114,7 @@ module _ {M : Type 1} (𝓤 : URA M) (H : Heap 𝓤) (A : Atoms 𝓤) (W : Given
           move ! (1 ∷ 0 ∷ []) $ fjoin ! $ done !
 
     module _ (C : Calls 𝓤 H) (Λ : Loops 𝓤 H) (fm : FmC 𝓤 H (W .laws) C) (known : Triple 𝓤 (C #totals·add) Add) where
-      walk : Room h
+      walk : Room h r n
           → ent 𝓤 (onEntry 𝓤 H A f.signature tt tt a at) (WpFn 𝓤 H C Λ code.function (t-val ∷ v ∷ vint w32 n ∷ []) Post)
       walk room =
           qed W (‵ ftrue ∷ ‵ (owns (T.the-row ∷ R.the-row ∷ u32 ∷ []) a at) ∷ []) ∵
@@ -176,7 +176,7 @@ module _ {M : Type 1} (𝓤 : URA M) (H : Heap 𝓤) (A : Atoms 𝓤) (W : Given
       (walked 𝓤 H A f.ended stayed (f.clauses 𝓤 H A at-mem run) (WpFn 𝓤 H (𝓣 .C) (𝓣 .Λ) code.function)
       (λ κs. (LL.vals T.the-type T′.the-laws, (LL.vals R.the-type R′.the-laws, (uint-vals w32, tt))))
       (λ κs. (LL.tells T.the-type T′.the-laws, (LL.tells R.the-type R′.the-laws, (uint-tells w32, tt))))
-      (λ κs qs bounds a _ are. needs 𝓤 (Room (a .0)) _
+      (λ κs qs bounds a _ are. needs 𝓤 (Room (a .0) (a .1 .0) (a .1 .1 .0)) _
       (walk (a .0) (a .1 .0) (a .1 .1 .0) (are .0) (are .1 .0) (are .1 .1 .0 .1) (𝓣 .C) (𝓣 .Λ) (fmOf 𝓤 H (W .laws) 𝓣) known)))
 
 pub added-spec : {M : Type 1} → stated.statement M

@@ -9,7 +9,7 @@ use Rattle.store.proofs.Places.{under-limits}
 use Rattle.totals.specs.Totals.{Bounded, totalsOf}
 use Rattle.scan.specs.Walk.{lastKey, endOf, rows}
 use Rattle.scan.specs.Summary.{summingOf}
-use Rattle.scan.proofs.WalkLaws.{rowsOf, stopOf, upTo, rows-inside}
+use Rattle.scan.proofs.WalkLaws.{rowsOf, stopOf, upTo}
 use Rattle.scan.proofs.StandLaws.{Summed, standing, walk-rows, end-asked, sum-first, sum-done, sum-room, sum-over, sum-next}
 use Rattle.scan.proofs.StandLaws.{rows-some, taken-length, taken-all}
 use Rattle.scan.proofs.sum.Statement.{statement}
@@ -55,8 +55,10 @@ add-rows-requires c κs =
     let u = s .pre .0 in
     let e = end-asked u (l .inv .ahead .at) (some i) (c .before .page-at .ensures) in
     let w = c .end-at .ensures .2 in (
+      e .0,
+      omega (arith, w, e .2),
       omega (arith, w, e .3),
-      rows-inside (e .0) (omega (arith, w, e .2)),
+      s .pre .3,
       l .inv .bounded,
       rw (stops c) (sum-room _ _ _ _ _ u _ (l .inv) (some i) (s .pre .2)),
     )

@@ -65,6 +65,7 @@ sum-requires c κs = (
   record { rule = head-sound (c .before .before .before .before .before .before); head = c .before .before .head-of .ensures },
   omega arith,
   omega arith,
+  day-lawful (c .before .before .before),
 )
 
 returns-4 : tie.Need-returns-4

@@ -86,7 +86,7 @@ module _ {M : Type 1} (𝓤 : URA M) (H : Heap 𝓤) (A : Atoms 𝓤) (W : Given
     abbrev to : Updated .Ghost
     to = ((tt, tt, tt, (h, (r, (n, tt))), (s ∷ [], (v ∷ [], (vint w32 n ∷ [], tt)))), tt)
 
-    goes : Room h → Is T.the-row h (s ∷ []) → ent 𝓤 (emp 𝓤) (Updated .pre to)
+    goes : Room h r n → Is T.the-row h (s ∷ []) → ent 𝓤 (emp 𝓤) (Updated .pre to)
     goes room h-is =
         qed W [] ∵ says ! room $ nothing ! $ frame ! $
         nothing ! $ owned ! u32 (Is u32) (uint-makes 𝓤 H A W w32) n _ (refl, n-fits) $ fjoin ! $
@@ -112,7 +112,7 @@ module _ {M : Type 1} (𝓤 : URA M) (H : Heap 𝓤) (A : Atoms 𝓤) (W : Given
         feqI ! (List Val) (vunit ∷ []) (vunit ∷ []) refl $ move ! (1 ∷ 0 ∷ []) $ done !
 
     module _ (C : Calls 𝓤 H) (Λ : Loops 𝓤 H) (fm : FmC 𝓤 H (W .laws) C) (known : Triple 𝓤 (C #totals·updated) Updated) where
-      walk : Room h
+      walk : Room h r n
           → ent 𝓤 (onEntry 𝓤 H A f.signature (κ, tt) (q, tt) x at) (WpFn 𝓤 H C Λ code.function (vptr b o ∷ v ∷ vint w32 n ∷ []) Post)
       walk room =
           qed W ((‵ (flft κ q) ⊛ ‵ ftrue) ∷ ‵ (owns (MutRef (named 0) κ T.the-row ∷ R.the-row ∷ u32 ∷ []) x at) ∷ []) ∵
@@ -166,7 +166,7 @@ module _ {M : Type 1} (𝓤 : URA M) (H : Heap 𝓤) (A : Atoms 𝓤) (W : Given
       (walked 𝓤 H A f.ended stayed (f.clauses 𝓤 H A at-mem run) (WpFn 𝓤 H (𝓣 .C) (𝓣 .Λ) code.function)
       (λ κs. (ptr-vals, (LL.vals R.the-type R′.the-laws, (uint-vals w32, tt))))
       (λ κs. (mut-tells (named 0) (κs .0) T.the-row, (LL.tells R.the-type R′.the-laws, (uint-tells w32, tt))))
-      (λ κs qs bounds a _ are. needs 𝓤 (Room (a .0 .now)) _
+      (λ κs qs bounds a _ are. needs 𝓤 (Room (a .0 .now) (a .1 .0) (a .1 .1 .0)) _
       (walk (κs .0) (qs .0) (a .0 .ptr .0) (a .0 .ptr .1) (a .0 .name) (a .0 .now) (a .1 .0) (a .1 .1 .0) (are .1 .0) (are .1 .1 .0 .1)
       (𝓣 .C) (𝓣 .Λ) (fmOf 𝓤 H (W .laws) 𝓣) known)))
 
