@@ -26,6 +26,13 @@ use Rattle.search.specs.declared.Terminal.{Terminal}
 use Rattle.search.specs.Descent.{noStep, noSteps, damagedNode, entryVisit, soundNode, stepOf, lost, stepTaken, descend, descent}
 use Rattle.search.specs.Descent.{lostTerminal, terminalFrom, ownVisit}
 
+-- a sound node keeps the node rule, and the key has its bits
+pub sound-facts : (f : Format) (s : List ℕ) (h : Head) (level n used : ℕ) → soundNode f s h level n used ≡ true
+    → (nodeRule h s (nodeStart h n) level ≡ true) × (used + depthWord s (nodeStart h n) ≤ width f)
+sound-facts f s h level n used e =
+    let a = and-true (nodeRule h s (nodeStart h n) level) (leb (used + depthWord s (nodeStart h n)) (width f)) e in
+    (a .0, leb-true _ _ (a .1))
+
 -- a visit
 module _ (f : Format) (s : List ℕ) (h : Head) (k level n used : ℕ) where
   pub step-damaged : soundNode f s h level n used ≡ false → damagedNode ≡ stepOf f s h k level n used
@@ -55,12 +62,12 @@ module _ (f : Format) (s : List ℕ) (h : Head) (k level n used : ℕ) where
       ]
 
   pub visited-rule : stepOf f s h k level n used .ok ≡ true → nodeRule h s (nodeStart h n) level ≡ true
-  visited-rule e = and-true _ _ (visited-sound e) .0
+  visited-rule e = sound-facts f s h level n used (visited-sound e) .0
 
   -- the key's entry in a sound node
   module _ (e : soundNode f s h level n used ≡ true) where
     rule : nodeRule h s (nodeStart h n) level ≡ true
-    rule = and-true (nodeRule h s (nodeStart h n) level) _ e .0
+    rule = sound-facts f s h level n used e .0
 
     runs : Good (depthWord s (nodeStart h n)) (pointerLow level) (pointerHigh h level) (entryOf s (nodeStart h n))
     runs = good-facts _ _ _ _ (node-facts h s (nodeStart h n) level rule .runs)
@@ -69,7 +76,7 @@ module _ (f : Format) (s : List ℕ) (h : Head) (k level n used : ℕ) where
     node-deep = node-facts h s (nodeStart h n) level rule .depth
 
     pub node-bits : used + depthWord s (nodeStart h n) ≤ width f
-    node-bits = leb-true _ _ (and-true (nodeRule h s (nodeStart h n) level) _ e .1)
+    node-bits = sound-facts f s h level n used e .1
 
     pub own-bits : used + ownVisit f s h k n used .depth ≤ width f
     unfolding ownVisit entryVisit
@@ -103,11 +110,11 @@ module _ (f : Format) (s : List ℕ) (h : Head) (k level n used : ℕ) {v : Visi
 
 -- one turn of the way to the terminal node
 module _ (f : Format) (s : List ℕ) (h : Head) (k l n used : ℕ) (v : Visit) (e : v ≡ stepOf f s h k (suc (suc l)) n used) where
-  way-step : v .ok ≡ true → terminalFrom f s h k l (v .pointer) (used + v .depth) ≡ terminalFrom f s h k (suc l) n used
+  pub way-step : v .ok ≡ true → terminalFrom f s h k l (v .pointer) (used + v .depth) ≡ terminalFrom f s h k (suc l) n used
   unfolding terminalFrom
   way-step p = rw e (sym (rw (rw e at p, terminalFrom)))
 
-  way-end : v .ok ≡ false → lostTerminal ≡ terminalFrom f s h k (suc l) n used
+  pub way-end : v .ok ≡ false → lostTerminal ≡ terminalFrom f s h k (suc l) n used
   unfolding terminalFrom
   way-end p = sym (rw (rw e at p, terminalFrom))
 
@@ -150,11 +157,11 @@ module _ (f : Format) (s : List ℕ) (h : Head) (k level n used : ℕ) (R : Term
 -- one turn
 module _ (f : Format) (s : List ℕ) (h : Head) (k : ℕ) where
   module _ (l n used : ℕ) (steps : List Step) (v : Visit) (e : v ≡ stepOf f s h k (suc l) n used) where
-    step-lost : v .ok ≡ false → lost ≡ descend f s h k (suc l) n used steps
+    pub step-lost : v .ok ≡ false → lost ≡ descend f s h k (suc l) n used steps
     unfolding descend
     step-lost p = rw (rw e at p, descend)
 
-    step-on : v .ok ≡ true
+    pub step-on : v .ok ≡ true
         → descend f s h k l (v .pointer) (used + v .depth) (stepTaken steps l n used v) ≡ descend f s h k (suc l) n used steps
     unfolding descend stepTaken
     step-on p = rw (e, rw e at p, descend)
@@ -175,32 +182,3 @@ module _ (f : Format) (s : List ℕ) (h : Head) (k : ℕ) where
       → record { ok = true; page = n; used = used; steps = steps } ≡ R
   unfolding descend
   turn-out level n used steps z R inv = rw z at inv
-
-  -- a way that is not lost takes a step
-  stepped : (l n used : ℕ) (steps : List Step) → descend f s h k (suc l) n used steps .ok ≡ true → stepOf f s h k (suc l) n used .ok ≡ true
-  unfolding lost
-  stepped l n used steps e =
-      elim (bool-cases (stepOf f s h k (suc l) n used .ok)) [
-        | inl a ↦ a
-        | inr a ↦ absurd (false≢true (ap (λ d. d .ok) (step-lost l n used steps _ refl a) ∙ e))
-      ]
-
-  abbrev Ends : Descent → Type 0
-  Ends d = d .ok ≡ true → nodeRule h s (nodeStart h (getD (d .steps) 0 noStep .node)) 1 ≡ true
-
-  ends : (level n used : ℕ) (steps : List Step) → 1 ≤ level → level ≤ length steps → Ends (descend f s h k level n used steps)
-  unfolding descend stepTaken
-  ends zero n used steps low room ok = absurd (omega arith)
-  ends (suc zero) n used steps low room ok =
-      let a = stepped zero n used steps ok in
-      rw (← step-on zero n used steps _ refl a, getD-set-same steps 0 _ noStep room) (visited-rule f s h k 1 n used a)
-  ends (suc (suc l)) n used steps low room ok =
-      let a = stepped (suc l) n used steps ok in
-      let d = step-on (suc l) n used steps _ refl a in
-      let more = stepTaken steps (suc l) n used (stepOf f s h k (suc (suc l)) n used) in
-      rw (← d) (ends (suc l) _ _ more (omega arith) (rw length-set (omega arith)) (rw (← d) at ok))
-
-  -- the node of step 0 is a sound one of level 1
-  pub terminal-depth : 1 ≤ h .levels → h .levels ≤ 32 → Ends (descent f s h k)
-  unfolding descent noSteps
-  terminal-depth low high = ends (h .levels) (h .root) 0 noSteps low (rw length-replicate high)

@@ -1,5 +1,6 @@
 -- Find, test by test, and what it gives: a lawful record.
 --   Led f s h k d pg == the way d of a key led to a page, which the code has as pg
+--   kept t it        == the record it where the test t holds, else none
 --   Given f a        == the answer a gives no record or a lawful one
 use mathlib.Core.Path.{_≡_, ap, _∙_, subst}
 use mathlib.Core.Bool.{Bool, true, false, _&&_}

@@ -8,16 +8,12 @@ use borrow.Author.Tests.{lt-ltb, le-ltb, eq-eqb, ne-eqb}
 use Rattle.store.specs.declared.Format.{Format}
 use Rattle.store.specs.declared.Head.{Head}
 use Rattle.store.specs.declared.Item.{Item}
-use Rattle.store.specs.Head.{nodeStart}
-use Rattle.node.specs.Node.{depthWord}
-use Rattle.node.proofs.NodeLaws.{node-facts}
 use Rattle.page.specs.Page.{count, itemAt, firstAbove}
 use Rattle.search.specs.declared.Descent.{Descent}
 use Rattle.search.specs.declared.Sought.the-variants.{Record, Damaged}
 use Rattle.search.specs.Descent.{noStep, descent}
 use Rattle.search.specs.Find.{soundPage}
 use Rattle.search.specs.Next.{afterOwn, fromDescent, nextOf}
-use Rattle.search.proofs.DescentLaws.{terminal-depth}
 use Rattle.search.proofs.FindLaws.{Led}
 
 module _ (f : Format) (s : List ℕ) (h : Head) (strict : Bool) (k : ℕ) (d : Descent) (is : d ≡ descent f s h k) where
@@ -54,8 +50,3 @@ module _ {f : Format} {s : List ℕ} {h : Head} {k : ℕ} {d : Descent} {pg : Li
     from-after l =
         let b = le-ltb _ _ (rw (ei, en, w .page) at l) in
         sym (sym (whole f s h strict k d (w .way)) ∙ rw (w .ok, ne-eqb (d .page) 0 (w .some), rw (w .page) at p, b, fromDescent))
-
--- the terminal node is no deeper than θ
-pub terminal : (f : Format) (s : List ℕ) (h : Head) (k : ℕ) (d : Descent) → d ≡ descent f s h k → d .ok ≡ true
-    → 1 ≤ h .levels → h .levels ≤ 32 → depthWord s (nodeStart h (getD (d .steps) 0 noStep .node)) ≤ h .theta
-terminal f s h k d is o low high = rw is (node-facts h s _ 1 (terminal-depth f s h k low high (rw is at o)) .depth)

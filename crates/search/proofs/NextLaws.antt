@@ -1,6 +1,7 @@
 -- The way on from a key's own page, test by test, and what it gives: a lawful record with a key above the given one.
 --   Walked s b H start i == the walk over the entries of a node from entry start on stands at entry i
 --   Ruled s h x          == the hop x leads to a node that keeps the node rule, if to any
+--   Some s h a           == what was reached, a, is no null page
 --   Given a              == the answer a gives no record or a lawful one with a key above k
 use mathlib.Core.Path.{_≡_, refl, sym, ap, _∙_, subst}
 use mathlib.Core.Bool.{Bool, true, false, _&&_}

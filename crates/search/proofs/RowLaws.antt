@@ -1,4 +1,4 @@
--- Spanes as the code has them: its tests, one by one, and what a sound answer says of the blocks behind it.
+-- Spans as the code has them: its tests, one by one, and what a sound answer says of the blocks behind it.
 --   Low r == the span r begins within the capacity
 use mathlib.Core.Path.{_≡_, refl, sym, ap, ap₂, _∙_, subst}
 use mathlib.Core.Bool.{Bool, true, false, _&&_, not, false≢true}

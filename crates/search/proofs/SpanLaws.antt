@@ -150,7 +150,7 @@ module _ (f : Format) (s : List ℕ) (h : Head) (strict : Bool) (k : ℕ) where
     next-own o =
         let e = terminal-ended f s h k low high o in
         let d = descent f s h k in
-        let ok : d .ok ≡ true = terminal-ok f s h k low high ∙ o in
+        let ok : d .ok ≡ true = terminal-ok f s h k low ∙ o in
         elim (decLt 0 (own .pointer)) [
           | no q ↦
               let z : own .pointer ≡ 0 = omega arith in
@@ -182,7 +182,7 @@ module _ (f : Format) (s : List ℕ) (h : Head) (strict : Bool) (k : ℕ) where
         by-cases (terminal f s h k .ok)
         (λ o. next-own o ∙ ap (soughtOf f s h) (sym (at-terminal end o)))
         (λ o.
-        sym (from-lost f s h strict k (descent f s h k) refl (terminal-ok f s h k low high ∙ o)) ∙ sym (sought-damaged f s h)
+        sym (from-lost f s h strict k (descent f s h k) refl (terminal-ok f s h k low ∙ o)) ∙ sym (sought-damaged f s h)
         ∙ ap (soughtOf f s h) (sym (at-lost end o)))
 
 -- a span with records: next goes from each to the one after it
@@ -296,10 +296,7 @@ module _ (f : Format) (s : List ℕ) (h : Head) (strict : Bool) (k : ℕ) where
   none-whole b q = absurd (q refl)
 
   pub span-whole : Whole (spanOf f s h strict k)
-  span-whole q =
-      by-cases (terminal f s h k .ok)
-      (λ t. span-kind f s h strict k Whole none-whole (λ p r o z. (refl, t)) (λ o z p l y. (refl, o)) q)
-      (λ t. subst Whole (sym (at-lost f s h strict k (terminal f s h k) t)) (none-whole false) q)
+  span-whole = span-kind f s h strict k Whole none-whole (λ p r o z. (refl, o)) (λ o z p l y. (refl, o))
 
   -- a span that met no damage has a sound terminal node
   pub terminal-whole : spanOf f s h strict k .ok ≡ true → terminal f s h k .ok ≡ true

@@ -26,7 +26,7 @@ use Rattle.search.specs.declared.Descent.{Descent}
 use Rattle.search.specs.declared.Terminal.{Terminal}
 use Rattle.search.specs.Descent.{noStep, noSteps, damagedNode, entryVisit, stepOf, lost, stepTaken, descend, descent}
 use Rattle.search.specs.Descent.{soundNode, lostTerminal, terminalFrom, terminal, ownVisit}
-use Rattle.search.specs.Next.{runAfter}
+use Rattle.search.proofs.DescentLaws.{sound-facts, step-damaged, step-entry, way-step, way-end, step-lost, step-on}
 
 -- keys that agree in more bits agree in fewer
 pub fewer : (W a b k k′ : ℕ) → a ≤ b → k′ / 2 ^ (W - b) ≡ k / 2 ^ (W - b) → k′ / 2 ^ (W - a) ≡ k / 2 ^ (W - a)
@@ -59,12 +59,6 @@ run-shared W k k′ u H d fits l e =
     )
 
 module _ (f : Format) (s : List ℕ) (h : Head) where
-  pub sound-facts : (level n used : ℕ) → soundNode f s h level n used ≡ true
-      → (nodeRule h s (nodeStart h n) level ≡ true) × (used + depthWord s (nodeStart h n) ≤ width f)
-  sound-facts level n used e =
-      let a = and-true (nodeRule h s (nodeStart h n) level) (leb (used + depthWord s (nodeStart h n)) (width f)) e in
-      (a .0, leb-true _ _ (a .1))
-
   -- at a sound node: its block, its depth, and the entries of two keys
   module _ (k k′ level n u : ℕ) (e : soundNode f s h level n u ≡ true) where
     abbrev at : ℕ
@@ -80,58 +74,40 @@ module _ (f : Format) (s : List ℕ) (h : Head) where
     other = entryNumber (width f) k′ u deep
 
     run : RunAt deep (entryOf s at) one
-    run = good-facts _ _ _ _ (node-facts h s at level (sound-facts level n u e .0) .runs) .rule one (entry-below (width f) k u deep)
+    run = good-facts _ _ _ _ (node-facts h s at level (sound-facts f s h level n u e .0) .runs) .rule one (entry-below (width f) k u deep)
 
     module _ (a : k′ / 2 ^ (width f - (u + entryDepth s at one)) ≡ k / 2 ^ (width f - (u + entryDepth s at one))) where
       abbrev long : ℕ
       long = 2 ^ (deep - entryDepth s at one)
 
       start-same : other - other % long ≡ one - one % long
-      start-same = run-shared (width f) k k′ u deep (entryDepth s at one) (sound-facts level n u e .1) (run .0) a
+      start-same = run-shared (width f) k k′ u deep (entryDepth s at one) (sound-facts f s h level n u e .1) (run .0) a
 
       entry-same : entryOf s at other ≡ entryOf s at one
       entry-same =
           let there : one - one % long + other % long ≡ other = omega (arith, start-same, mod-le other long) in
           ap (entryOf s at) (sym there) ∙ run .1 (other % long) (mod-lt other (pow-pos (deep - entryDepth s at one)))
 
-      after-same : runAfter deep (entryDepth s at other) other ≡ runAfter deep (entryDepth s at one) one
-      unfolding runAfter
-      after-same = ap (λ d. runAfter deep d other) (ap (λ x. x .0) entry-same) ∙ ap (λ x. x + long) start-same
-
-    -- keys that agree in the bits used after the node have the same depth and pointer there, and the same run
+    -- keys that agree in the bits used after the node have the same depth and pointer there
     pub node-same : k′ / 2 ^ (width f - (u + ownVisit f s h k n u .depth)) ≡ k / 2 ^ (width f - (u + ownVisit f s h k n u .depth))
         → (ownVisit f s h k′ n u .depth ≡ ownVisit f s h k n u .depth)
         × (ownVisit f s h k′ n u .pointer ≡ ownVisit f s h k n u .pointer)
-        × (runAfter deep (ownVisit f s h k′ n u .depth) (ownVisit f s h k′ n u .entry)
-        ≡ runAfter deep (ownVisit f s h k n u .depth) (ownVisit f s h k n u .entry))
     unfolding ownVisit entryVisit
-    node-same a = let p = entry-same a in (ap (λ x. x .0) p, ap (λ x. x .1) p, after-same a)
+    node-same a = let p = entry-same a in (ap (λ x. x .0) p, ap (λ x. x .1) p)
 
   module _ (k : ℕ) where
     -- one turn of the descent, and of the way to the terminal node
     module _ (l n used : ℕ) (e : soundNode f s h (suc l) n used ≡ true) where
-      visit-own : stepOf f s h k (suc l) n used ≡ ownVisit f s h k n used
-      unfolding stepOf ownVisit
-      visit-own = rw (e, stepOf)
-
-      visit-ok : stepOf f s h k (suc l) n used .ok ≡ true
-      unfolding ownVisit entryVisit
-      visit-ok = ap (λ v. v .ok) visit-own
-
       descend-on : (steps : List Step) → descend f s h k (suc l) n used steps
           ≡ descend f s h k l (ownVisit f s h k n used .pointer) (used + ownVisit f s h k n used .depth)
           (stepTaken steps l n used (ownVisit f s h k n used))
-      unfolding descend
-      descend-on steps = rw (visit-ok, visit-own, descend)
+      unfolding ownVisit entryVisit
+      descend-on steps = sym (step-on f s h k l n used steps _ (step-entry f s h k (suc l) n used e) refl)
 
     module _ (l n used : ℕ) (e : soundNode f s h (suc l) n used ≡ false) where
-      visit-not : stepOf f s h k (suc l) n used .ok ≡ false
-      unfolding stepOf damagedNode
-      visit-not = rw (e, stepOf)
-
       descend-lost : (steps : List Step) → descend f s h k (suc l) n used steps ≡ lost
-      unfolding descend
-      descend-lost steps = rw (visit-not, descend)
+      unfolding damagedNode
+      descend-lost steps = sym (step-lost f s h k l n used steps _ (step-damaged f s h k (suc l) n used e) refl)
 
     pub terminal-here : (n used : ℕ) → soundNode f s h 1 n used ≡ true → terminalFrom f s h k 0 n used ≡ record { ok = true; node = n; used = used }
     unfolding terminalFrom
@@ -139,13 +115,13 @@ module _ (f : Format) (s : List ℕ) (h : Head) where
 
     pub terminal-on : (l n used : ℕ) → soundNode f s h (suc (suc l)) n used ≡ true → terminalFrom f s h k (suc l) n used
         ≡ terminalFrom f s h k l (ownVisit f s h k n used .pointer) (used + ownVisit f s h k n used .depth)
-    unfolding terminalFrom
-    terminal-on l n used e = rw (visit-ok (suc l) n used e, visit-own (suc l) n used e, terminalFrom)
+    unfolding ownVisit entryVisit
+    terminal-on l n used e = sym (way-step f s h k l n used _ (step-entry f s h k (suc (suc l)) n used e) refl)
 
     terminal-lost : (l n used : ℕ) → soundNode f s h (suc l) n used ≡ false → terminalFrom f s h k l n used ≡ lostTerminal
-    unfolding terminalFrom
+    unfolding terminalFrom damagedNode
     terminal-lost zero n used e = rw (e, terminalFrom)
-    terminal-lost (suc l) n used e = rw (visit-not (suc l) n used e, terminalFrom)
+    terminal-lost (suc l) n used e = sym (way-end f s h k l n used _ (step-damaged f s h k (suc (suc l)) n used e) refl)
 
     -- a way with an end starts at a sound node
     pub starts : (l n used : ℕ) → terminalFrom f s h k l n used .ok ≡ true → soundNode f s h (suc l) n used ≡ true
@@ -206,9 +182,9 @@ module _ (f : Format) (s : List ℕ) (h : Head) where
       down = omega arith
 
       -- the descent is lost exactly where the terminal node is
-      pub terminal-ok : h .levels ≤ 32 → descent f s h k .ok ≡ terminal f s h k .ok
+      pub terminal-ok : descent f s h k .ok ≡ terminal f s h k .ok
       unfolding descent terminal
-      terminal-ok high =
+      terminal-ok =
           ap (λ l. descend f s h k l (h .root) 0 noSteps .ok) (sym down) ∙ same-ok (h .levels - 1) (h .root) 0 noSteps
 
       -- the descent ends in the terminal node
@@ -226,7 +202,7 @@ module _ (f : Format) (s : List ℕ) (h : Head) where
 
     pub terminal-used : terminal f s h k .ok ≡ true
         → terminal f s h k .used + depthWord s (nodeStart h (terminal f s h k .node)) ≤ width f
-    terminal-used o = sound-facts 1 (terminal f s h k .node) (terminal f s h k .used) (terminal-sound o) .1
+    terminal-used o = sound-facts f s h 1 (terminal f s h k .node) (terminal f s h k .used) (terminal-sound o) .1
 
     -- no bit is given back
     used-grows : (l n used : ℕ) → terminalFrom f s h k l n used .ok ≡ true → used ≤ terminalFrom f s h k l n used .used
@@ -257,12 +233,3 @@ module _ (f : Format) (s : List ℕ) (h : Head) where
       → terminal f s h k′ ≡ terminal f s h k
   unfolding terminal
   terminal-same k k′ o a = same-from k k′ (h .levels - 1) (h .root) 0 o a
-
-  -- keys that agree in the bits used after a terminal node have the same page there, and the same run
-  pub own-same : (k k′ n u : ℕ) → soundNode f s h 1 n u ≡ true
-      → k′ / 2 ^ (width f - (u + ownVisit f s h k n u .depth)) ≡ k / 2 ^ (width f - (u + ownVisit f s h k n u .depth))
-      → (ownVisit f s h k′ n u .depth ≡ ownVisit f s h k n u .depth)
-      × (ownVisit f s h k′ n u .pointer ≡ ownVisit f s h k n u .pointer)
-      × (runAfter (depthWord s (nodeStart h n)) (ownVisit f s h k′ n u .depth) (ownVisit f s h k′ n u .entry)
-      ≡ runAfter (depthWord s (nodeStart h n)) (ownVisit f s h k n u .depth) (ownVisit f s h k n u .entry))
-  own-same k k′ n u e a = node-same k k′ 1 n u e a

@@ -13,8 +13,8 @@ use Rattle.search.specs.declared.Visit.{Visit}
 use Rattle.search.specs.declared.Terminal.{Terminal}
 use Rattle.search.specs.Descent.{descent, soundNode, terminalFrom, terminal, ownVisit, TerminalNode}
 use Rattle.search.proofs.BlockLaws.{under-levels, root-in-use}
-use Rattle.search.proofs.DescentLaws.{node-deep, node-bits, own-bits, own-in-use}
-use Rattle.search.proofs.TerminalLaws.{starts, terminal-here, terminal-on, sound-facts, terminal-sound, terminal-ok, terminal-ended}
+use Rattle.search.proofs.DescentLaws.{sound-facts, node-deep, node-bits, own-bits, own-in-use}
+use Rattle.search.proofs.TerminalLaws.{starts, terminal-here, terminal-on, terminal-sound, terminal-ok, terminal-ended}
 
 module _ (f : Format) (s : List ℕ) (h : Head) (k : ℕ) where
   in-use-from : (l n used : ℕ) → InUse h n → terminalFrom f s h k l n used .ok ≡ true → InUse h (terminalFrom f s h k l n used .node)
@@ -67,7 +67,7 @@ landed {f} {s} {h} u k e o p =
     let d = terminal-ended f s h k (l .0) (l .1) ok in
     rw (p, e)
     record {
-      ok = terminal-ok f s h k (l .0) (l .1) ∙ ok;
+      ok = terminal-ok f s h k (l .0) ∙ ok;
       page = d .page;
       used = d .used;
       bits = at-bits f s h k u refl ok k refl;

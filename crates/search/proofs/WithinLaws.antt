@@ -14,7 +14,7 @@ use Rattle.store.specs.declared.Head.{Head}
 use Rattle.store.specs.Format.{width}
 use Rattle.store.specs.Head.{pageAt}
 use Rattle.page.specs.Page.{count, itemAt, keyAt, pageRule, agrees, above, firstAbove}
-use Rattle.page.proofs.Laws.{rule-facts, agrees-facts, facts-agrees, first-is}
+use Rattle.page.proofs.Laws.{rises, rule-facts, agrees-facts, facts-agrees, first-is}
 use Rattle.search.specs.declared.Visit.{Visit}
 use Rattle.search.specs.declared.Terminal.{Terminal}
 use Rattle.search.specs.declared.Sought.the-variants.{Record}
@@ -23,25 +23,21 @@ use Rattle.search.specs.Find.{soundPage}
 use Rattle.search.specs.Next.{nextOf}
 use Rattle.search.proofs.FindLaws.{Led}
 use Rattle.search.proofs.FromLaws.{from-found}
-use Rattle.search.proofs.TerminalLaws.{fewer, Ended, terminal-ok, terminal-ended, terminal-sound, terminal-same, own-same}
+use Rattle.search.proofs.TerminalLaws.{fewer, Ended, terminal-ok, terminal-ended, terminal-sound, terminal-same, node-same}
 
 -- above the key of a record stands the record after it
 pub first-after : (f : Format) (C : ℕ) (pg : List ℕ) (i : ℕ) → pageRule f C pg ≡ true → i < count pg
     → firstAbove f pg true (keyAt f pg i) ≡ i + 1
 unfolding above
 first-after f C pg i e l =
-    let rises = rule-facts f C pg e .order .ascends in
+    let o = rule-facts f C pg e .order in
     sym
     (first-is f pg true (keyAt f pg i) (i + 1)
     record {
       within = omega arith;
       before = λ j q.
-          le-ltb (keyAt f pg i) (keyAt f pg j)
-          (elim (decLt j i) [
-            | yes m ↦ omega (arith, rises j i m l)
-            | no m ↦ let d : j ≡ i = omega arith in omega (arith, ap (keyAt f pg) d)
-          ]);
-      found = λ q. lt-ltb (keyAt f pg i) (keyAt f pg (i + 1)) (rises i (i + 1) (omega arith) q);
+          le-ltb (keyAt f pg i) (keyAt f pg j) (rises f pg (count pg) o j i (omega arith) l);
+      found = λ q. lt-ltb (keyAt f pg i) (keyAt f pg (i + 1)) (o .ascends i (i + 1) (omega arith) q);
     })
 
 module _ (f : Format) (s : List ℕ) (h : Head) where
@@ -60,16 +56,16 @@ module _ (f : Format) (s : List ℕ) (h : Head) where
       same-ended = rw same-end at (terminal-ended f s h k′ low high (ap (λ t. t .ok) same-end ∙ o))
 
       same-page : descent f s h k′ .page ≡ own .pointer
-      same-page = same-ended .page ∙ own-same f s h k k′ _ _ (terminal-sound f s h k o) a .1
+      same-page = same-ended .page ∙ node-same f s h k k′ 1 _ _ (terminal-sound f s h k o) a .1
 
       same-used : descent f s h k′ .used ≡ end .used + own .depth
-      same-used = same-ended .used ∙ ap (λ d. end .used + d) (own-same f s h k k′ _ _ (terminal-sound f s h k o) a .0)
+      same-used = same-ended .used ∙ ap (λ d. end .used + d) (node-same f s h k k′ 1 _ _ (terminal-sound f s h k o) a .0)
 
       same-led : (own .pointer ≡ 0 → ⊥) → Led f s h k′ (descent f s h k′) (pageAt f s h (own .pointer))
       same-led some =
           record {
             way = refl;
-            ok = terminal-ok f s h k′ low high ∙ ap (λ t. t .ok) same-end ∙ o;
+            ok = terminal-ok f s h k′ low ∙ ap (λ t. t .ok) same-end ∙ o;
             some = λ z. some (sym same-page ∙ z);
             page = ap (pageAt f s h) (sym same-page);
           }

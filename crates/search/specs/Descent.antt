@@ -10,7 +10,8 @@
 --   TerminalNode h s n           == n is a terminal (level-1) node in use that keeps the node rule
 --   terminalFrom f s h k l n used == the terminal node of the key k, from node n on, which is l levels above it
 --   terminal f s h k             == the same from the root: the path without its steps
---   ownVisit f s h k n used      == the key's entry in its terminal node n
+--   lostTerminal                 == a way to the terminal node that met damage
+--   ownVisit f s h k n used      == the key's entry in node n, reached after the used bits
 -- A step is the node, the key's entry number in it, that entry's local depth, and the bits used before the node; the step of level l
 -- stands at l − 1 of the 32 steps.
 use mathlib.Core.Path.{_≡_}

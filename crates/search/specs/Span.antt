@@ -2,6 +2,7 @@
 --   noSpan ok          == no record; ok: no damage was met
 --   reachedEnd f s h k n u p == where the records of page p end that follow one another, p being reached from the terminal node n of the key k
 --   reachedSpan f s h strict k n u a == the records of the page that was reached after the sought key's own
+--   ownSpan f s h strict k n u v == the records that follow the key k, whose entry in its terminal node n is v
 --   spanAt f s h strict k t == the records that follow the key k, whose terminal node is t
 --   spanOf f s h strict k == the same from the root
 --   soughtOf f s h r      == the first record of a span

@@ -344,7 +344,7 @@ pub fn less(x: u32, y: u32) -> u32
     x - y
 }
 
-// The first pointer of a node that is not null, from entry i on; 0 if there is none.
+// The first pointer of a node that is not null, from entry `start` on; 0 if there is none.
 fn first_pointer(node: &[u32], depth: u32, start: usize) -> u32
     requires { ⌜ (depth ≤ 6) × (4 + 2 * 2 ^ depth ≤ length (now node)) × (start < 2 ^ 40) ⌝ }
     ensures { λ r. ⌜ r ≡ firstPointer (now (node .entry)) 0 depth 64 start ⌝ }
@@ -539,8 +539,8 @@ fn reached_span(
     }
 }
 
-// Where the records above a key begin in its own page, which leads to it after the used bits; damage, if the page is not sound. The key may
-// be known to stand in page `known`, which keeps the page rule, before its record number `after`.
+// Where the records above a key begin in its own page, which leads to it after the used bits; damage, if the page is not sound. With
+// `at_key` the key is that of the record before number `after` in this page, which keeps the page rule.
 fn own_place(
     page: &[u32],
     f: Format,

@@ -26,7 +26,7 @@ returns c =
     let t = c .before .before in
     let u = t .before .before .pre in
     let l = under-levels u in
-    find-lost _ _ _ _ _ refl (terminal-ok _ _ _ _ (l .0) (l .1) ∙ sym (ap (λ x. x .ok) (t .terminal-of .ensures)) ∙ not-true _ (c .if1 .taken))
+    find-lost _ _ _ _ _ refl (terminal-ok _ _ _ _ (l .0) ∙ sym (ap (λ x. x .ok) (t .terminal-of .ensures)) ∙ not-true _ (c .if1 .taken))
 
 own-entry-requires : tie.Need-own-entry-requires
 own-entry-requires c κs =
