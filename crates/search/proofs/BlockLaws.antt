@@ -1,6 +1,6 @@
 -- A node block that is lent as a part of the store, nd: what the code reads in it is what the definitions read in the store.
 use mathlib.Core.Path.{_≡_, sym, ap, _∙_}
-use mathlib.Core.Bool.{true, false, _&&_}
+use mathlib.Core.Bool.{Bool, true, false, _&&_}
 use mathlib.Core.List.{List}
 use Prim.Native.Nat.{ℕ, _+_, _*_, _^_, _≤_, _<_}
 use native.Mathlib.Nat.{lt-of-lt-of-le}
@@ -8,17 +8,15 @@ use native.Mathlib.Omega.{arith}
 use lib.Dec.{leb}
 use lib.ListN.{length, getD}
 use lib.Pow.{pow-mono}
-use Rattle.lists.proofs.Tests.{untrue, and-true}
 use Rattle.store.specs.declared.Format.{Format}
 use Rattle.store.specs.declared.Head.{Head}
 use Rattle.store.specs.Format.{width}
 use Rattle.store.specs.Head.{nodeWords, nodeStart, nodeAt, InUse, Under}
 use Rattle.store.proofs.HeadLaws.{levels-within}
 use Rattle.store.proofs.Places.{under-limits, under-counts, node-length}
-use Rattle.node.specs.Node.{depthWord, entryDepth, entryPointer, nodeRule, entryNumber}
+use Rattle.node.specs.Node.{depthWord, nodeRule, entryNumber}
 use Rattle.node.proofs.EntryNumber.{entry-below}
 use Rattle.node.proofs.InPlace.{rule-in-place, depth-in-place, entry-in-place}
-use Rattle.search.specs.declared.Visit.{Visit}
 use Rattle.search.specs.Descent.{entryVisit, soundNode, ownVisit}
 
 -- the limits that a test of a node asks
@@ -28,6 +26,10 @@ under-node u =
     let l = under-limits u in
     let c = under-counts u in
     (l .theta, omega (arith, l .nodes, c .taken), omega (arith, l .pages, c .filled))
+
+-- the limits that a page asks
+pub under-page : {f : Format} {s : List ℕ} {h : Head} → Under f s h → (h .theta ≤ 6) × (h .capacity ≤ 64)
+under-page u = let l = under-limits u in (l .theta, l .capacity)
 
 -- at most 32 levels
 pub under-levels : {f : Format} {s : List ℕ} {h : Head} → Under f s h → (1 ≤ h .levels) × (h .levels ≤ 32)
@@ -53,11 +55,13 @@ module _ {f : Format} {s : List ℕ} {h : Head} (u : Under f s h) {n : ℕ} (i :
   pub block-depth : getD nd 0 0 ≡ depthWord s (nodeStart h n)
   block-depth = ap (λ ws. getD ws 0 0) e ∙ depth-in-place u i
 
-  module _ (level used : ℕ) where
-    -- a sound node keeps the rule in its block
-    pub sound-block : soundNode f s h level n used ≡ true → nodeRule h nd 0 level ≡ true
-    sound-block t = block-rule level ∙ and-true (nodeRule h s (nodeStart h n) level) _ t .0
+  -- what is asked of a block whose rule is to be tested
+  pub block-tested : (level : ℕ) (b : Bool) → (b ≡ false → nodeRule h s (nodeStart h n) level ≡ true)
+      → (h .theta ≤ 6) × (h .nodesTaken ≤ 4096) × (h .pagesTaken ≤ 4096) × (length nd ≡ nodeWords (h .theta))
+      × (b ≡ false → nodeRule h nd 0 level ≡ true)
+  block-tested level b t = let l = under-node u in (l .0, l .1, l .2, block-long, λ p. block-rule level ∙ t p)
 
+  module _ (level used : ℕ) where
     pub block-broken : nodeRule h nd 0 level ≡ false → false ≡ soundNode f s h level n used
     block-broken t = sym (ap (λ b. b && leb (used + depthWord s (nodeStart h n)) (width f)) (sym (block-rule level) ∙ t))
 

@@ -1,13 +1,11 @@
 -- A descent, visit by visit: what a visited node gives, one turn of the way down, and what a whole way has at its end.
-use mathlib.Core.Path.{_≡_, refl, sym, ap, _∙_}
-use mathlib.Core.Bool.{Bool, true, false, _&&_, false≢true}
+use mathlib.Core.Path.{_≡_, sym, ap, _∙_}
+use mathlib.Core.Bool.{true, false, false≢true}
 use mathlib.Core.List.{List}
 use mathlib.Core.Logic.{inl, inr}
-use Prim.Native.Nat.{ℕ, zero, suc, _+_, _-_, _^_, _≤_, _<_}
+use Prim.Native.Nat.{ℕ, suc, _+_, _-_, _≤_, _<_}
 use native.Mathlib.Omega.{arith}
 use lib.Dec.{leb}
-use lib.ListN.{length, getD, length-set, length-replicate}
-use lib.Seq.{getD-set-same}
 use borrow.Author.Tests.{leb-true, le-leb, ne-eqb}
 use Rattle.lists.proofs.Cases.{bool-cases, by-cases}
 use Rattle.lists.proofs.Tests.{and-true}
@@ -23,7 +21,7 @@ use Rattle.search.specs.declared.Step.{Step}
 use Rattle.search.specs.declared.Visit.{Visit}
 use Rattle.search.specs.declared.Descent.{Descent}
 use Rattle.search.specs.declared.Terminal.{Terminal}
-use Rattle.search.specs.Descent.{noStep, noSteps, damagedNode, entryVisit, soundNode, stepOf, lost, stepTaken, descend, descent}
+use Rattle.search.specs.Descent.{damagedNode, entryVisit, soundNode, stepOf, lost, stepTaken, descend}
 use Rattle.search.specs.Descent.{lostTerminal, terminalFrom, ownVisit}
 
 -- a sound node keeps the node rule, and the key has its bits

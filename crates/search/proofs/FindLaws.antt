@@ -5,8 +5,7 @@
 use mathlib.Core.Path.{_≡_, ap, _∙_, subst}
 use mathlib.Core.Bool.{Bool, true, false, _&&_}
 use mathlib.Core.List.{List}
-use Prim.Native.Nat.{ℕ, _≤_, _<_}
-use native.Mathlib.Omega.{arith}
+use Prim.Native.Nat.{ℕ, _<_}
 use lib.Dec.{ltb, eqb}
 use borrow.Author.Tests.{eq-eqb, ne-eqb, ltb-true}
 use Rattle.lists.proofs.Cases.{by-cases}
@@ -14,7 +13,7 @@ use Rattle.lists.proofs.Tests.{and-true}
 use Rattle.store.specs.declared.Format.{Format}
 use Rattle.store.specs.declared.Head.{Head}
 use Rattle.store.specs.declared.Item.{Item}
-use Rattle.store.specs.Head.{headOf, headRule, pageAt}
+use Rattle.store.specs.Head.{headRule, pageAt}
 use Rattle.page.specs.Page.{count, itemAt, keyAt, lawfulItem, pageRule, agrees, firstAbove}
 use Rattle.page.proofs.Laws.{rule-facts}
 use Rattle.search.specs.declared.Descent.{Descent}
@@ -34,9 +33,7 @@ sound-rule f h pg k used e = and-true (pageRule f (h .capacity) pg) (agrees f pg
 
 pub sound-lawful : (f : Format) (h : Head) (pg : List ℕ) (k used i : ℕ) → soundPage f h pg k used ≡ true → i < count pg
     → lawfulItem f (itemAt f pg i) ≡ true
-unfolding soundPage
-sound-lawful f h pg k used i e l =
-    rule-facts f (h .capacity) pg (and-true (pageRule f (h .capacity) pg) (agrees f pg k used) e .0) .order .lawful i l
+sound-lawful f h pg k used i e l = rule-facts f (h .capacity) pg (sound-rule f h pg k used e) .order .lawful i l
 
 -- the record, where a test holds
 abbrev pub kept : Bool → Item → Sought

@@ -1,10 +1,10 @@
 -- The way on from a key's own page, test by test, and what it gives: a lawful record with a key above the given one.
 --   Walked s b H start i == the walk over the entries of a node from entry start on stands at entry i
---   Ruled s h x          == the hop x leads to a node that keeps the node rule, if to any
+--   Leads s h x          == the hop x leads to a terminal node, if to any
 --   Some s h a           == what was reached, a, is no null page
 --   Given a              == the answer a gives no record or a lawful one with a key above k
 use mathlib.Core.Path.{_≡_, refl, sym, ap, _∙_, subst}
-use mathlib.Core.Bool.{Bool, true, false, _&&_}
+use mathlib.Core.Bool.{Bool, true, false}
 use mathlib.Core.List.{List}
 use Prim.Native.Nat.{ℕ, zero, suc, _+_, _-_, _%_, _^_, _≤_, _<_}
 use native.Mathlib.Omega.{arith}
@@ -18,7 +18,7 @@ use Rattle.store.specs.declared.Format.{Format}
 use Rattle.store.specs.declared.Head.{Head}
 use Rattle.store.specs.declared.Item.{Item}
 use Rattle.store.specs.Head.{nodeStart, pageAt, InUse}
-use Rattle.node.specs.Node.{depthWord, backWord, forwardWord, entryDepth, entryPointer, linkRule, nodeRule}
+use Rattle.node.specs.Node.{backWord, forwardWord, entryDepth, entryPointer, linkRule, nodeRule}
 use Rattle.node.proofs.NodeLaws.{node-facts}
 use Rattle.page.specs.Page.{count, itemAt, keyAt, lawfulItem, pageRule, above, firstAbove}
 use Rattle.page.proofs.Laws.{rule-facts, all-above, first-facts}
@@ -30,9 +30,9 @@ use Rattle.search.specs.declared.Reached.{Reached}
 use Rattle.search.specs.declared.Reached.the-variants.{Page, Past, Broken}
 use Rattle.search.specs.declared.Hop.{Hop}
 use Rattle.search.specs.declared.Hop.the-variants.{Ends, On}
-use Rattle.search.specs.Descent.{descent}
+use Rattle.search.specs.Descent.{TerminalNode, descent}
 use Rattle.search.specs.Find.{soundPage}
-use Rattle.search.specs.Next.{firstPointer, runAfter, visitAfter, linked, onward, pointerFrom, hop, reach, visited, behind}
+use Rattle.search.specs.Next.{firstPointer, runAfter, visitAfter, linked, onward, pointerFrom, hop, reach, visited}
 use Rattle.search.specs.Next.{afterOwn, fromDescent, nextOf}
 use Rattle.search.proofs.FindLaws.{sound-lawful}
 
@@ -161,7 +161,7 @@ module _ (P : Hop → Type 0) (h : Head) (s : List ℕ) (n left : ℕ) where
   onward-rule :
       P (Ends Past) →
       P (Ends Broken) →
-      (linked h s (forwardWord s (nodeStart h n)) n ≡ true → P (On (forwardWord s (nodeStart h n)))) →
+      ((forwardWord s (nodeStart h n) ≡ 0 → ⊥) → linked h s (forwardWord s (nodeStart h n)) n ≡ true → P (On (forwardWord s (nodeStart h n)))) →
       P (onward h s n left)
   unfolding onward
   onward-rule none damaged goes =
@@ -172,7 +172,7 @@ module _ (P : Hop → Type 0) (h : Head) (s : List ℕ) (n left : ℕ) where
       (λ l. rw (z, l, onward) damaged)
       (λ l.
       by-cases (linked h s (forwardWord s (nodeStart h n)) n)
-      (λ t. rw (z, l, t, onward) (goes t))
+      (λ t. rw (z, l, t, onward) (goes (eqb-false _ _ z) t))
       (λ t. rw (z, l, t, onward) damaged)))
 
   hop-rule : (i : ℕ) → ((p : ℕ) → (p ≡ 0 → ⊥) → P (Ends (Page p))) → P (onward h s n left) → P (hop s h n i left)
@@ -183,18 +183,21 @@ module _ (P : Hop → Type 0) (h : Head) (s : List ℕ) (n left : ℕ) where
       (λ z. rw (z, hop) (ends _ (eqb-false _ _ z)))
 
 -- a node that a link leads to keeps the node rule
-linked-rule : (h : Head) (s : List ℕ) (m n : ℕ) → linked h s m n ≡ true → nodeRule h s (nodeStart h m) 1 ≡ true
+pub linked-rule : (h : Head) (s : List ℕ) (m n : ℕ) → linked h s m n ≡ true → nodeRule h s (nodeStart h m) 1 ≡ true
 unfolding linked
 linked-rule h s m n t = and-true _ _ t .0
 
-abbrev Ruled : List ℕ → Head → Hop → Type 0
-Ruled s h (Ends a) = Unit {0}
-Ruled s h (On m) = nodeRule h s (nodeStart h m) 1 ≡ true
+abbrev Leads : List ℕ → Head → Hop → Type 0
+Leads s h (Ends a) = Unit {0}
+Leads s h (On m) = TerminalNode h s m
 
 module _ (s : List ℕ) (h : Head) where
-  pub hop-on : (n i left m : ℕ) → hop s h n i left ≡ On m → nodeRule h s (nodeStart h m) 1 ≡ true
-  hop-on n i left m e =
-      subst (Ruled s h) e (hop-rule (Ruled s h) h s n left i (λ p q. tt) (onward-rule (Ruled s h) h s n left tt tt (linked-rule h s _ n)))
+  -- a hop from a terminal node leads to one
+  hop-on : (n i left m : ℕ) → TerminalNode h s n → hop s h n i left ≡ On m → TerminalNode h s m
+  hop-on n i left m t e =
+      subst (Leads s h) e
+      (hop-rule (Leads s h) h s n left i (λ p q. tt)
+      (onward-rule (Leads s h) h s n left tt tt (λ z l. record { in-use = forward-used h s n (t .rule) z; rule = linked-rule h s _ n l })))
 
   -- turn by turn
   pub reach-ends : (left n i : ℕ) (a : Reached) → hop s h n i left ≡ Ends a → reach s h (suc left) n i ≡ a
@@ -228,7 +231,7 @@ module _ (s : List ℕ) (h : Head) where
   reach-some zero n i = subst Some (reach-spent n i) tt
   reach-some (suc left) n i =
       reach-step left (λ m. reach-some left m 0) n i (hop s h n i left) refl
-      (hop-rule HopSome h s n left i (λ p q. q) (onward-rule HopSome h s n left tt tt (λ t. tt)))
+      (hop-rule HopSome h s n left i (λ p q. q) (onward-rule HopSome h s n left tt tt (λ z t. tt)))
 
   -- a turn of the code, with the hop r
   module _ (turns n i : ℕ) {r : Hop} (some : 0 < turns) (er : r ≡ hop s h n i (turns - 1)) where
@@ -241,8 +244,8 @@ module _ (s : List ℕ) (h : Head) where
     pub turn-on : {m : ℕ} → r ≡ On m → reach s h (turns - 1) m 0 ≡ reach s h turns n i
     turn-on {m} e = sym (reach-on (turns - 1) n i m (sym er ∙ e)) ∙ ap (λ (t : ℕ). reach s h t n i) one-more
 
-    pub turn-rule : {m : ℕ} → r ≡ On m → nodeRule h s (nodeStart h m) 1 ≡ true
-    turn-rule {m} e = hop-on n i (turns - 1) m (sym er ∙ e)
+    pub turn-node : TerminalNode h s n → {m : ℕ} → r ≡ On m → TerminalNode h s m
+    turn-node t {m} e = hop-on n i (turns - 1) m t (sym er ∙ e)
 
 module _ (f : Format) (s : List ℕ) (h : Head) (strict : Bool) (k : ℕ) where
   -- every record that is given is lawful and has a key above

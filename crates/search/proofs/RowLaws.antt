@@ -4,13 +4,11 @@ use mathlib.Core.Path.{_≡_, refl, sym, ap, ap₂, _∙_, subst}
 use mathlib.Core.Bool.{Bool, true, false, _&&_, not, false≢true}
 use mathlib.Core.List.{List}
 use Prim.Native.Nat.{ℕ, _+_, _-_, _*_, _/_, _^_, _≤_, _<_}
-use native.Mathlib.Decide.{decLt}
 use native.Mathlib.Omega.{arith}
 use lib.Dec.{eqb}
 use lib.ListN.{length}
 use borrow.Author.Tests.{eqb-true, eq-eqb, ne-eqb}
 use Rattle.lists.proofs.Cases.{by-cases}
-use Rattle.lists.proofs.Tests.{and-true}
 use Rattle.store.specs.declared.Format.{Format}
 use Rattle.store.specs.declared.Head.{Head}
 use Rattle.store.specs.declared.Item.{Item}
@@ -24,33 +22,17 @@ use Rattle.search.specs.declared.Visit.{Visit}
 use Rattle.search.specs.declared.Terminal.{Terminal}
 use Rattle.search.specs.declared.Span.{Span}
 use Rattle.search.specs.declared.Place.{Place}
-use Rattle.search.specs.declared.Sought.the-variants.{Record, Nothing, Damaged}
 use Rattle.search.specs.declared.Reached.{Reached}
-use Rattle.search.specs.declared.Reached.the-variants.{Page, Past, Broken}
-use Rattle.search.specs.Descent.{terminal, ownVisit}
+use Rattle.search.specs.declared.Reached.the-variants.{Page, Broken}
+use Rattle.search.specs.Descent.{ownVisit}
 use Rattle.search.specs.Find.{soundPage}
 use Rattle.search.specs.Next.{behind}
-use Rattle.search.specs.Span.{noSpan, reachedEnd, reachedSpan, ownSpan, spanAt, spanOf, soughtOf, Rows, placeOf, AtKey}
+use Rattle.search.specs.Span.{noSpan, reachedEnd, reachedSpan, ownSpan, spanAt, spanOf, Rows, placeOf, AtKey}
+use Rattle.search.proofs.FindLaws.{sound-rule}
 use Rattle.search.proofs.WithinLaws.{first-after}
 use Rattle.search.proofs.BlockLaws.{under-levels}
 use Rattle.search.proofs.SpanLaws.{reached-gives, reached-below, reached-broken, reached-lost}
-use Rattle.search.proofs.SpanLaws.{own-null, own-unsound, own-rows, own-after, at-lost, at-terminal, span-kind, span-rows}
-
--- the first record of a span
-module _ (f : Format) (s : List ℕ) (h : Head) (r : Span) where
-  pub sought-not : r .ok ≡ false → Damaged ≡ soughtOf f s h r
-  unfolding soughtOf
-  sought-not o = sym (rw (o, soughtOf))
-
-  module _ (o : r .ok ≡ true) where
-    pub sought-none : r .page ≡ 0 → Nothing ≡ soughtOf f s h r
-    unfolding soughtOf
-    sought-none z = sym (rw (o, eq-eqb _ _ z, soughtOf))
-
-    pub sought-first : (r .page ≡ 0 → ⊥) → {pg : List ℕ} {it : Item} → pg ≡ pageAt f s h (r .page) → it ≡ itemAt f pg (r .from)
-        → Record it ≡ soughtOf f s h r
-    unfolding soughtOf
-    sought-first z e ei = ap Record (rw e at ei) ∙ sym (rw (o, ne-eqb _ _ z, soughtOf))
+use Rattle.search.proofs.SpanLaws.{own-null, own-unsound, own-rows, own-after, at-terminal, span-kind, span-rows}
 
 -- where the records above a key begin in its own page
 module _ (f : Format) (h : Head) (pg : List ℕ) (strict : Bool) (k used : ℕ) where
@@ -189,10 +171,9 @@ module _ (f : Format) (s : List ℕ) (h : Head) (strict : Bool) (k : ℕ) (t : T
 
     -- the page of a sound span keeps the rule
     pub at-known : whole .ok ≡ true → pageRule f (h .capacity) pg ≡ true
-    unfolding soundPage
     at-known q =
         by-cases (soundPage f h pg k (t .used + v .depth))
-        (λ p. and-true _ _ p .0)
+        (sound-rule f h pg k (t .used + v .depth))
         (λ p. absurd (none-not (unsound p) q))
 
     -- the key stands in the page that is known, if that is this one
@@ -234,10 +215,9 @@ module _ {f : Format} {s : List ℕ} {h : Head} (u : Under f s h) (strict : Bool
   none-low b = omega arith
 
   span-low : Low (spanOf f s h strict k)
-  unfolding soundPage
   span-low =
       span-kind f s h strict k Low none-low (λ p t o. omega arith)
-      (λ o z p l. omega (arith, l, rule-facts f (h .capacity) _ (and-true _ _ p .0) .fits))
+      (λ o z p l. omega (arith, l, rule-facts f (h .capacity) _ (sound-rule f h _ k _ p) .fits))
 
   row-inside : {r : Span} → r ≡ spanOf f s h strict k → r .ok ≡ true → (r .page ≡ 0 → ⊥)
       → words f * (r .from + 1) < length (pageAt f s h (r .page))

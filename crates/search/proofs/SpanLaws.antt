@@ -10,13 +10,14 @@ use lib.Dec.{eqb}
 use lib.ListN.{getD}
 use borrow.Author.Tests.{eqb-true, lt-ltb, le-ltb, eq-eqb, ne-eqb}
 use Rattle.lists.proofs.Cases.{by-cases}
-use Rattle.lists.proofs.Tests.{and-true, and-three}
+use Rattle.lists.proofs.Tests.{and-three}
 use Rattle.store.specs.declared.Format.{Format}
 use Rattle.store.specs.declared.Head.{Head}
+use Rattle.store.specs.declared.Item.{Item}
 use Rattle.store.specs.Format.{width}
 use Rattle.store.specs.Head.{pageAt}
 use Rattle.page.specs.Page.{count, itemAt, keyAt, pageRule, agrees, above, firstAbove}
-use Rattle.page.proofs.Laws.{rule-facts, all-above}
+use Rattle.page.proofs.Laws.{rule-facts}
 use Rattle.search.specs.declared.Visit.{Visit}
 use Rattle.search.specs.declared.Terminal.{Terminal}
 use Rattle.search.specs.declared.Span.{Span}
@@ -27,26 +28,27 @@ use Rattle.search.specs.Descent.{noStep, descent, terminal, ownVisit}
 use Rattle.search.specs.Find.{soundPage}
 use Rattle.search.specs.Next.{visitAfter, visited, behind, afterOwn, nextOf}
 use Rattle.search.specs.Span.{noSpan, reachedEnd, reachedSpan, ownSpan, spanAt, spanOf, soughtOf, Rows}
-use Rattle.search.proofs.FindLaws.{Led}
+use Rattle.search.proofs.FindLaws.{sound-rule, Led}
 use Rattle.search.proofs.NextLaws.{visit-broken, visit-below, visit-gives, Some, reach-some}
 use Rattle.search.proofs.FromLaws.{from-lost, from-null, from-unsound, from-found, from-after}
-use Rattle.search.proofs.TerminalLaws.{Ended, terminal-ok, terminal-ended, terminal-same}
+use Rattle.search.proofs.TerminalLaws.{terminal-ok, terminal-ended, terminal-same}
 use Rattle.search.proofs.WithinLaws.{next-within, within-at}
 
--- the first record of a span, by its kinds
-module _ (f : Format) (s : List ℕ) (h : Head) where
-  pub sought-damaged : soughtOf f s h (noSpan false) ≡ Damaged
-  unfolding soughtOf noSpan
-  sought-damaged = refl
-
-  pub sought-nothing : soughtOf f s h (noSpan true) ≡ Nothing
-  unfolding soughtOf noSpan
-  sought-nothing = refl
-
-  pub sought-record : (p i j : ℕ) → (p ≡ 0 → ⊥)
-      → soughtOf f s h (record { ok = true; page = p; from = i; to = j }) ≡ Record (itemAt f (pageAt f s h p) i)
+-- the first record of a span
+module _ (f : Format) (s : List ℕ) (h : Head) (r : Span) where
+  pub sought-not : r .ok ≡ false → Damaged ≡ soughtOf f s h r
   unfolding soughtOf
-  sought-record p i j some = rw (ne-eqb p 0 some, soughtOf)
+  sought-not o = sym (rw (o, soughtOf))
+
+  module _ (o : r .ok ≡ true) where
+    pub sought-none : r .page ≡ 0 → Nothing ≡ soughtOf f s h r
+    unfolding soughtOf
+    sought-none z = sym (rw (o, eq-eqb _ _ z, soughtOf))
+
+    pub sought-first : (r .page ≡ 0 → ⊥) → {pg : List ℕ} {it : Item} → pg ≡ pageAt f s h (r .page) → it ≡ itemAt f pg (r .from)
+        → Record it ≡ soughtOf f s h r
+    unfolding soughtOf
+    sought-first z e ei = ap Record (rw e at ei) ∙ sym (rw (o, ne-eqb _ _ z, soughtOf))
 
 module _ (f : Format) (s : List ℕ) (h : Head) (strict : Bool) (k : ℕ) where
   -- a page reached after the key's own
@@ -66,14 +68,16 @@ module _ (f : Format) (s : List ℕ) (h : Head) (strict : Bool) (k : ℕ) where
     reached-broken t = rw (t, reachedSpan)
 
     reached-page : (p ≡ 0 → ⊥) → soughtOf f s h (reachedSpan f s h strict k n u (Page p)) ≡ visitAfter f s h strict k p
+    unfolding noSpan
     reached-page some =
         by-cases (pageRule f (h .capacity) (pageAt f s h p))
         (λ t.
         by-cases (above strict k (keyAt f (pageAt f s h p) 0))
         (λ a.
-        ap (soughtOf f s h) (reached-gives t a) ∙ sought-record f s h p 0 (reachedEnd f s h k n u p) some ∙ visit-gives f s h strict k p refl t refl a)
-        (λ a. ap (soughtOf f s h) (reached-below t a) ∙ sought-damaged f s h ∙ visit-below f s h strict k p refl t refl a))
-        (λ t. ap (soughtOf f s h) (reached-broken t) ∙ sought-damaged f s h ∙ visit-broken f s h strict k p refl t)
+        ap (soughtOf f s h) (reached-gives t a) ∙ sym (sought-first f s h _ refl some refl refl)
+        ∙ visit-gives f s h strict k p refl t refl a)
+        (λ a. ap (soughtOf f s h) (reached-below t a) ∙ sym (sought-not f s h _ refl) ∙ visit-below f s h strict k p refl t refl a))
+        (λ t. ap (soughtOf f s h) (reached-broken t) ∙ sym (sought-not f s h _ refl) ∙ visit-broken f s h strict k p refl t)
 
   pub reached-past : (n u : ℕ) → reachedSpan f s h strict k n u Past ≡ noSpan true
   unfolding reachedSpan
@@ -84,10 +88,10 @@ module _ (f : Format) (s : List ℕ) (h : Head) (strict : Bool) (k : ℕ) where
   reached-lost n u = refl
 
   reached-sought : (n u : ℕ) (a : Reached) → Some s h a → soughtOf f s h (reachedSpan f s h strict k n u a) ≡ visited f s h strict k a
-  unfolding visited
+  unfolding visited noSpan
   reached-sought n u (Page p) some = reached-page n u p some
-  reached-sought n u Past some = ap (soughtOf f s h) (reached-past n u) ∙ sought-nothing f s h
-  reached-sought n u Broken some = ap (soughtOf f s h) (reached-lost n u) ∙ sought-damaged f s h
+  reached-sought n u Past some = ap (soughtOf f s h) (reached-past n u) ∙ sym (sought-none f s h _ refl refl)
+  reached-sought n u Broken some = ap (soughtOf f s h) (reached-lost n u) ∙ sym (sought-not f s h _ refl)
 
   behind-some : (n d i : ℕ) → Some s h (behind s h n d i)
   unfolding behind
@@ -147,6 +151,7 @@ module _ (f : Format) (s : List ℕ) (h : Head) (strict : Bool) (k : ℕ) where
 
     next-own : (o : terminal f s h k .ok ≡ true)
         → nextOf f s h strict k ≡ soughtOf f s h (ownSpan f s h strict k (end .node) (end .used) own)
+    unfolding noSpan
     next-own o =
         let e = terminal-ended f s h k low high o in
         let d = descent f s h k in
@@ -165,7 +170,7 @@ module _ (f : Format) (s : List ℕ) (h : Head) (strict : Bool) (k : ℕ) where
               elim (decLt (firstAbove f (pageAt f s h (own .pointer)) strict k) (count (pageAt f s h (own .pointer)))) [
                 | yes l ↦
                     sym (from-found strict led (rw (e .used) p) refl refl refl l)
-                    ∙ sym (sought-record f s h (own .pointer) _ _ z)
+                    ∙ sought-first f s h _ refl z refl refl
                     ∙ ap (soughtOf f s h) (sym (own-rows (end .node) (end .used) own z p l))
                 | no l ↦
                     sym (from-after strict led (rw (e .used) p) refl refl (omega arith))
@@ -173,16 +178,17 @@ module _ (f : Format) (s : List ℕ) (h : Head) (strict : Bool) (k : ℕ) where
                     ∙ ap (soughtOf f s h) (sym (own-after (end .node) (end .used) own z p (omega arith)))
               ])
               (λ p.
-              sym (from-unsound strict led (rw (e .used) p)) ∙ sym (sought-damaged f s h)
+              sym (from-unsound strict led (rw (e .used) p)) ∙ sought-not f s h _ refl
               ∙ ap (soughtOf f s h) (sym (own-unsound (end .node) (end .used) own z p)))
         ]
 
     pub next-span : nextOf f s h strict k ≡ soughtOf f s h (spanOf f s h strict k)
+    unfolding noSpan
     next-span =
         by-cases (terminal f s h k .ok)
         (λ o. next-own o ∙ ap (soughtOf f s h) (sym (at-terminal end o)))
         (λ o.
-        sym (from-lost f s h strict k (descent f s h k) refl (terminal-ok f s h k low ∙ o)) ∙ sym (sought-damaged f s h)
+        sym (from-lost f s h strict k (descent f s h k) refl (terminal-ok f s h k low ∙ o)) ∙ sought-not f s h _ refl
         ∙ ap (soughtOf f s h) (sym (at-lost end o)))
 
 -- a span with records: next goes from each to the one after it
@@ -280,12 +286,11 @@ module _ (f : Format) (s : List ℕ) (h : Head) (strict : Bool) (k : ℕ) where
       (λ b. rw (b, reachedEnd) (record { rule = t; some = omega arith; within = some }, λ i m l. absurd (omega arith)))
 
   pub span-rows : 1 ≤ h .levels → h .levels ≤ 32 → Sound (spanOf f s h strict k)
-  unfolding soundPage
   span-rows low high =
       span-kind f s h strict k Sound none-sound
       (λ p t o y q. reached-rows low high p t o q)
       (λ o z p l y q.
-      (record { rule = and-true _ _ p .0; some = l; within = omega arith }, λ i m n. next-within f s h k i low high o z p n))
+      (record { rule = sound-rule f h _ k _ p; some = l; within = omega arith }, λ i m n. next-within f s h k i low high o z p n))
 
   -- a span with records met no damage, and its terminal node is sound
   abbrev Whole : Span → Type 0

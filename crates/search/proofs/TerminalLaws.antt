@@ -1,30 +1,27 @@
 -- A path by its end: the terminal node of a key and its entry there tell all that find and next need of the descent.
 --   Ended k d n u      == the way d of the key k ends in node n, reached after u bits
 use mathlib.Core.Path.{_≡_, refl, sym, ap, ap₂, _∙_, subst}
-use mathlib.Core.Bool.{Bool, true, false, _&&_, false≢true}
+use mathlib.Core.Bool.{true, false, false≢true}
 use mathlib.Core.List.{List}
 use Prim.Native.Nat.{ℕ, zero, suc, _+_, _-_, _*_, _/_, _%_, _^_, _≤_}
 use native.Mathlib.Omega.{arith}
 use native.Mathlib.Nat.{mod-le, mod-lt}
-use lib.Dec.{leb}
 use lib.ListN.{length, getD, length-set, length-replicate}
 use lib.Pow.{pow-pos, shr-shr, field, split}
 use lib.Seq.{getD-set-same}
-use borrow.Author.Tests.{leb-true}
 use Rattle.lists.proofs.Cases.{by-cases}
-use Rattle.lists.proofs.Tests.{and-true}
 use Rattle.store.specs.declared.Format.{Format}
 use Rattle.store.specs.declared.Head.{Head}
 use Rattle.store.specs.Format.{width}
 use Rattle.store.specs.Head.{nodeStart}
-use Rattle.node.specs.Node.{depthWord, entryDepth, entryOf, nodeRule, entryNumber}
+use Rattle.node.specs.Node.{depthWord, entryDepth, entryOf, entryNumber}
 use Rattle.node.proofs.NodeLaws.{node-facts}
 use Rattle.node.proofs.RunWalk.{RunAt, good-facts}
 use Rattle.node.proofs.EntryNumber.{entry-below}
 use Rattle.search.specs.declared.Step.{Step}
 use Rattle.search.specs.declared.Descent.{Descent}
 use Rattle.search.specs.declared.Terminal.{Terminal}
-use Rattle.search.specs.Descent.{noStep, noSteps, damagedNode, entryVisit, stepOf, lost, stepTaken, descend, descent}
+use Rattle.search.specs.Descent.{noStep, noSteps, damagedNode, entryVisit, lost, stepTaken, descend, descent}
 use Rattle.search.specs.Descent.{soundNode, lostTerminal, terminalFrom, terminal, ownVisit}
 use Rattle.search.proofs.DescentLaws.{sound-facts, step-damaged, step-entry, way-step, way-end, step-lost, step-on}
 
@@ -34,6 +31,14 @@ fewer W a b k k′ l e =
     let m : ℕ = W - a - (W - b) in
     let d : W - a ≡ W - b + m = omega arith in
     rw (d, ← shr-shr k′ (W - b) m, ← shr-shr k (W - b) m, e)
+
+-- the code compares x and y, what two keys have before their last `low` bits: their first u bits
+module _ (W u k k′ : ℕ) {low x y : ℕ} (el : low ≡ W - u) (ex : x ≡ k′ / 2 ^ low) (ey : y ≡ k / 2 ^ low) where
+  pub alike : x ≡ y → k′ / 2 ^ (W - u) ≡ k / 2 ^ (W - u)
+  alike q = rw (← el) (sym ex ∙ q ∙ ey)
+
+  pub unlike : (x ≡ y → ⊥) → k′ / 2 ^ (W - u) ≡ k / 2 ^ (W - u) → ⊥
+  unlike d q = d (ex ∙ rw el q ∙ sym ey)
 
 -- the run of a key's entry is numbered by the key's next d bits
 entry-run : (W k u H d : ℕ) → u + H ≤ W → d ≤ H → entryNumber W k u H / 2 ^ (H - d) ≡ k / 2 ^ (W - (u + d)) % 2 ^ d

@@ -11,7 +11,7 @@ ghost use Rattle.store.specs.Format.{width, words};
 ghost use Rattle.store.specs.Head.{nodeWords, nodeStart, pageAt, InUse, Under};
 ghost use Rattle.node.specs.Node.{depthWord, nodeRule};
 ghost use Rattle.page.specs.Page.{pageRule, Lent, Filled};
-ghost use Rattle.search.specs.Descent.{soundNode, TerminalNode, stepOf, lost, descent, lostTerminal, terminal, ownVisit};
+ghost use Rattle.search.specs.Descent.{soundNode, TerminalNode, stepOf, lost, descent, terminal, ownVisit};
 ghost use Rattle.search.specs.Find.{reply, soughtReply, soundPage, inPage, findOf, findReply};
 ghost use Rattle.search.specs.Next.{firstPointer, runAfter, linked, onward, hop, reach, behind, nextOf, nextReply};
 ghost use Rattle.search.specs.declared.Reached.the-variants.{Broken};

@@ -6,6 +6,7 @@ use native.Mathlib.Omega.{arith}
 use lib.ListN.{length, getD, take, drop}
 use Rattle.store.specs.Format.{words}
 use Rattle.store.proofs.Places.{under-limits}
+use Rattle.search.proofs.BlockLaws.{under-page}
 use Rattle.scan.proofs.FillWalk.{Filling, Turned, found-some, fill-none, fill-begins, fill-held, fill-length, fill-room, fill-asks}
 use Rattle.scan.proofs.FillWalk.{fill-turns}
 use Rattle.scan.proofs.fill.Statement.{statement}
@@ -39,7 +40,7 @@ loop-holds c =
     fill-begins (p .0) (p .1) (p .2) (omega (arith, c .before .before .if1 .left)) (c .walk-from .ensures)
 
 page-at-requires : tie.Need-page-at-requires Inv-loop μ-loop
-page-at-requires c κs = let l = under-limits (c .before .loop .inv .under) in (l .theta, l .capacity)
+page-at-requires c κs = under-page (c .before .loop .inv .under)
 
 sub-smaller : tie.Need-sub-smaller Inv-loop μ-loop
 sub-smaller c =

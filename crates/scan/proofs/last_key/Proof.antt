@@ -6,12 +6,13 @@ use Prim.Native.Nat.{ℕ, _+_, _-_, _*_, _≤_, _<_}
 use native.Mathlib.Omega.{arith}
 use Rattle.page.specs.Page.{keyAt}
 use Rattle.store.proofs.Places.{under-limits}
+use Rattle.search.proofs.BlockLaws.{under-page}
 use Rattle.scan.proofs.WalkLaws.{rows-lie}
 use Rattle.scan.proofs.last_key.Statement.{statement}
 use Rattle.scan.proofs.last_key.Tie as tie
 
 page-at-requires : tie.Need-page-at-requires
-page-at-requires c κs = let l = under-limits (c .before .pre .0) in (l .theta, l .capacity)
+page-at-requires c κs = under-page (c .before .pre .0)
 
 sub-read-one : tie.Need-sub-read-one
 sub-read-one c = omega (arith, c .before .before .before .pre .1 .some)

@@ -8,6 +8,7 @@ use lib.ListN.{length}
 use Rattle.store.proofs.Places.{under-limits}
 use Rattle.page.specs.Page.{keyAt}
 use Rattle.page.proofs.Inside.{record-inside}
+use Rattle.search.proofs.BlockLaws.{under-page}
 use Rattle.scan.specs.Walk.{lastKey, endOf}
 use Rattle.scan.specs.Range.{listingOf}
 use Rattle.scan.proofs.WalkLaws.{rowsOf, stopOf}
@@ -29,7 +30,7 @@ loop-holds : tie.Need-loop-holds Inv-loop μ-loop
 loop-holds c = list-first _ _ _ _ _ _ (c .before .before .pre .1) (c .walk-from .ensures)
 
 page-at-requires : tie.Need-page-at-requires Inv-loop μ-loop
-page-at-requires c κs = let l = under-limits (c .before .before .before .before .before .before .pre .0) in (l .theta, l .capacity)
+page-at-requires c κs = under-page (c .before .before .before .before .before .before .pre .0)
 
 -- there are records
 some : (c : tie.Then1 Inv-loop μ-loop) → c .before .before .loop .w .span .page ≡ 0 → ⊥

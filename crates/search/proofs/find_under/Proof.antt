@@ -1,7 +1,6 @@
 -- One law for each way out.
-use borrow.Author.Needs.{needs}
 use mathlib.Core.Path.{_≡_, refl, sym, ap, _∙_}
-use mathlib.Core.Bool.{true, true≢false}
+use mathlib.Core.Bool.{true≢false}
 use native.Mathlib.Omega.{arith}
 use borrow.Author.Tests.{not-true, not-false}
 use Rattle.lists.proofs.Tests.{passed, failed}
@@ -9,9 +8,9 @@ use Rattle.store.specs.Head.{pageAt}
 use Rattle.store.proofs.HeadLaws.{width-within}
 use Rattle.store.proofs.Places.{under-limits}
 use Rattle.page.proofs.Inside.{page-lent, filled}
-use Rattle.search.specs.Descent.{descent, terminal, ownVisit}
+use Rattle.search.specs.Descent.{descent}
 use Rattle.search.specs.Find.{soundPage}
-use Rattle.search.proofs.BlockLaws.{under-levels}
+use Rattle.search.proofs.BlockLaws.{under-page, under-levels}
 use Rattle.search.proofs.TerminalLaws.{terminal-ok}
 use Rattle.search.proofs.UseLaws.{at-asked, Landed, landed}
 use Rattle.search.proofs.FindLaws.{Led, find-lost, find-null, find-unsound, find-sound, sound-rule}
@@ -51,7 +50,7 @@ returns-2 c =
     find-null _ _ _ _ _ refl (d .ok) (d .page ∙ c .if2 .taken)
 
 page-at-requires : tie.Need-page-at-requires
-page-at-requires c κs = let l = under-limits (c .before .before .before .before .before .before .before .pre) in (l .theta, l .capacity)
+page-at-requires c κs = under-page (c .before .before .before .before .before .before .before .pre)
 
 -- the way led to a page
 led : (c : tie.After-page-at)

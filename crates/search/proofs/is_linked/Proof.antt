@@ -3,18 +3,17 @@ use borrow.Author.Needs.{needs}
 use mathlib.Core.Path.{refl, sym}
 use mathlib.Core.Bool.{true, false}
 use native.Mathlib.Omega.{arith}
-use Rattle.lists.proofs.Tests.{and-true, passed, failed}
-use Rattle.search.specs.Next.{linked}
-use Rattle.search.proofs.BlockLaws.{block-words}
-use Rattle.search.proofs.ReachLaws.{block-tested, linked-is}
+use Rattle.lists.proofs.Tests.{passed, failed}
+use Rattle.search.proofs.NextLaws.{linked-rule}
+use Rattle.search.proofs.BlockLaws.{block-words, block-tested}
+use Rattle.search.proofs.ReachLaws.{linked-is}
 use Rattle.search.proofs.is_linked.Statement.{statement}
 use Rattle.search.proofs.is_linked.Tie as tie
 
 node-passes-requires : tie.Need-node-passes-requires
-unfolding linked
 node-passes-requires c κs =
     let p = c .before .before .pre in
-    block-tested (p .0) (p .1) (c .node-at .ensures) 1 _ (λ q. and-true _ _ (p .2 q) .0)
+    block-tested (p .0) (p .1) (c .node-at .ensures) 1 _ (λ q. linked-rule _ _ _ _ (p .2 q))
 
 returns : tie.Need-returns
 returns c =

@@ -1,6 +1,6 @@
 -- The key's entry, read in the block.
 use borrow.Author.Needs.{needs}
-use Prim.Native.Nat.{_+_, _*_, _^_, _<_}
+use Prim.Native.Nat.{_+_, _*_, _<_}
 use native.Mathlib.Omega.{arith}
 use lib.ListN.{length}
 use Rattle.search.proofs.BlockLaws.{under-node, block-words, block-depth, own-inside, own-read}

@@ -1,7 +1,7 @@
 -- Where the key stands in the page, the record after its own is known.
-use Rattle.lists.proofs.Tests.{and-true, passed, failed}
+use Rattle.lists.proofs.Tests.{passed, failed}
 use Rattle.page.proofs.Inside.{filled}
-use Rattle.search.specs.Find.{soundPage}
+use Rattle.search.proofs.FindLaws.{sound-rule}
 use Rattle.search.proofs.RowLaws.{place-lost, place-from, rule-known, after-first}
 use Rattle.search.proofs.own_place.Statement.{statement}
 use Rattle.search.proofs.own_place.Tie as tie
@@ -19,9 +19,8 @@ returns-2 c =
     (after-first (c .before .before .before .before .pre .3 (c .if2 .taken)))
 
 first-above-requires : tie.Need-first-above-requires
-unfolding soundPage
 first-above-requires c κs =
-    filled _ _ _ (and-true _ _ (passed (c .before .before .page-sound .ensures) (c .before .if1 .left)) .0)
+    filled _ _ _ (sound-rule _ _ _ _ _ (passed (c .before .before .page-sound .ensures) (c .before .if1 .left)))
     (c .before .before .before .before .pre .2)
 
 returns-3 : tie.Need-returns-3

@@ -7,7 +7,8 @@ use Rattle.lists.proofs.Tests.{passed, failed}
 use Rattle.store.proofs.HeadLaws.{width-within}
 use Rattle.node.specs.Node.{nodeRule}
 use Rattle.node.proofs.NodeLaws.{node-facts}
-use Rattle.search.proofs.BlockLaws.{under-node, block-long, block-words, block-depth, sound-block, block-broken, block-sound}
+use Rattle.search.proofs.BlockLaws.{under-node, block-words, block-tested, block-broken, block-sound}
+use Rattle.search.proofs.DescentLaws.{sound-facts}
 use Rattle.search.proofs.passes.Statement.{statement}
 use Rattle.search.proofs.passes.Tie as tie
 
@@ -16,11 +17,8 @@ node-at-requires c κs = let p = c .before .pre in (p .0, p .1)
 
 node-passes-requires : tie.Need-node-passes-requires
 node-passes-requires c κs =
-    let q = c .before .before in
-    let p = q .pre in
-    let n = under-node (p .0) in
-    let e = c .node-at .ensures in
-    (n .0, n .1, n .2, block-long (p .0) (p .1) e, λ z. sound-block (p .0) (p .1) e (q .args .level) (q .args .used) (p .3 z))
+    let p = c .before .before .pre in
+    block-tested (p .0) (p .1) (c .node-at .ensures) _ _ (λ z. sound-facts _ _ _ _ _ _ (p .3 z) .0)
 
 returns : tie.Need-returns
 returns c =

@@ -6,8 +6,8 @@ use native.Mathlib.Omega.{arith}
 use Rattle.store.proofs.Places.{under-limits, under-counts}
 use Rattle.search.specs.Descent.{TerminalNode}
 use Rattle.search.specs.Next.{reach}
-use Rattle.search.proofs.NextLaws.{reach-spent, turn-ends, turn-on}
-use Rattle.search.proofs.ReachLaws.{turn-node, turn-sound}
+use Rattle.search.proofs.NextLaws.{reach-spent, turn-ends, turn-on, turn-node}
+use Rattle.search.proofs.ReachLaws.{turn-sound}
 use Rattle.search.proofs.reach_from.Statement.{statement}
 use Rattle.search.proofs.reach_from.Tie as tie
 
@@ -29,7 +29,7 @@ hop-from-requires : tie.Need-hop-from-requires Inv-loop μ-loop
 hop-from-requires c κs =
     let p = c .before .before .before .before .pre in
     let l = c .before .loop .inv in
-    (p .0, l .1, l .0, λ q. turn-sound _ _ _ _ _ (c .loop-test .taken) (l .1) (l .2) (p .3 q))
+    (p .0, l .1, l .0, λ q. turn-sound _ _ _ _ _ (c .loop-test .taken) (l .2) (p .3 q))
 
 returns : tie.Need-returns Inv-loop μ-loop
 returns c =
@@ -42,7 +42,7 @@ loop-again c =
     let p = c .before .before .before in
     let l = p .before .before .loop .inv in (
       omega arith,
-      turn-node _ _ _ _ _ (p .before .loop-test .taken) (l .1) (p .hop-from .ensures) (c .before .hop2 .given .1),
+      turn-node _ _ _ _ _ (p .before .loop-test .taken) (p .hop-from .ensures) (l .1) (c .before .hop2 .given .1),
       turn-on _ _ _ _ _ (p .before .loop-test .taken) (p .hop-from .ensures) (c .before .hop2 .given .1) ∙ l .2,
     )
 

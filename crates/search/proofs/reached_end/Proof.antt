@@ -1,18 +1,18 @@
 -- One law for each test.
 use borrow.Author.Needs.{needs}
-use mathlib.Core.Path.{_≡_, sym, ap, _∙_}
+use mathlib.Core.Path.{_≡_, ap}
 use mathlib.Core.Bool.{true}
 use Prim.Native.Nat.{ℕ, _+_, _-_, _/_, _^_, _≤_}
 use native.Mathlib.Omega.{arith}
 use Rattle.lists.proofs.Tests.{passed, failed}
-use Rattle.store.specs.declared.Format.{Format}
 use Rattle.store.specs.declared.Item.{Item}
 use Rattle.store.specs.Format.{width}
 use Rattle.store.proofs.HeadLaws.{width-within}
-use Rattle.store.proofs.Places.{under-limits}
 use Rattle.page.specs.Page.{Filled, keyAt, pageRule}
 use Rattle.page.proofs.Inside.{record-inside}
 use Rattle.page.proofs.Laws.{rule-facts}
+use Rattle.search.proofs.BlockLaws.{under-page}
+use Rattle.search.proofs.TerminalLaws.{alike, unlike}
 use Rattle.search.proofs.UseLaws.{at-asked, at-bits}
 use Rattle.search.proofs.RowLaws.{page-filled, end-other, end-elsewhere, end-first, end-all}
 use Rattle.search.proofs.reached_end.Statement.{statement}
@@ -27,14 +27,6 @@ full c = page-filled (c .before .before .pre .0) _ (c .page-at .ensures) (ruled 
 
 first-is : (c : tie.After-read-one) → c .read-one .result .key ≡ keyAt (c .before .before .before .args .f) (c .before .page-at .result .now) 0
 first-is c = ap (λ (x : Item). x .key) (c .read-one .ensures)
-
--- low is the number of bits not used yet, x and y what two keys have in the others
-module _ (f : Format) (u k first : ℕ) {low x y : ℕ} (el : low ≡ width f - u) (ex : x ≡ first / 2 ^ low) (ey : y ≡ k / 2 ^ low) where
-  alike : x ≡ y → first / 2 ^ (width f - u) ≡ k / 2 ^ (width f - u)
-  alike q = rw (← el) (sym ex ∙ q ∙ ey)
-
-  unlike : (x ≡ y → ⊥) → first / 2 ^ (width f - u) ≡ k / 2 ^ (width f - u) → ⊥
-  unlike d q = d (ex ∙ rw el q ∙ sym ey)
 
 low-is : (c : tie.After-width-of)
     → let a = c .before .before .before .before .args in c .width-of .result - a .t .used ≡ width (a .f) - a .t .used
@@ -55,7 +47,7 @@ bits c =
     at-bits _ _ _ _ (p .0) (p .1) (p .2) _ (c .own-entry .ensures)
 
 page-at-requires : tie.Need-page-at-requires
-page-at-requires c κs = let l = under-limits (c .before .pre .0) in (l .theta, l .capacity)
+page-at-requires c κs = under-page (c .before .pre .0)
 
 read-one-requires : tie.Need-read-one-requires
 read-one-requires c κs = (search needs, record-inside (full c) (rule-facts _ _ _ (ruled c) .some))

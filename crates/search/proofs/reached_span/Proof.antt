@@ -3,11 +3,11 @@ use borrow.Author.Needs.{needs}
 use mathlib.Core.Path.{_≡_, sym, ap, _∙_}
 use mathlib.Core.Bool.{true}
 use Rattle.lists.proofs.Tests.{passed, failed}
-use Rattle.store.proofs.Places.{under-limits}
 use Rattle.page.specs.Page.{pageRule}
 use Rattle.page.proofs.Inside.{record-inside}
 use Rattle.page.proofs.Laws.{rule-facts}
 use Rattle.search.specs.Span.{reachedSpan}
+use Rattle.search.proofs.BlockLaws.{under-page}
 use Rattle.search.proofs.SpanLaws.{reached-past, reached-lost}
 use Rattle.search.proofs.RowLaws.{page-asked, page-filled, page-known, page-broken, page-below, page-gives}
 use Rattle.search.proofs.reached_span.Statement.{statement}
@@ -26,7 +26,7 @@ returns-2 : tie.Need-returns-2
 returns-2 c = c .no-span2 .ensures ∙ sym (ap (reachedSpan _ _ _ _ _ _ _) (c .before .enum-told2 .given .1) ∙ reached-lost _ _ _ _ _ _ _)
 
 page-at-requires : tie.Need-page-at-requires
-page-at-requires c κs = let l = under-limits (c .before .before .before .before .pre .0) in (l .theta, l .capacity)
+page-at-requires c κs = under-page (c .before .before .before .before .pre .0)
 
 page-passes-requires : tie.Need-page-passes-requires
 page-passes-requires c κs =

@@ -1,7 +1,7 @@
 -- Test by test.
 use borrow.Author.Tests.{not-true, not-false}
-use Rattle.store.proofs.Places.{under-limits}
-use Rattle.search.proofs.RowLaws.{sought-not, sought-none, sought-first}
+use Rattle.search.proofs.BlockLaws.{under-page}
+use Rattle.search.proofs.SpanLaws.{sought-not, sought-none, sought-first}
 use Rattle.search.proofs.sought_of.Statement.{statement}
 use Rattle.search.proofs.sought_of.Tie as tie
 
@@ -12,7 +12,7 @@ returns-2 : tie.Need-returns-2
 returns-2 c = sought-none _ _ _ _ (not-false _ (c .before .before .if1 .left)) (c .if2 .taken)
 
 page-at-requires : tie.Need-page-at-requires
-page-at-requires c κs = let l = under-limits (c .before .before .before .before .before .pre .0) in (l .theta, l .capacity)
+page-at-requires c κs = under-page (c .before .before .before .before .before .pre .0)
 
 read-one-requires : tie.Need-read-one-requires
 read-one-requires c κs =

@@ -8,9 +8,9 @@ use native.Mathlib.Omega.{arith}
 use borrow.Author.Tests.{not-true, not-false}
 use Rattle.store.specs.Format.{width}
 use Rattle.store.proofs.HeadLaws.{width-within}
-use Rattle.store.proofs.Places.{under-limits}
 use Rattle.search.specs.Next.{behind}
 use Rattle.search.specs.Span.{reachedSpan, spanAt}
+use Rattle.search.proofs.BlockLaws.{under-page}
 use Rattle.search.proofs.SpanLaws.{at-lost}
 use Rattle.search.proofs.UseLaws.{at-node, at-asked, at-bits}
 use Rattle.search.proofs.RowLaws.{page-asked, reached-whole, at-null, at-known, at-key, at-unsound, at-rows, at-after}
@@ -55,7 +55,7 @@ own-entry-requires : tie.Need-own-entry-requires
 own-entry-requires c κs = let p = c .before .before .before .pre in at-asked _ _ _ _ (p .0) (p .1) (ok c)
 
 page-at-requires : tie.Need-page-at-requires
-page-at-requires c κs = let l = under-limits (c .before .before .before .before .before .pre .0) in (l .theta, l .capacity)
+page-at-requires c κs = under-page (c .before .before .before .before .before .pre .0)
 
 add-used : tie.Need-add-used
 add-used c =

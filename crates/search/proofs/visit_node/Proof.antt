@@ -1,5 +1,4 @@
 -- Damage, or the key's entry.
-use borrow.Author.Needs.{needs}
 use mathlib.Core.Path.{_∙_}
 use Rattle.lists.proofs.Tests.{passed, failed}
 use Rattle.search.specs.Descent.{damagedNode}
