@@ -76,8 +76,8 @@ module _ {f : Format} {s : List ℕ} {h : Head} (u : Under f s h) {n : ℕ} (i :
 
     pub own-below : j < 2 ^ h .theta
     own-below =
-        rw number
-        (lt-of-lt-of-le (entry-below (width f) k used (depthWord s (nodeStart h n))) (pow-mono {i = depthWord s (nodeStart h n)} {j = h .theta} deep))
+        let d : ℕ = depthWord s (nodeStart h n) in
+        rw number (lt-of-lt-of-le (entry-below (width f) k used d) (pow-mono {i = d} {j = h .theta} deep))
 
     pub own-inside : 5 + 2 * j < length nd
     unfolding nodeWords

@@ -147,7 +147,7 @@ module _ (f : Format) (s : List ℕ) (h : Head) (strict : Bool) (k : ℕ) where
     unfolding afterOwn
     next-after o =
         rw (terminal-ended f s h k low high o .step)
-        (sym (reached-sought (end .node) (end .used) (behind s h (end .node) (own .depth) (own .entry)) (behind-some (end .node) (own .depth) (own .entry))))
+        (sym (reached-sought (end .node) (end .used) _ (behind-some (end .node) (own .depth) (own .entry))))
 
     next-own : (o : terminal f s h k .ok ≡ true)
         → nextOf f s h strict k ≡ soughtOf f s h (ownSpan f s h strict k (end .node) (end .used) own)

@@ -114,7 +114,8 @@ module _ (f : Format) (s : List ℕ) (h : Head) where
       unfolding damagedNode
       descend-lost steps = sym (step-lost f s h k l n used steps _ (step-damaged f s h k (suc l) n used e) refl)
 
-    pub terminal-here : (n used : ℕ) → soundNode f s h 1 n used ≡ true → terminalFrom f s h k 0 n used ≡ record { ok = true; node = n; used = used }
+    pub terminal-here : (n used : ℕ) → soundNode f s h 1 n used ≡ true
+        → terminalFrom f s h k 0 n used ≡ record { ok = true; node = n; used = used }
     unfolding terminalFrom
     terminal-here n used e = rw (e, terminalFrom)
 

@@ -105,6 +105,7 @@ module _ (f : Format) (s : List ℕ) (h : Head) where
       (λ o p b.
       subst
       (λ p. (p ≡ 0 → ⊥)
-      → soundPage f h (pageAt f s h p) k (terminal f s h k .used + ownVisit f s h k (terminal f s h k .node) (terminal f s h k .used) .depth) ≡ true
+      → let t = terminal f s h k in
+      soundPage f h (pageAt f s h p) k (t .used + ownVisit f s h k (t .node) (t .used) .depth) ≡ true
       → i + 1 < count (pageAt f s h p) → nextOf f s h true (keyAt f (pageAt f s h p) i) ≡ Record (itemAt f (pageAt f s h p) (i + 1))) b
       (next-within k i low high o))

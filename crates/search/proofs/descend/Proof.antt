@@ -49,7 +49,11 @@ add-used : tie.Need-add-used Inv-loop μ-loop
 add-used c =
     let p = c .before .before .before in
     let l = p .before .before .loop in
-    omega (arith, width-within (p .before .before .before .before .before .args .f), seen-bits _ _ _ _ (l .level) (l .node) (l .used) (p .visit-node .ensures) (not-false _ (c .before .if1 .left)))
+    omega (
+      arith,
+      width-within (p .before .before .before .before .before .args .f),
+      seen-bits _ _ _ _ (l .level) (l .node) (l .used) (p .visit-node .ensures) (not-false _ (c .before .if1 .left)),
+    )
 
 loop-again : tie.Need-loop-again Inv-loop μ-loop
 unfolding stepTaken

@@ -6,7 +6,6 @@ use borrow.Author.Tests.{not-true, not-false}
 use Rattle.lists.proofs.Tests.{passed, failed}
 use Rattle.store.specs.Head.{pageAt}
 use Rattle.store.proofs.HeadLaws.{width-within}
-use Rattle.store.proofs.Places.{under-limits}
 use Rattle.page.proofs.Inside.{page-lent, filled}
 use Rattle.search.specs.Descent.{descent}
 use Rattle.search.specs.Find.{soundPage}
@@ -54,23 +53,36 @@ page-at-requires c κs = under-page (c .before .before .before .before .before .
 
 -- the way led to a page
 led : (c : tie.After-page-at)
-    → let a = c .before .before .before .before .before .before .before .before .args in Led (a .f) (a .store .now) (a .head) (a .key) (descent (a .f) (a .store .now) (a .head) (a .key)) (c .page-at .result .now)
+    → let a = c .before .before .before .before .before .before .before .before .args in
+    Led (a .f) (a .store .now) (a .head) (a .key) (descent (a .f) (a .store .now) (a .head) (a .key)) (c .page-at .result .now)
 led c =
     let d = ended (c .before .before .before) in
-    record { way = refl; ok = d .ok; some = λ z. c .before .if2 .left (sym (d .page) ∙ z); page = c .page-at .ensures ∙ ap (pageAt _ _ _) (sym (d .page)) }
+    record {
+      way = refl;
+      ok = d .ok;
+      some = λ z. c .before .if2 .left (sym (d .page) ∙ z);
+      page = c .page-at .ensures ∙ ap (pageAt _ _ _) (sym (d .page));
+    }
 
 add-page-sound : tie.Need-add-page-sound
-add-page-sound c = omega (arith, ended (c .before .before .before .before .before) .bits, width-within (c .before .before .before .before .before .before .before .before .before .before .args .f))
+add-page-sound c =
+    let d = c .before .before .before .before .before in
+    omega (arith, ended d .bits, width-within (d .before .before .before .before .before .args .f))
 
 page-sound-requires : tie.Need-page-sound-requires
 page-sound-requires c κs =
-    let a = c .before .before .before .before .before .before .before .before .before .before in
-    (under-limits (a .pre) .capacity, ended (c .before .before .before .before .before) .bits, rw (c .before .before .page-at .ensures) (page-lent _ _ _ _), λ z. absurd (true≢false z))
+    let d = c .before .before .before .before .before in (
+      under-page (d .before .before .before .before .before .pre) .1,
+      ended d .bits,
+      rw (c .before .before .page-at .ensures) (page-lent _ _ _ _),
+      λ z. absurd (true≢false z),
+    )
 
 -- as the definition says it, of the page that the way led to
 sound : (c : tie.After-page-sound)
     → let a = c .before .before .before .before .before .before .before .before .before .before .before .args in
-    c .page-sound .result ≡ soundPage (a .f) (a .head) (c .before .before .before .page-at .result .now) (a .key) (descent (a .f) (a .store .now) (a .head) (a .key) .used)
+    let pg = c .before .before .before .page-at .result .now in
+    c .page-sound .result ≡ soundPage (a .f) (a .head) pg (a .key) (descent (a .f) (a .store .now) (a .head) (a .key) .used)
 sound c = c .page-sound .ensures ∙ ap (soundPage _ _ _ _) (sym (ended (c .before .before .before .before .before .before) .used))
 
 returns-3 : tie.Need-returns-3
@@ -82,7 +94,9 @@ find-in-requires c κs =
     filled _ _ _ (sound-rule _ _ _ _ _ (passed (c .before .page-sound .ensures) (c .if3 .left))) (rw e (page-lent _ _ _ _))
 
 returns-4 : tie.Need-returns-4
-returns-4 c = find-sound (led (c .before .before .before .before .before)) (passed (sound (c .before .before)) (c .before .if3 .left)) (c .find-in .ensures)
+returns-4 c =
+    find-sound (led (c .before .before .before .before .before)) (passed (sound (c .before .before)) (c .before .if3 .left))
+    (c .find-in .ensures)
 
 pub find-under-spec : {M : Type 1} → statement M
 find-under-spec =

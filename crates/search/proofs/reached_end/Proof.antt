@@ -37,7 +37,9 @@ agreed : (c : tie.Else1)
     → let w = c .before .before .before .before in
     let a = w .before .before .before .before .args in
     w .before .read-one .result .key / 2 ^ (width (a .f) - a .t .used) ≡ a .key / 2 ^ (width (a .f) - a .t .used)
-agreed c = alike _ _ _ _ (low-is (c .before .before .before .before)) (c .before .before .prefix .ensures) (c .before .prefix2 .ensures) (c .if1 .left)
+agreed c =
+    alike _ _ _ _ (low-is (c .before .before .before .before)) (c .before .before .prefix .ensures) (c .before .prefix2 .ensures)
+    (c .if1 .left)
 
 bits : (c : tie.After-own-entry)
     → let a = c .before .before .before .before .before .before .before .before .before .args in

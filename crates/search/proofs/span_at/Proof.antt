@@ -80,8 +80,8 @@ returns-2 c =
     let p = c .before .before .before in
     let q = p .before .before .before in
     c .no-span2 .ensures
-    ∙ at-unsound _ _ _ _ _ _ (ok (q .before .before .before)) (q .before .before .own-entry .ensures) (q .before .if2 .taken) (q .page-at .ensures)
-    (p .own-place .ensures) (not-true _ (c .before .if3 .taken))
+    ∙ at-unsound _ _ _ _ _ _ (ok (q .before .before .before)) (q .before .before .own-entry .ensures) (q .before .if2 .taken)
+    (q .page-at .ensures) (p .own-place .ensures) (not-true _ (c .before .if3 .taken))
 
 returns-3 : tie.Need-returns-3
 returns-3 c =
@@ -100,7 +100,8 @@ reach-behind-requires c κs =
 
 reached-span-requires : tie.Need-reached-span-requires
 reached-span-requires c κs =
-    let p = c .before .before .before .before .before .before .pre in (p .0, λ q. ap (λ r. r .ok) (reached c) ∙ p .3 q, p .1, ok (c .before .before .before))
+    let p = c .before .before .before .before .before .before .pre in
+    (p .0, λ q. ap (λ r. r .ok) (reached c) ∙ p .3 q, p .1, ok (c .before .before .before))
 
 returns-4 : tie.Need-returns-4
 returns-4 c = c .reached-span .ensures ∙ reached (c .before)
