@@ -11,8 +11,6 @@ use native.Mathlib.Nat.{zero-add}
 use native.Mathlib.Omega.{arith}
 use lib.ListN.{length, take}
 use Rattle.lists.specs.Lists.{All}
-use Rattle.lists.specs.Keyed.{Sorted}
-use Rattle.lists.proofs.ListLaws.{all-map}
 use Rattle.store.specs.declared.Format.{Format}
 use Rattle.store.specs.declared.Head.{Head}
 use Rattle.store.specs.declared.Item.{Item}
@@ -28,7 +26,7 @@ use Rattle.scan.specs.Summary.{done, sumFrom}
 use Rattle.scan.proofs.RangeLaws.{lead, lead-true, next-lead, outcome, same-count, outcome-also}
 use Rattle.scan.proofs.RangeLaws.{from-damaged, from-nothing, from-passed, from-full, from-last, from-on}
 use Rattle.scan.proofs.RangeLaws.{adds-passed, adds-last, adds-on}
-use Rattle.scan.proofs.FillLaws.{firsts-on, firsts-none, firsts-lost}
+use Rattle.scan.proofs.FillLaws.{none-first, firsts-on, firsts-none, firsts-lost}
 
 abbrev pub keyAfter : ℕ → List Item → ℕ
 keyAfter k [] = k
@@ -46,10 +44,6 @@ strict-on : (its : List Item) → strictAfter true its ≡ true
 strict-on [] = refl
 strict-on (it ∷ its) = refl
 
-pub key-after-append : (k : ℕ) (xs ys : List Item) → keyAfter k (xs ++ ys) ≡ keyAfter (keyAfter k xs) ys
-key-after-append k [] ys = refl
-key-after-append k (x ∷ xs) ys = key-after-append (x .key) xs ys
-
 after-upto : (k n : ℕ) (its : List Item) → All (λ it. it .key ≤ n) its → k ≤ n → keyAfter k its ≤ n
 after-upto k n [] a l = l
 after-upto k n (it ∷ its) a l = after-upto (it .key) n its (a .1) (a .0)
@@ -66,35 +60,12 @@ module _ (f : Format) (s : List ℕ) (h : Head) where
   Follows strict k [] = Unit {0}
   Follows strict k (it ∷ its) = (nextOf f s h strict k ≡ Record it) × Follows true (it .key) its
 
-  -- a chain is the one chain after the other
+  -- a chain begins with a chain
   pub chain-front : (strict : Bool) (k : ℕ) (xs ys : List Item) → Follows strict k (xs ++ ys) → Follows strict k xs
   chain-front strict k [] ys c = tt
   chain-front strict k (x ∷ xs) ys c = (c .0, chain-front true (x .key) xs ys (c .1))
 
-  pub chain-rest : (strict : Bool) (k : ℕ) (xs ys : List Item) → Follows strict k (xs ++ ys)
-      → Follows (strictAfter strict xs) (keyAfter k xs) ys
-  chain-rest strict k [] ys c = c
-  chain-rest strict k (x ∷ xs) ys c = let d = chain-rest true (x .key) xs ys (c .1) in rw (strict-on xs) at d
-
-  -- the keys are above k and rise
-  pub chain-above : (strict : Bool) (k : ℕ) (its : List Item) → Follows strict k its → All (λ it. k + 1 ≤ it .key + lead strict) its
-  chain-above strict k [] c = tt
-  chain-above strict k (it ∷ its) c =
-      let l = next-lead f s h strict k it (c .0) in (
-        l,
-        all-map (λ x. it .key + 1 ≤ x .key + lead true) (λ x. k + 1 ≤ x .key + lead strict) its (λ x g. omega (arith, lead-true, g))
-            (chain-above true (it .key) its (c .1)),
-      )
-
-  pub chain-over : (k : ℕ) (its : List Item) → Follows true k its → All (λ it. k < it .key) its
-  chain-over k its c =
-      all-map (λ x. k + 1 ≤ x .key + lead true) (λ x. k < x .key) its (λ x g. omega (arith, lead-true, g)) (chain-above true k its c)
-
-  pub chain-rises : (strict : Bool) (k : ℕ) (its : List Item) → Follows strict k its → Sorted (λ (it : Item). it .key) its
-  chain-rises strict k [] c = tt
-  chain-rises strict k (it ∷ its) c = (chain-over (it .key) its (c .1), chain-rises true (it .key) its (c .1))
-
-  -- so they are few
+  -- each key is above the one before, so they are few
   pub chain-few : (strict : Bool) (k : ℕ) (its : List Item) → Follows strict k its → k + length its ≤ keyAfter k its + lead strict
   chain-few strict k [] c = omega arith
   chain-few strict k (it ∷ its) c =
@@ -104,10 +75,6 @@ module _ (f : Format) (s : List ℕ) (h : Head) where
   chain-few-on k its c = omega (arith, lead-true, chain-few true k its c)
 
   -- and the last is the largest
-  pub chain-upto : (strict : Bool) (k n : ℕ) (its : List Item) → Follows strict k its → keyAfter k its ≤ n → All (λ it. it .key ≤ n) its
-  chain-upto strict k n [] c l = tt
-  chain-upto strict k n (it ∷ its) c l = (omega (arith, chain-few-on (it .key) its (c .1)), chain-upto true (it .key) n its (c .1) l)
-
   pub chain-below : (strict : Bool) (k n : ℕ) (its : List Item) → Follows strict k its → keyAfter k its < n → All (λ it. it .key < n) its
   chain-below strict k n [] c l = tt
   chain-below strict k n (it ∷ its) c l = (omega (arith, chain-few-on (it .key) its (c .1)), chain-below true (it .key) n its (c .1) l)
@@ -313,10 +280,6 @@ module _ (f : Format) (s : List ℕ) (h : Head) where
         ∙ same-count (y .key) (omega arith)
 
   -- the first records of a walk
-  none-first : (strict : Bool) (k : ℕ) → firsts f s h strict k 0 ≡ []
-  unfolding firsts
-  none-first strict k = refl
-
   pub firsts-over : (strict : Bool) (k m : ℕ) (its : List Item) → Follows strict k its
       → firsts f s h strict k (length its + m) ≡ its ++ firsts f s h (strictAfter strict its) (keyAfter k its) m
   firsts-over strict k m [] c = ap (firsts f s h strict k) (zero-add m)
@@ -333,7 +296,7 @@ module _ (f : Format) (s : List ℕ) (h : Head) where
 
   pub firsts-part : (strict : Bool) (k n : ℕ) (its : List Item) → Follows strict k its → n ≤ length its
       → firsts f s h strict k n ≡ take n its
-  firsts-part strict k zero its c l = none-first strict k
+  firsts-part strict k zero its c l = none-first f s h strict k
   firsts-part strict k (suc n) [] c l = absurd (omega arith)
   firsts-part strict k (suc n) (it ∷ its) c l =
       firsts-on f s h strict k n it (c .0) ∙ ap (λ (x : List Item). it ∷ x) (firsts-part true (it .key) n its (c .1) (omega arith))

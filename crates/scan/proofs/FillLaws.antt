@@ -28,8 +28,12 @@ use Rattle.page.proofs.Flat.{plot-words, length-flat}
 use Rattle.scan.specs.Range.{Ranged, also, rangeFrom, ranged, listing, firsts, rangeRefused, listed, rangeOf}
 use Rattle.scan.proofs.RangeLaws.{from-damaged, from-nothing, from-passed, from-full, from-last, from-on}
 
--- the records of a range are the first ones of its walk
+-- the first records of a walk, one by one
 module _ (f : Format) (s : List ℕ) (h : Head) where
+  pub none-first : (strict : Bool) (k : ℕ) → firsts f s h strict k 0 ≡ []
+  unfolding firsts
+  none-first strict k = refl
+
   pub firsts-on : (strict : Bool) (k n : ℕ) (it : Item) → nextOf f s h strict k ≡ Record it
       → firsts f s h strict k (suc n) ≡ it ∷ firsts f s h true (it .key) n
   unfolding firsts
@@ -98,23 +102,19 @@ module _ (f : Format) (s : List ℕ) (h : Head) (high : ℕ) where
       rangeFrom f s h high fuel strict k room .ok ≡ true
       → firsts f s h strict k (length (rangeFrom f s h high fuel strict k room .items)) ≡ rangeFrom f s h high fuel strict k room .items
 
-  none-read : (strict : Bool) (k : ℕ) → firsts f s h strict k 0 ≡ []
-  unfolding firsts
-  none-read strict k = refl
-
   same-on : (fuel : ℕ) (strict : Bool) (k room : ℕ) (it : Item) → nextOf f s h strict k ≡ Record it
       → Same fuel true (it .key) (room - 1) → Same (suc fuel) strict k room
   unfolding also
   same-on fuel strict k room it e ih =
       elim (decLt high (it .key)) [
-        | yes p ↦ rw (from-passed f s h high fuel strict k room it e p) (λ o. none-read strict k)
+        | yes p ↦ rw (from-passed f s h high fuel strict k room it e p) (λ o. none-first f s h strict k)
         | no p ↦
             elim (ℕ-discrete room 0) [
-              | yes q ↦ rw (from-full f s h high fuel strict k room it e (omega arith) q) (λ o. none-read strict k)
+              | yes q ↦ rw (from-full f s h high fuel strict k room it e (omega arith) q) (λ o. none-first f s h strict k)
               | no q ↦
                   elim (ℕ-discrete (it .key) high) [
                     | yes r ↦ rw (from-last f s h high fuel strict k room it e q r)
-                        (λ o. firsts-on f s h strict k 0 it e ∙ ap (λ (l : List Item). it ∷ l) (none-read true (it .key)))
+                        (λ o. firsts-on f s h strict k 0 it e ∙ ap (λ (l : List Item). it ∷ l) (none-first f s h true (it .key)))
                     | no r ↦ rw (from-on f s h high fuel strict k room it e q (omega arith))
                         (λ o. firsts-on f s h strict k (length (rangeFrom f s h high fuel true (it .key) (room - 1) .items)) it e
                         ∙ ap (λ (l : List Item). it ∷ l) (ih o))
@@ -125,12 +125,12 @@ module _ (f : Format) (s : List ℕ) (h : Head) (high : ℕ) where
   same-step : (fuel : ℕ) (strict : Bool) (k room : ℕ) (a : Sought) → nextOf f s h strict k ≡ a
       → ((it : Item) → Same fuel true (it .key) (room - 1)) → Same (suc fuel) strict k room
   same-step fuel strict k room Damaged e ih = rw (from-damaged f s h high fuel strict k room e) (λ o. absurd (false≢true o))
-  same-step fuel strict k room Nothing e ih = rw (from-nothing f s h high fuel strict k room e) (λ o. none-read strict k)
+  same-step fuel strict k room Nothing e ih = rw (from-nothing f s h high fuel strict k room e) (λ o. none-first f s h strict k)
   same-step fuel strict k room (Record it) e ih = same-on fuel strict k room it e (ih it)
 
   pub range-firsts : (fuel : ℕ) (strict : Bool) (k room : ℕ) → Same fuel strict k room
   unfolding rangeFrom
-  range-firsts zero strict k room o = none-read strict k
+  range-firsts zero strict k room o = none-first f s h strict k
   range-firsts (suc fuel) strict k room o =
       same-step fuel strict k room (nextOf f s h strict k) refl (λ it. range-firsts fuel true (it .key) (room - 1)) o
 

@@ -21,19 +21,17 @@ use Rattle.store.specs.Head.{pageAt, pageStart, pageWords, Under}
 use Rattle.store.proofs.Places.{under-limits}
 use Rattle.page.specs.Page.{flat}
 use Rattle.page.proofs.Laws.{rule-facts}
-use Rattle.search.specs.declared.Span.{Span}
-use Rattle.search.specs.declared.Terminal.{Terminal}
 use Rattle.search.specs.Descent.{terminal}
 use Rattle.search.specs.Span.{spanOf, Rows}
 use Rattle.search.proofs.BlockLaws.{under-levels}
-use Rattle.search.proofs.SpanLaws.{terminal-whole}
 use Rattle.scan.specs.declared.Walk.{Walk}
 use Rattle.scan.specs.Walk.{walkOf, lastKey, Standing, rows}
 use Rattle.scan.specs.Range.{firsts}
 use Rattle.scan.proofs.FillLaws.{part-room, length-filled}
 use Rattle.scan.proofs.ChainLaws.{Follows, keyAfter, firsts-chain, firsts-part}
 use Rattle.scan.proofs.WalkLaws.{rowsOf, length-rows, rows-take, fill-rows, rows-lie}
-use Rattle.scan.proofs.WalkLaws.{span-full, span-held, span-follows, span-last, span-length}
+use Rattle.scan.proofs.WalkLaws.{span-full, span-follows, span-last, span-length}
+use Rattle.scan.proofs.StandLaws.{Walking, walk-rows, standing}
 
 -- elements below a bound: also those of a part
 take-below : (M n : ℕ) (xs : List ℕ) → 0 < M → ((j : ℕ) → getD xs j 0 < M) → (j : ℕ) → getD (take n xs) j 0 < M
@@ -138,23 +136,12 @@ module _ {f : Format} {s : List ℕ} {h : Head} {low n : ℕ} {start out : List 
   found : (w .span .ok ≡ true) × (w .span .page ≡ 0 → ⊥)
   found = rw is (found-some (x .under) (x .strict) (x .key) left (x .some) (x .full))
 
-  pub fill-held : Rows f s h (w .span)
-  fill-held =
-      span-held f s h (x .strict) (x .key) (levels .0) (levels .1) (w .span) is (found .0) (found .1)
-
-  fill-stands : Standing f s h w
+  walking : Walking f s h w
   unfolding walkOf
-  fill-stands =
-      let t : w .terminal ≡ terminal f s h (x .key) = ap (λ (v : Walk). v .terminal) (x .walk) in
-      let k : w .key ≡ x .key = ap (λ (v : Walk). v .key) (x .walk) in
-      record {
-        rows = fill-held;
-        terminal = t ∙ ap (terminal f s h) (sym k);
-        ok =
-            ap (λ (t : Terminal). t .ok) t
-            ∙ terminal-whole f s h (x .strict) (x .key)
-            (sym (ap (λ (r : Span). r .ok) is) ∙ found .0);
-      }
+  walking = rw (x .walk) (record { strict = x .strict; span = refl; terminal = refl })
+
+  pub fill-held : Rows f s h (w .span)
+  fill-held = walk-rows (x .under) walking (found .1)
 
   -- its records follow one another, up to its last key
   follows : Follows f s h (x .strict) (x .key) whole
@@ -291,4 +278,4 @@ module _ {f : Format} {s : List ℕ} {h : Head} {low n : ℕ} {start out : List 
         -- with the words of a record as the code has them
         pub fill-turns : {k : ℕ} → k ≡ words f → Turned f s h low n start new (at + k * m) (left - m) w
         fill-turns e =
-            rw e (record { under = x .under; stands = fill-stands; same-length = new-length; ends = ends; goes = fill-goes; again = again })
+            rw e (record { under = x .under; stands = standing (x .under) walking (found .1); same-length = new-length; ends = ends; goes = fill-goes; again = again })

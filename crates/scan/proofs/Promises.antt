@@ -102,7 +102,9 @@ module _ (f : Format) (s : List ℕ) (h : Head) (high : ℕ) where
         | yes p ↦ rw (from-passed f s h high fuel strict k room it e p) (runs-none strict k room ended refl (omega arith) (λ n. absurd (n refl)))
         | no p ↦
             elim (ℕ-discrete room 0) [
-              | yes q ↦ rw (from-full f s h high fuel strict k room it e (omega arith) q) (runs-none strict k room _ refl (omega arith) (λ n. (omega arith, q)))
+              | yes q ↦
+                  rw (from-full f s h high fuel strict k room it e (omega arith) q)
+                  (runs-none strict k room _ refl (omega arith) (λ n. (omega arith, q)))
               | no q ↦
                   elim (ℕ-discrete (it .key) high) [
                     | yes r ↦

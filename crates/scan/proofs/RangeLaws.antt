@@ -108,43 +108,28 @@ module _ (f : Format) (s : List ℕ) (h : Head) (high : ℕ) where
       from-on q p = rw (e, le-ltb high (it .key) (omega arith), ne-eqb room 0 q, ne-eqb (it .key) high (λ z. omega arith), rangeFrom)
 
   -- one turn of a summary
-  module _ (today fuel : ℕ) (strict : Bool) (k : ℕ) (t : Totals) where
-    sum-nothing : nextOf f s h strict k ≡ Nothing → sumFrom f s h high today (suc fuel) strict k t ≡ done t
-    unfolding sumFrom
-    sum-nothing e = rw (e, sumFrom)
-
-    module _ (it : Item) (e : nextOf f s h strict k ≡ Record it) where
-      sum-passed : high < it .key → sumFrom f s h high today (suc fuel) strict k t ≡ done t
-      unfolding sumFrom
-      sum-passed p = rw (e, lt-ltb high (it .key) p, sumFrom)
-
-      sum-last : it .key ≡ high → sumFrom f s h high today (suc fuel) strict k t ≡ done (updatedOf t it today)
-      unfolding sumFrom
-      sum-last p = rw (e, le-ltb high (it .key) (omega arith), eq-eqb (it .key) high p, sumFrom)
-
-      sum-on : it .key < high
-          → sumFrom f s h high today (suc fuel) strict k t ≡ sumFrom f s h high today fuel true (it .key) (updatedOf t it today)
-      unfolding sumFrom
-      sum-on p = rw (e, le-ltb high (it .key) (omega arith), ne-eqb (it .key) high (λ z. omega arith), sumFrom)
-
   module _ (today fuel : ℕ) (strict : Bool) (k : ℕ) (t : Totals) (left : 1 ≤ fuel) where
     sum-suc : sumFrom f s h high today fuel strict k t ≡ sumFrom f s h high today (suc (fuel - 1)) strict k t
     sum-suc = let e : fuel ≡ suc (fuel - 1) = omega arith in ap (λ (i : ℕ). sumFrom f s h high today i strict k t) e
 
-    pub adds-nothing : nextOf f s h strict k ≡ Nothing → sumFrom f s h high today fuel strict k t ≡ record { ok = true; totals = t }
-    adds-nothing e = sum-suc ∙ sum-nothing today (fuel - 1) strict k t e
+    pub adds-nothing : nextOf f s h strict k ≡ Nothing → sumFrom f s h high today fuel strict k t ≡ done t
+    unfolding sumFrom
+    adds-nothing e = sum-suc ∙ rw (e, sumFrom)
 
     pub adds-damaged : nextOf f s h strict k ≡ Damaged → sumFrom f s h high today fuel strict k t ≡ damage
     unfolding sumFrom
     adds-damaged e = sum-suc ∙ rw (e, sumFrom)
 
     module _ (it : Item) (e : nextOf f s h strict k ≡ Record it) where
-      pub adds-passed : high < it .key → sumFrom f s h high today fuel strict k t ≡ record { ok = true; totals = t }
-      adds-passed p = sum-suc ∙ sum-passed today (fuel - 1) strict k t it e p
+      pub adds-passed : high < it .key → sumFrom f s h high today fuel strict k t ≡ done t
+      unfolding sumFrom
+      adds-passed p = sum-suc ∙ rw (e, lt-ltb high (it .key) p, sumFrom)
 
-      pub adds-last : it .key ≡ high → sumFrom f s h high today fuel strict k t ≡ record { ok = true; totals = updatedOf t it today }
-      adds-last p = sum-suc ∙ sum-last today (fuel - 1) strict k t it e p
+      pub adds-last : it .key ≡ high → sumFrom f s h high today fuel strict k t ≡ done (updatedOf t it today)
+      unfolding sumFrom
+      adds-last p = sum-suc ∙ rw (e, le-ltb high (it .key) (omega arith), eq-eqb (it .key) high p, sumFrom)
 
       pub adds-on : it .key < high
           → sumFrom f s h high today fuel strict k t ≡ sumFrom f s h high today (fuel - 1) true (it .key) (updatedOf t it today)
-      adds-on p = sum-suc ∙ sum-on today (fuel - 1) strict k t it e p
+      unfolding sumFrom
+      adds-on p = sum-suc ∙ rw (e, le-ltb high (it .key) (omega arith), ne-eqb (it .key) high (λ z. omega arith), sumFrom)

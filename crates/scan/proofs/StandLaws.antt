@@ -1,23 +1,22 @@
 -- Where a walk by next stands: w is the walk from its key, above it or at or above it.
 --   Walking f s h w == that
+--   Fuelled .. w    == the same, with turns enough for every key up to high
 --   Summed .. w t, Listed .. w n == the totals t, or n records, are those before the walk w, and what is left from it on makes the whole
 use mathlib.Core.Path.{_≡_, refl, sym, ap, _∙_}
 use mathlib.Core.Bool.{Bool, true, false}
 use mathlib.Core.List.{List}
-use Prim.Native.Nat.{ℕ, _+_, _-_, _*_, _^_, _≤_, _<_}
+use Prim.Native.Nat.{ℕ, _+_, _-_, _^_, _≤_, _<_}
 use native.Mathlib.Omega.{arith}
 use lib.ListN.{length}
 use Rattle.lists.specs.Lists.{All}
 use Rattle.store.specs.declared.Format.{Format}
 use Rattle.store.specs.declared.Head.{Head}
 use Rattle.store.specs.declared.Item.{Item}
-use Rattle.store.specs.Format.{words}
 use Rattle.store.specs.Head.{pageAt, Under}
 use Rattle.store.proofs.Places.{under-limits}
 use Rattle.page.specs.Page.{count, keyAt, Filled}
 use Rattle.page.proofs.Inside.{page-lent, filled}
 use Rattle.page.proofs.Laws.{rule-facts}
-use Rattle.search.specs.declared.Span.{Span}
 use Rattle.search.specs.Descent.{terminal}
 use Rattle.search.specs.Span.{spanOf, Rows}
 use Rattle.search.proofs.BlockLaws.{under-levels}
@@ -71,10 +70,7 @@ module _ {f : Format} {s : List ℕ} {h : Head} (u : Under f s h) {w : Walk} (a 
   rows-some =
       omega (arith, length-rows f (pageAt f s h (w .span .page)) (w .span .from) (w .span .to - w .span .from), walk-rows .some)
 
-  -- the span and its records up to top
-  span-is : w .span ≡ spanOf f s h (a .strict) (w .key)
-  span-is = a .span
-
+  -- its records up to top
   module _ (top : ℕ) where
     abbrev taken : List Item
     taken = upTo f s h (w .span) top
@@ -82,14 +78,14 @@ module _ {f : Format} {s : List ℕ} {h : Head} (u : Under f s h) {w : Walk} (a 
     pub taken-follows : Follows f s h (a .strict) (w .key) taken
     taken-follows =
         let l = under-levels u in
-        let c = span-follows f s h (a .strict) (w .key) (l .0) (l .1) (w .span) span-is walk-ok some in
-        let e = span-ends f s h (a .strict) (w .key) (l .0) (l .1) (w .span) span-is walk-ok some top in
+        let c = span-follows f s h (a .strict) (w .key) (l .0) (l .1) (w .span) (a .span) walk-ok some in
+        let e = span-ends f s h (a .strict) (w .key) (l .0) (l .1) (w .span) (a .span) walk-ok some top in
         chain-front f s h (a .strict) (w .key) taken _ (rw (ends-cut e) at c)
 
     pub taken-upto : All (λ it. it .key ≤ top) taken
     taken-upto =
         let l = under-levels u in
-        ends-upto (span-ends f s h (a .strict) (w .key) (l .0) (l .1) (w .span) span-is walk-ok some top)
+        ends-upto (span-ends f s h (a .strict) (w .key) (l .0) (l .1) (w .span) (a .span) walk-ok some top)
 
     pub taken-length : length taken ≡ stopOf f s h (w .span) top - w .span .from
     taken-length = length-rows f (pageAt f s h (w .span .page)) (w .span .from) _
@@ -98,8 +94,11 @@ module _ {f : Format} {s : List ℕ} {h : Head} (u : Under f s h) {w : Walk} (a 
     pub taken-all : lastKey f s h (w .span) < top → taken ≡ rowsOf f s h (w .span)
     taken-all q =
         let l = under-levels u in
-        let e = span-ends f s h (a .strict) (w .key) (l .0) (l .1) (w .span) span-is walk-ok some top in
+        let e = span-ends f s h (a .strict) (w .key) (l .0) (l .1) (w .span) (a .span) walk-ok some top in
         ap (λ (x : ℕ). rows f (pageAt f s h (w .span .page)) (w .span .from) (x - w .span .from)) (e .all (omega arith))
+
+    pub taken-count : lastKey f s h (w .span) < top → stopOf f s h (w .span) top - w .span .from ≡ length (rowsOf f s h (w .span))
+    taken-count q = sym taken-length ∙ ap length (taken-all q)
 
 -- a walk with turns enough for every key up to high
 module _ (f : Format) (s : List ℕ) (h : Head) (low high : ℕ) where
@@ -124,17 +123,17 @@ module _ (f : Format) (s : List ℕ) (h : Head) (low high : ℕ) where
     abbrev last : ℕ
     last = lastKey f s h (w .span)
 
-    pub short : length (upTo f s h (w .span) high) < g .fuel
-    short =
-        chain-fits f s h strict (w .key) high (g .fuel) (upTo f s h (w .span) high) (taken-follows u (g .at) some high) (taken-upto u (g .at) some high) (g .upto)
-        (g .left)
+    -- turns enough for every key up to high are more than the records up to high
+    turns : (fuel : ℕ) → high + 1 + lead strict ≤ w .key + fuel → length (upTo f s h (w .span) high) < fuel
+    turns fuel =
+        chain-fits f s h strict (w .key) high fuel (upTo f s h (w .span) high) (taken-follows u (g .at) some high)
+        (taken-upto u (g .at) some high) (g .upto)
 
-    -- few records have been taken, so few are
+    short : length (upTo f s h (w .span) high) < g .fuel
+    short = turns (g .fuel) (g .left)
+
     few : length (upTo f s h (w .span) high) < high + 1 + lead strict - w .key
-    few =
-        let o = g .upto in
-        chain-fits f s h strict (w .key) high (high + 1 + lead strict - w .key) (upTo f s h (w .span) high) (taken-follows u (g .at) some high)
-        (taken-upto u (g .at) some high) (g .upto) (omega arith)
+    few = let o = g .upto in turns (high + 1 + lead strict - w .key) (omega arith)
 
     module _ (q : last < high) where
       enough : length passed < g .fuel
@@ -275,8 +274,7 @@ module _ (f : Format) (s : List ℕ) (h : Head) (low high : ℕ) where
       list-next q r p =
           let l = under-levels u in
           let e = taken-length u (c .at) some high in
-          let m = ap length (taken-all u (c .at) some high q) in
-          let y : stopOf f s h (w .span) high - w .span .from ≡ length (rowsOf f s h (w .span)) = sym e ∙ m in
+          let y = taken-count u (c .at) some high q in
           let z : room - (n + length (rowsOf f s h (w .span))) ≡ room - n - length (rowsOf f s h (w .span)) = omega arith in
           rw p
           record {

@@ -1,15 +1,12 @@
--- Summary and range, one law for each way out.
+-- Summary, one law for each way out.
 use mathlib.Core.Path.{_≡_, ap, _∙_}
 use mathlib.Core.Bool.{true, false}
 use mathlib.Core.List.{List}
 use Prim.Native.Nat.{ℕ, _≤_, _<_}
-use native.Mathlib.Omega.{arith}
 use borrow.Author.Tests.{lt-ltb, le-ltb}
 use Rattle.plot.specs.Plot.{lawfulDay}
 use Rattle.store.specs.declared.Format.{Format}
-use Rattle.store.specs.declared.Head.{Head}
 use Rattle.store.specs.Head.{headOf, headRule}
-use Rattle.store.proofs.HeadLaws.{head-facts, levels-within}
 use Rattle.scan.specs.declared.Summing.{Summing}
 use Rattle.scan.specs.Summary.{summaryRefused, summed, summingReply, summaryOf}
 

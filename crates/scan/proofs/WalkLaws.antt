@@ -11,11 +11,11 @@ use native.Mathlib.Nat.{add-zero, mod-eq-of-lt}
 use native.Mathlib.Omega.{arith}
 use lib.ListN.{length, getD, take, drop}
 use lib.Seq.{take-add, take-at, drop-drop, drop-cons}
-use borrow.Author.Tests.{le-leb, lt-leb, ne-eqb, eq-eqb, ltb-true, ltb-false}
+use borrow.Author.Tests.{le-leb, lt-leb, ltb-true, ltb-false}
 use Rattle.lists.specs.Lists.{All, tab, part}
 use Rattle.lists.proofs.Cases.{by-cases}
 use Rattle.lists.proofs.Parts.{part-in}
-use Rattle.lists.proofs.Tests.{length-tab, getD-tab, tab-ext, tab-append, all-tab}
+use Rattle.lists.proofs.Tests.{length-tab, tab-ext, tab-append, all-tab}
 use Rattle.store.specs.declared.Format.{Format}
 use Rattle.store.specs.declared.Format.the-variants.{Plots}
 use Rattle.store.specs.declared.Head.{Head}
@@ -26,7 +26,7 @@ use Rattle.store.proofs.Places.{under-limits}
 use Rattle.page.specs.Page.{count, itemAt, keyAt, itemWords, flat, pageRule, above, firstAbove}
 use Rattle.page.proofs.Flat.{length-flat, flat-append}
 use Rattle.page.proofs.Inside.{page-lent, filled, record-inside}
-use Rattle.page.proofs.Laws.{rule-facts, first-facts}
+use Rattle.page.proofs.Laws.{rises, rule-facts, first-facts}
 use Rattle.totals.specs.declared.Totals.{Totals}
 use Rattle.totals.specs.Totals.{updatedOf, totalsOf}
 use Rattle.search.specs.declared.Span.{Span}
@@ -34,7 +34,7 @@ use Rattle.search.specs.declared.Sought.{Sought}
 use Rattle.search.specs.declared.Sought.the-variants.{Record, Nothing, Damaged}
 use Rattle.search.specs.Next.{nextOf}
 use Rattle.search.specs.Span.{spanOf, soughtOf, Rows}
-use Rattle.search.proofs.SpanLaws.{GoesOn, next-span, span-rows}
+use Rattle.search.proofs.SpanLaws.{sought-not, sought-none, sought-first, GoesOn, next-span, span-rows}
 use Rattle.scan.specs.Walk.{lastKey, endOf, rows}
 use Rattle.scan.specs.Range.{rangeFrom, listingOf, firsts}
 use Rattle.scan.specs.Summary.{done, sumFrom, summingOf}
@@ -167,7 +167,6 @@ pub record Ends (f : Format) (pg : List ℕ) (from to high e : ℕ) : Type 0 whe
   pub upto : (i : ℕ) → from ≤ i → i < e → keyAt f pg i ≤ high
   pub past : (i : ℕ) → e ≤ i → i < to → high < keyAt f pg i
   pub all : keyAt f pg (to - 1) ≤ high → e ≡ to
-  pub short : high < keyAt f pg (to - 1) → e < to
 
 module _ (f : Format) (pg : List ℕ) (from to high : ℕ) where
   pub end-all : keyAt f pg (to - 1) ≤ high → endOf f pg from to high ≡ to
@@ -195,23 +194,14 @@ module _ (f : Format) (pg : List ℕ) (from to high : ℕ) where
 
 module _ (f : Format) (C : ℕ) (pg : List ℕ) (from to high : ℕ) (rule : pageRule f C pg ≡ true) (some : from < to)
     (within : to ≤ count pg) where
-  -- the keys rise
-  rises : (i j : ℕ) → i ≤ j → j < to → keyAt f pg i ≤ keyAt f pg j
-  rises i j p q =
-      elim (decLt i j) [
-        | yes l ↦ omega (arith, rule-facts f C pg rule .order .ascends i j l (omega arith))
-        | no l ↦ let e : i ≡ j = omega arith in omega (arith, ap (keyAt f pg) e)
-      ]
-
   ends-all : keyAt f pg (to - 1) ≤ high → Ends f pg from to high to
   ends-all h =
       record {
         low = omega arith;
         within = omega arith;
-        upto = λ i p q. omega (arith, rises i (to - 1) (omega arith) (omega arith));
+        upto = λ i p q. omega (arith, rises f pg (count pg) (rule-facts f C pg rule .order) i (to - 1) (omega arith) (omega arith));
         past = λ i p q. absurd (omega arith);
         all = λ z. refl;
-        short = λ z. absurd (omega arith);
       }
 
   ends-part : high < keyAt f pg (to - 1) → Ends f pg from to high (max from (firstAbove f pg true high))
@@ -223,9 +213,8 @@ module _ (f : Format) (C : ℕ) (pg : List ℕ) (from to high : ℕ) (rule : pag
         low = omega arith;
         within = omega arith;
         upto = λ i p q. low-before f pg from to high i (omega arith);
-        past = λ i p q. omega (arith, g, rises a i (omega arith) q);
+        past = λ i p q. omega (arith, g, rises f pg (count pg) (rule-facts f C pg rule .order) a i (omega arith) (omega arith));
         all = λ z. absurd (omega arith);
-        short = λ z. omega arith;
       }
 
   pub end-splits : Ends f pg from to high (endOf f pg from to high)
@@ -278,30 +267,16 @@ module _ (f : Format) (s : List ℕ) (h : Head) where
         rows-follow pg n (i + 1) true (keyAt f pg i) (λ q. on i (omega arith) (omega arith)) (λ j p q. on j (omega arith) (omega arith)),
       )
 
-  -- the first record of a span, by its kinds
-  sought-lost : (ok : Bool) (p i j : ℕ) → ok ≡ false → soughtOf f s h (record { ok = ok; page = p; from = i; to = j }) ≡ Damaged
-  unfolding soughtOf
-  sought-lost ok p i j o = rw (o, soughtOf)
-
-  sought-none : (ok : Bool) (p i j : ℕ) → ok ≡ true → p ≡ 0 → soughtOf f s h (record { ok = ok; page = p; from = i; to = j }) ≡ Nothing
-  unfolding soughtOf
-  sought-none ok p i j o z = rw (o, eq-eqb p 0 z, soughtOf)
-
-  sought-first : (ok : Bool) (p i j : ℕ) → ok ≡ true → (p ≡ 0 → ⊥)
-      → soughtOf f s h (record { ok = ok; page = p; from = i; to = j }) ≡ Record (itemAt f (pageAt f s h p) i)
-  unfolding soughtOf
-  sought-first ok p i j o z = rw (o, ne-eqb p 0 z, soughtOf)
-
   -- the span r from the key k on
   module _ (strict : Bool) (k : ℕ) (low : 1 ≤ h .levels) (high : h .levels ≤ 32) (r : Span) (is : r ≡ spanOf f s h strict k) where
     next-is : nextOf f s h strict k ≡ soughtOf f s h r
     next-is = next-span f s h strict k low high ∙ ap (soughtOf f s h) (sym is)
 
     pub span-lost : r .ok ≡ false → nextOf f s h strict k ≡ Damaged
-    span-lost o = next-is ∙ sought-lost (r .ok) (r .page) (r .from) (r .to) o
+    span-lost o = next-is ∙ sym (sought-not f s h r o)
 
     pub span-none : r .ok ≡ true → r .page ≡ 0 → nextOf f s h strict k ≡ Nothing
-    span-none o z = next-is ∙ sought-none (r .ok) (r .page) (r .from) (r .to) o z
+    span-none o z = next-is ∙ sym (sought-none f s h r o z)
 
     -- where next gives a record, the span has some
     pub span-some : (it : Item) → nextOf f s h strict k ≡ Record it → (r .ok ≡ true) × (r .page ≡ 0 → ⊥)
@@ -323,7 +298,7 @@ module _ (f : Format) (s : List ℕ) (h : Head) where
       span-held = sound .0
 
       pub span-first : nextOf f s h strict k ≡ Record (itemAt f (pageAt f s h (r .page)) (r .from))
-      span-first = next-is ∙ sought-first (r .ok) (r .page) (r .from) (r .to) o some
+      span-first = next-is ∙ sym (sought-first f s h r o some refl refl)
 
       -- its records follow one another
       pub span-follows : Follows f s h strict k (rowsOf r)

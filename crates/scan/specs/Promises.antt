@@ -5,8 +5,8 @@
 --   SummaryCount   == a summary counts at most as many records as there are keys to high
 --   RangeInside    == a range writes only the words of its records
 --   SummaryKey     == the key that a summary names is not above high
---   RangeRefusals  == a rangeRefused range replies zeros and leaves the output
---   SummaryRefusals == a rangeRefused summary replies zeros
+--   RangeRefusals  == a refused range replies zeros and leaves the output
+--   SummaryRefusals == a refused summary replies zeros
 use mathlib.Core.Path.{_≡_}
 use mathlib.Core.List.{List}
 use Prim.Native.Nat.{ℕ, _+_, _-_, _*_, _≤_, _<_}

@@ -1,6 +1,5 @@
 -- From the last record of the span: its terminal node, then the span after it.
-use borrow.Author.Needs.{needs}
-use mathlib.Core.Path.{_≡_, refl, sym, ap, _∙_}
+use mathlib.Core.Path.{refl}
 use native.Mathlib.Omega.{arith}
 use Rattle.search.proofs.SpanLaws.{terminal-whole}
 use Rattle.scan.specs.Walk.{walkOf}

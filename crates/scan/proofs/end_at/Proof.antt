@@ -1,7 +1,7 @@
 -- All of them, or up to the first record above high.
 use borrow.Author.Needs.{needs}
-use mathlib.Core.Path.{_≡_, sym, ap, _∙_}
-use Prim.Native.Nat.{_-_, _≤_, _<_}
+use mathlib.Core.Path.{_≡_, sym, ap}
+use Prim.Native.Nat.{_-_, _<_}
 use native.Mathlib.Omega.{arith}
 use Rattle.page.specs.Page.{keyAt}
 use Rattle.page.proofs.Inside.{record-inside}
@@ -23,7 +23,8 @@ returns : tie.Need-returns
 returns c =
     let s = c .before .before .before .before in
     let a = s .args in
-    (sym (end-all (a .f) (a .page .now) (a .from) (a .to) (a .high) (rw (last (c .before .before)) at (c .if1 .taken))), omega (arith, s .pre .1), omega arith)
+    let e = end-all (a .f) (a .page .now) (a .from) (a .to) (a .high) (rw (last (c .before .before)) at (c .if1 .taken)) in
+    (sym e, omega (arith, s .pre .1), omega arith)
 
 -- the last key is above high
 over : (c : tie.Else1) → let a = c .before .before .before .before .args in a .high < keyAt (a .f) (a .page .now) (a .to - 1)

@@ -5,7 +5,6 @@ use Prim.Native.Nat.{ℕ, _+_, _-_, _*_, _^_, _≤_, _<_}
 use native.Mathlib.Omega.{arith}
 use lib.ListN.{length, getD, take, drop}
 use Rattle.store.specs.Format.{words}
-use Rattle.store.proofs.Places.{under-limits}
 use Rattle.search.proofs.BlockLaws.{under-page}
 use Rattle.scan.proofs.FillWalk.{Filling, Turned, found-some, fill-none, fill-begins, fill-held, fill-length, fill-room, fill-asks}
 use Rattle.scan.proofs.FillWalk.{fill-turns}

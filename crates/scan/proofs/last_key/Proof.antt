@@ -1,11 +1,8 @@
 -- The last record lies in the page.
-use borrow.Author.Needs.{needs}
-use mathlib.Core.Path.{_≡_, ap, _∙_}
-use mathlib.Core.List.{List}
-use Prim.Native.Nat.{ℕ, _+_, _-_, _*_, _≤_, _<_}
+use mathlib.Core.Path.{ap, _∙_}
+use Prim.Native.Nat.{_-_}
 use native.Mathlib.Omega.{arith}
 use Rattle.page.specs.Page.{keyAt}
-use Rattle.store.proofs.Places.{under-limits}
 use Rattle.search.proofs.BlockLaws.{under-page}
 use Rattle.scan.proofs.WalkLaws.{rows-lie}
 use Rattle.scan.proofs.last_key.Statement.{statement}

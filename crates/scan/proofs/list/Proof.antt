@@ -4,16 +4,14 @@ use mathlib.Core.Path.{_≡_, ap, _∙_}
 use mathlib.Core.Bool.{true, true≢false}
 use Prim.Native.Nat.{_+_, _-_, _^_, _≤_, _<_}
 use native.Mathlib.Omega.{arith}
-use lib.ListN.{length}
-use Rattle.store.proofs.Places.{under-limits}
-use Rattle.page.specs.Page.{keyAt}
+use Rattle.page.specs.Page.{count, keyAt, Filled}
 use Rattle.page.proofs.Inside.{record-inside}
 use Rattle.search.proofs.BlockLaws.{under-page}
 use Rattle.scan.specs.Walk.{lastKey, endOf}
 use Rattle.scan.specs.Range.{listingOf}
-use Rattle.scan.proofs.WalkLaws.{rowsOf, stopOf}
+use Rattle.scan.proofs.WalkLaws.{stopOf}
 use Rattle.scan.proofs.StandLaws.{Listed, standing, walk-rows, end-asked, list-first, list-done, list-full, list-over, list-next}
-use Rattle.scan.proofs.StandLaws.{rows-some, taken-length, taken-all, listing-most}
+use Rattle.scan.proofs.StandLaws.{rows-some, taken-count, listing-most}
 use Rattle.scan.proofs.list.Statement.{statement}
 use Rattle.scan.proofs.list.Tie as tie
 
@@ -36,14 +34,25 @@ page-at-requires c κs = under-page (c .before .before .before .before .before .
 some : (c : tie.Then1 Inv-loop μ-loop) → c .before .before .loop .w .span .page ≡ 0 → ⊥
 some c = c .if1 .taken
 
-end-at-requires : tie.Need-end-at-requires Inv-loop μ-loop
-end-at-requires c κs =
+-- they lie in the page
+asked : (c : tie.After-page-at Inv-loop μ-loop)
+    → let l = c .before .before .before .before in
+    let r = l .loop .w .span in
+    let pg = c .page-at .result .now in
+    Filled (l .before .before .before .args .f) pg × (r .from < r .to) × (r .to ≤ count pg) × (r .to < 2 ^ 32)
+asked c =
     let i = c .before .before in
-    end-asked (c .before .before .before .before .before .before .before .pre .0) (i .before .before .loop .inv .ahead .at) (some i) (c .page-at .ensures)
+    let l = i .before .before in
+    end-asked (l .before .before .before .pre .0) (l .loop .inv .ahead .at) (some i) (c .page-at .ensures)
+
+end-at-requires : tie.Need-end-at-requires Inv-loop μ-loop
+end-at-requires c κs = asked c
 
 -- where those up to high end
 stops : (c : tie.After-end-at Inv-loop μ-loop)
-    → let a = c .before .before .before .before .before .before .before .before .args in c .end-at .result ≡ stopOf (a .f) (a .store .now) (a .head) (c .before .before .before .before .before .loop .w .span) (a .high)
+    → let l = c .before .before .before .before .before in
+    let a = l .before .before .before .args in
+    c .end-at .result ≡ stopOf (a .f) (a .store .now) (a .head) (l .loop .w .span) (a .high)
 stops c =
     let a = c .before .before .before .before .before .before .before .before .args in
     let r = c .before .before .before .before .before .loop .w .span in
@@ -60,23 +69,18 @@ sub-first c = c .before .before .before .before .before .before .before .loop .i
 
 -- the first record not written is one of them
 lies : (c : tie.After-struct-known3 Inv-loop μ-loop)
-    → let l = c .before .before .before .before .before .before .before .before .loop in l .w .span .from + (c .before .before .before .before .before .before .before .before .before .before .before .args .room - l .count) < l .w .span .to
+    → let l = c .before .before .before .before .before .before .before .before in
+    let r = l .loop .w .span in
+    r .from + (l .before .before .before .args .room - l .loop .count) < r .to
 lies c = omega (arith, c .before .if2 .taken, c .before .before .before .end-at .ensures .2)
 
--- as an entry of its page
-asked : (c : tie.After-struct-known3 Inv-loop μ-loop) → let l = c .before .before .before .before .before .before .before .before .loop in l .w .span .to < 2 ^ 32
-asked c =
-    let i = c .before .before .before .before .before .before in
-    end-asked (c .before .before .before .before .before .before .before .before .before .before .before .pre .0) (i .before .before .loop .inv .ahead .at) (some i) (c .before .before .before .before .page-at .ensures) .3
-
 add-first : tie.Need-add-first Inv-loop μ-loop
-add-first c = omega (arith, lies c, asked c)
+add-first c = omega (arith, lies c, asked (c .before .before .before .before) .3)
 
 read-one-requires : tie.Need-read-one-requires Inv-loop μ-loop
 read-one-requires c κs =
-    let i = c .before .before .before .before .before .before in
-    let e = end-asked (c .before .before .before .before .before .before .before .before .before .before .before .pre .0) (i .before .before .loop .inv .ahead .at) (some i) (c .before .before .before .before .page-at .ensures) in
-    (omega (arith, lies c, asked c), record-inside (e .0) (omega (arith, lies c, e .2)))
+    let e = asked (c .before .before .before .before) in
+    (omega (arith, lies c, e .3), record-inside (e .0) (omega (arith, lies c, e .2)))
 
 returns : tie.Need-returns Inv-loop μ-loop
 returns c =
@@ -87,7 +91,8 @@ returns c =
     let at = l .w .span .from + (a .room - l .count) in (
       ap (λ k. record { ok = true; count = a .room; more = k })
           (ap (λ x. x .key) (c .read-one .ensures) ∙ ap (λ ws. keyAt (a .f) ws at) (c .before .before .before .before .before .page-at .ensures))
-          ∙ list-full _ _ _ _ _ (s .pre .0) _ (l .inv) (some i) (rw (stops (c .before .before .before .before)) at (c .before .before .if2 .taken)),
+          ∙ list-full _ _ _ _ _ (s .pre .0) _ (l .inv) (some i)
+          (rw (stops (c .before .before .before .before)) at (c .before .before .if2 .taken)),
       omega arith,
     )
 
@@ -114,7 +119,8 @@ returns-2 c =
     let s = c .before .before .before .before .before .before .before .before .before .before .before .before .before in
     let e = c .listing-of .ensures in (
       e ∙ ap (λ n. listingOf true (l .count + (n - l .w .span .from))) (stops (c .before .before .before .before .before))
-          ∙ list-over _ _ _ _ _ (s .pre .0) _ (l .inv) (some i) (rw (c .before .before .last-key .ensures) at (c .before .if3 .taken)) (room (c .before .before .before)),
+          ∙ list-over _ _ _ _ _ (s .pre .0) _ (l .inv) (some i) (rw (c .before .before .last-key .ensures) at (c .before .if3 .taken))
+          (room (c .before .before .before)),
       rw e
           (omega (
             arith,
@@ -132,7 +138,9 @@ advance-requires c κs =
 
 -- the last key is below high
 below : (c : tie.Else3 Inv-loop μ-loop)
-    → let a = c .before .before .before .before .before .before .before .before .before .before .before .before .args in lastKey (a .f) (a .store .now) (a .head) (c .before .before .before .before .before .before .before .before .before .loop .w .span) < a .high
+    → let l = c .before .before .before .before .before .before .before .before .before in
+    let a = l .before .before .before .args in
+    lastKey (a .f) (a .store .now) (a .head) (l .loop .w .span) < a .high
 below c = rw (c .before .last-key .ensures) at (c .if3 .left)
 
 loop-less : tie.Need-loop-less Inv-loop μ-loop
@@ -141,9 +149,14 @@ loop-less c =
     let l = i .before .before .loop in
     let u = c .before .before .before .before .before .before .before .before .before .before .before .before .before .pre .0 in
     let top = c .before .before .before .before .before .before .before .before .before .before .before .before .before .args .high in
-    let e = taken-length u (l .inv .ahead .at) (some i) top in
-    let m = ap length (taken-all u (l .inv .ahead .at) (some i) top (below (c .before))) in
-    omega (arith, stops (c .before .before .before .before .before), e, m, rows-some u (l .inv .ahead .at) (some i), room (c .before .before .before), l .inv .within)
+    omega (
+      arith,
+      stops (c .before .before .before .before .before),
+      taken-count u (l .inv .ahead .at) (some i) top (below (c .before)),
+      rows-some u (l .inv .ahead .at) (some i),
+      room (c .before .before .before),
+      l .inv .within,
+    )
 
 loop-again : tie.Need-loop-again Inv-loop μ-loop
 loop-again c =

@@ -2,11 +2,11 @@
 use borrow.Author.Needs.{needs}
 use mathlib.Core.Path.{_≡_, ap, ap₂, _∙_}
 use mathlib.Core.Bool.{true, true≢false}
-use Prim.Native.Nat.{_+_, _-_, _^_, _≤_, _<_}
+use Prim.Native.Nat.{_+_, _-_, _^_, _<_}
 use native.Mathlib.Omega.{arith}
 use lib.ListN.{length}
 use Rattle.store.proofs.Places.{under-limits}
-use Rattle.totals.specs.Totals.{Bounded, totalsOf}
+use Rattle.totals.specs.Totals.{totalsOf}
 use Rattle.scan.specs.Walk.{lastKey, endOf, rows}
 use Rattle.scan.specs.Summary.{summingOf}
 use Rattle.scan.proofs.WalkLaws.{rowsOf, stopOf, upTo}

@@ -1,10 +1,9 @@
 -- Keys that agree in the bits used before a terminal node have it in common.
 use borrow.Author.Needs.{needs}
-use mathlib.Core.Path.{_≡_, sym, ap, _∙_}
-use Prim.Native.Nat.{_-_, _/_, _^_, _≤_}
+use mathlib.Core.Path.{sym, ap, _∙_}
+use Prim.Native.Nat.{_-_}
 use native.Mathlib.Omega.{arith}
-use Rattle.store.specs.Format.{width}
-use Rattle.search.proofs.TerminalLaws.{terminal-same, terminal-used}
+use Rattle.search.proofs.TerminalLaws.{alike, terminal-same, terminal-used}
 use Rattle.scan.proofs.terminal_after.Statement.{statement}
 use Rattle.scan.proofs.terminal_after.Tie as tie
 
@@ -20,9 +19,9 @@ returns c =
     let s = c .before .before .before .before .before .before in
     let a = s .args in
     let e = s .pre .1 in
-    let w = c .before .before .before .before .width-of .ensures .0 in
-    let g = sym (c .before .before .prefix .ensures) ∙ c .if1 .taken ∙ c .before .prefix2 .ensures in
-    e ∙ sym (terminal-same (a .f) (a .store .now) (a .head) (a .other) (a .key) (sym (ap (λ x. x .ok) e) ∙ s .pre .2) (rw (w, e) at g))
+    let w = ap (λ x. x - a .t .used) (c .before .before .before .before .width-of .ensures .0) in
+    let g = alike _ _ _ _ w (c .before .before .prefix .ensures) (c .before .prefix2 .ensures) (c .if1 .taken) in
+    e ∙ sym (terminal-same (a .f) (a .store .now) (a .head) (a .other) (a .key) (sym (ap (λ x. x .ok) e) ∙ s .pre .2) (rw e at g))
 
 terminal-of-requires : tie.Need-terminal-of-requires
 terminal-of-requires c κs = let p = c .before .before .before .before .before .before .pre in (p .0, p .3)

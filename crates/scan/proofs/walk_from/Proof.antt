@@ -1,7 +1,5 @@
 -- The terminal node, then the span.
-use borrow.Author.Needs.{needs}
-use mathlib.Core.Path.{_≡_, refl, sym, ap, _∙_}
-use mathlib.Core.Bool.{true, false, false≢true}
+use mathlib.Core.Path.{refl}
 use Rattle.search.proofs.SpanLaws.{terminal-whole}
 use Rattle.scan.specs.Walk.{walkOf}
 use Rattle.scan.proofs.walk_from.Statement.{statement}
