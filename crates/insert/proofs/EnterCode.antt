@@ -32,7 +32,7 @@ use Rattle.search.specs.declared.Step.{Step}
 use Rattle.search.specs.declared.Descent.{Descent}
 use Rattle.search.specs.Descent.{noStep, noSteps, stepOf, lost, stepTaken, descend, descent}
 use Rattle.search.specs.Find.{soundPage}
-use Rattle.search.proofs.DescentLaws.{turn-lost}
+use Rattle.search.proofs.DescentLaws.{step-lost, step-on}
 use Rattle.insert.specs.declared.Plan.{Plan}
 use Rattle.insert.specs.declared.EnterAnswer.the-variants.{Entered}
 use Rattle.insert.specs.Enter.{Way, itemsIn, ownItems, ownPasses, neighbourOk, placeOf, pathIn, roundsFor, planOf, wayOf, undamaged}
@@ -42,7 +42,7 @@ use Rattle.insert.specs.Fine.{Carries, Fine, Turnable}
 use Rattle.insert.proofs.TestLaws.{items-null, items-some}
 use Rattle.insert.proofs.Refusals.{Passed, enter-9, enter-8, enter-10, enter-done}
 use Rattle.insert.proofs.InsideWay.{no-rounds, round-full, round-fine, rounds-fine}
-use Rattle.insert.proofs.InsideEnter.{descend-on, passed-fine}
+use Rattle.insert.proofs.InsideEnter.{passed-fine}
 
 -- the tests of a way down
 module _ (f : Format) (s : List ℕ) (h : Head) (k : ℕ) (d : Descent) where
@@ -194,10 +194,10 @@ descend-long f s h k zero n used steps e = e
 descend-long f s h k (suc l) n used steps e =
     by-cases (stepOf f s h k (suc l) n used .ok)
     (λ g.
-    ap (λ (d : Descent). length (d .steps)) (descend-on f s h k l n used steps g)
+    ap (λ (d : Descent). length (d .steps)) (sym (step-on f s h k l n used steps _ refl g))
     ∙ descend-long f s h k l _ _ _ (length-set steps l _ ∙ e))
     (λ g.
-    sym (ap (λ (d : Descent). length (d .steps)) (turn-lost f s h k (suc l) n used steps _ refl (omega arith) _ refl g))
+    sym (ap (λ (d : Descent). length (d .steps)) (step-lost f s h k l n used steps _ refl g))
     ∙ length-replicate 32 noStep)
 
 -- past the tests of the head and of the record

@@ -7,30 +7,28 @@ use mathlib.Core.List.{List, [], _∷_, map}
 use mathlib.Core.Logic.{inl, inr}
 use Prim.Native.Nat.{ℕ, zero, suc, _+_, _-_, _^_, _≤_, _<_}
 use native.Mathlib.Omega.{arith}
-use lib.Dec.{leb}
 use lib.ListN.{length, getD, take, drop, set, replicate, length-take, length-set, length-replicate, drop-of-length-le}
-use borrow.Author.Tests.{leb-true}
 use Rattle.lists.specs.Bits.{bits}
 use Rattle.lists.proofs.Cases.{bool-cases}
-use Rattle.lists.proofs.Tests.{and-true, and-three}
+use Rattle.lists.proofs.Tests.{and-three}
 use Rattle.represent.proofs.LabelLaws.{occ-at}
 use Rattle.store.specs.declared.Format.{Format}
 use Rattle.store.specs.declared.Head.{Head}
 use Rattle.store.specs.declared.Item.{Item}
 use Rattle.store.specs.Format.{width}
-use Rattle.store.specs.Head.{headOf, nodeStart}
+use Rattle.store.specs.Head.{headOf}
 use Rattle.store.proofs.HeadLaws.{head-facts, levels-within}
-use Rattle.node.specs.Node.{depthWord, nodeRule}
 use Rattle.page.proofs.Laws.{lawful-key}
 use Rattle.search.specs.declared.Visit.{Visit}
 use Rattle.search.specs.declared.Descent.{Descent}
-use Rattle.search.specs.Descent.{noStep, noSteps, entryVisit, stepOf, stepTaken, descend, descent}
+use Rattle.search.specs.Descent.{noStep, noSteps, entryVisit, stepOf, lost, stepTaken, descend, descent, ownVisit}
+use Rattle.search.proofs.DescentLaws.{sound-facts, visited-sound, seen-own, step-lost, step-on}
 use Rattle.represent.specs.Rep.{Sized}
 use Rattle.split.specs.Round.{Place}
 use Rattle.insert.specs.Enter.{ownPasses, neighbourOk, pathIn, wayOf, undamaged, found, startOf}
 use Rattle.insert.specs.Fine.{depths, sum}
 use Rattle.insert.proofs.Refusals.{Passed}
-use Rattle.insert.proofs.InsideEnter.{Visited, drop-set, tested, visit-is, descend-on, descend-lost, head-sized}
+use Rattle.insert.proofs.InsideEnter.{Visited, drop-set, head-sized}
 use Rattle.insert.proofs.FrameEnter.{start-off}
 use Rattle.insert.proofs.FoundPath.{Enters, Stands, Sound}
 use Rattle.insert.proofs.FoundNode.{rule-stands}
@@ -51,28 +49,26 @@ module _ (f : Format) (s : List ℕ) (k : ℕ) (ok : Sized f s) (fits : headOf s
     step-stands : (l n used : ℕ) → stepOf f s h k (suc l) n used .ok ≡ true → (1 ≤ n) × (n ≤ h .nodesTaken)
         → Stands f (h .theta) k s l n (bits (width f - used) k) (stepOf f s h k (suc l) n used .depth) used
         (stepOf f s h k (suc l) n used .pointer)
-    unfolding entryVisit
+    unfolding ownVisit entryVisit
     step-stands l n used e within =
-        let at : ℕ = nodeStart h n in
-        let w = and-true (nodeRule h s at (suc l)) (leb (used + depthWord s at) (width f)) (tested f s h k (suc l) n used e) in
-        let y =
-        rule-stands f s ok fits k l n used narrow within (w .0) (leb-true (used + depthWord s at) (width f) (w .1)) _ refl in
+        let w = sound-facts f s h (suc l) n used (visited-sound f s h k (suc l) n used e) in
+        let y = rule-stands f s ok fits k l n used narrow within (w .0) (w .1) _ refl in
         subst (λ (v : Visit). Stands f (h .theta) k s l n (bits (width f - used) k) (v .depth) used (v .pointer))
-        (sym (visit-is f s h k (suc l) n used e)) y
+        (sym (seen-own f s h k (suc l) n used refl e)) y
 
     descends : (top l n used : ℕ) (steps : List Visited) → length steps ≡ 32 → top ≤ 32 → l ≤ top
         → Path (map step (drop l (take top steps))) l n used → descend f s h k l n used steps .ok ≡ true
         → let d = descend f s h k l n used steps in
         Path (map step (take top (d .steps))) 0 (d .page) (d .used)
-    unfolding descend stepTaken
+    unfolding descend stepTaken lost
     descends top zero n used steps long small low y e = y
     descends top (suc l) n used steps long small low y e =
         elim (bool-cases (stepOf f s h k (suc l) n used .ok)) [
-          | inr g ↦ absurd (false≢true (sym (descend-lost f s h k l n used steps g) ∙ e))
+          | inr g ↦ absurd (false≢true (ap (λ (d : Descent). d .ok) (step-lost f s h k l n used steps _ refl g) ∙ e))
           | inl g ↦
               let v : Visit = stepOf f s h k (suc l) n used in
               let t : Visited = record { node = n; entry = v .entry; depth = v .depth; used = used } in
-              let on = descend-on f s h k l n used steps g in
+              let on = step-on f s h k l n used steps _ refl g in
               let above : List Place = map step (drop (suc l) (take top steps)) in
               let z = step-stands l n used g (y .2) in
               let path : map step (drop l (take top (set steps l t))) ≡ step t ∷ above =
@@ -85,9 +81,9 @@ module _ (f : Format) (s : List ℕ) (k : ℕ) (ok : Sized f s) (fits : headOf s
                 omega (arith, y .1),
                 subst (Enters s l) (z .next-is) (z .points _ (occ-at (z .trie) (bits (width f - used) k))),
               ) in
-              subst (λ d. Path (map step (take top (d .steps))) 0 (d .page) (d .used)) (sym on)
+              subst (λ d. Path (map step (take top (d .steps))) 0 (d .page) (d .used)) on
               (descends top l (v .pointer) (used + v .depth) (set steps l t) (length-set steps l t ∙ long) small (omega arith)
-              (subst (λ ps. Path ps l (v .pointer) (used + v .depth)) (sym path) new) (ap (λ (d : Descent). d .ok) (sym on) ∙ e))
+              (subst (λ ps. Path ps l (v .pointer) (used + v .depth)) (sym path) new) (ap (λ (d : Descent). d .ok) on ∙ e))
         ]
 
     descent-sound : 1 ≤ h .levels → h .levels ≤ 32 → (1 ≤ h .root) × (h .root ≤ h .nodesTaken) → descent f s h k .ok ≡ true

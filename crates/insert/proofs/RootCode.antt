@@ -15,7 +15,7 @@ use Rattle.store.proofs.HeadLaws.{sizes-limits}
 use Rattle.store.proofs.Places.{node-fits}
 use Rattle.store.specs.declared.Format.{Format}
 use Rattle.store.specs.declared.Head.{Head}
-use Rattle.store.specs.Head.{word, headOf, nodeWords, nodeStart}
+use Rattle.store.specs.Head.{headOf, nodeWords, nodeStart}
 use Rattle.represent.specs.Rep.{Sized}
 use Rattle.split.specs.Frame.{putNode, putHead}
 use Rattle.split.specs.Round.{newRoot, takeNode}

@@ -59,9 +59,6 @@ module _ (f : Format) (s : List ℕ) (h : Head) (k level n used : ℕ) where
         | inr a ↦ absurd (false≢true (ap (λ v. v .ok) (step-damaged a) ∙ e))
       ]
 
-  pub visited-rule : stepOf f s h k level n used .ok ≡ true → nodeRule h s (nodeStart h n) level ≡ true
-  visited-rule e = sound-facts f s h level n used (visited-sound e) .0
-
   -- the key's entry in a sound node
   module _ (e : soundNode f s h level n used ≡ true) where
     rule : nodeRule h s (nodeStart h n) level ≡ true
@@ -102,6 +99,9 @@ module _ (f : Format) (s : List ℕ) (h : Head) (k level n used : ℕ) {v : Visi
 
   pub seen-bits : used + v .depth ≤ width f
   seen-bits = rw seen-own (own-bits f s h k level n used seen)
+
+  pub seen-pointer : (pointerLow level ≤ v .pointer) × (v .pointer ≤ pointerHigh h level)
+  seen-pointer = rw seen-own (own-pointer f s h k level n used seen)
 
   pub seen-in-use : 1 < level → InUse h (v .pointer)
   seen-in-use up = rw seen-own (own-in-use f s h k level n used seen up)
