@@ -278,4 +278,12 @@ module _ {f : Format} {s : List ℕ} {h : Head} {low n : ℕ} {start out : List 
         -- with the words of a record as the code has them
         pub fill-turns : {k : ℕ} → k ≡ words f → Turned f s h low n start new (at + k * m) (left - m) w
         fill-turns e =
-            rw e (record { under = x .under; stands = standing (x .under) walking (found .1); same-length = new-length; ends = ends; goes = fill-goes; again = again })
+            rw e
+            record {
+              under = x .under;
+              stands = standing (x .under) walking (found .1);
+              same-length = new-length;
+              ends = ends;
+              goes = fill-goes;
+              again = again;
+            }
