@@ -5,6 +5,8 @@ use harness::words::put;
 use store::to_index;
 use store::widen;
 use store::word;
+ghost use mathlib.Core.Path.{_≡_};
+ghost use Prim.Native.Nat.{_+_, _-_, _^_, _≤_};
 
 pub struct Counts {
     pub levels: u32,
@@ -43,15 +45,16 @@ fn element(row: &[u32], words: u32, i: u32, j: usize) -> u32 {
 }
 
 // The keys of a stretch.
-pub fn width(depth: u32) -> u64 {
-    if depth > 32 {
-        return 1;
-    }
-    (1u64 << (32 - depth)) % 8589934592
+pub fn width(depth: u32) -> u64
+    ensures { λ r. ⌜ (r ≡ 2 ^ (32 - depth)) × (r ≤ 2 ^ 32) ⌝ }
+{
+    1u64 << words::difference(32, depth)
 }
 
-fn end_of(start: u32, depth: u32) -> u64 {
-    words::sum64(widen(start), width(depth))
+fn end_of(start: u32, depth: u32) -> u64
+    ensures { λ r. ⌜ r ≡ start + 2 ^ (32 - depth) ⌝ }
+{
+    widen(start) + width(depth)
 }
 
 // The shortest prefix of a stretch that starts at a key.

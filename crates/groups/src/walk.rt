@@ -5,31 +5,39 @@ use harness::words;
 use harness::words::put;
 use store::to_index;
 use store::word;
-ghost use Prim.Native.Nat.{_<_};
+ghost use mathlib.Core.Path.{_≡_};
+ghost use Prim.Native.Nat.{_+_, _*_, _%_, _^_, _≤_, _<_};
+ghost use Rattle.store.specs.Head.{word};
+ghost use Rattle.harness.specs.Blocks.{nodeBlock};
+ghost use Rattle.groups.specs.Walk.{samePage, twin, samePointer};
 
 const BACK: usize = 2;
 
 const FORWARD: usize = 3;
 
 fn local_depth(store: &[u32], at: usize, j: usize) -> u32
-    requires { ⌜ (at < 17179869184) × (j < 64) ⌝ }
+    requires { ⌜ (at < 2 ^ 34) × (j < 64) ⌝ }
+    ensures { λ r. ⌜ r ≡ word (now (store .entry)) (at + 4 + 2 * j) ⌝ }
 {
     word(store, at + 4 + 2 * j)
 }
 
 fn pointer(store: &[u32], at: usize, j: usize) -> u32
-    requires { ⌜ (at < 17179869184) × (j < 64) ⌝ }
+    requires { ⌜ (at < 2 ^ 34) × (j < 64) ⌝ }
+    ensures { λ r. ⌜ r ≡ word (now (store .entry)) (at + 5 + 2 * j) ⌝ }
 {
     word(store, at + 5 + 2 * j)
 }
 
-fn level_of(store: &[u32], n: u32) -> u32 {
+fn level_of(store: &[u32], n: u32) -> u32
+    ensures { λ r. ⌜ r ≡ word (now (store .entry)) (nodeBlock (now (store .entry)) n + 1) ⌝ }
+{
     word(store, blocks::node_at(store, n) + 1)
 }
 
 // The entries of a node: 2^H.
 fn entries(store: &[u32], n: u32) -> usize
-    ensures { λ r. ⌜ r < 65 ⌝ }
+    ensures { λ r. ⌜ (r ≡ 2 ^ (word (now (store .entry)) (nodeBlock (now (store .entry)) n) % 7)) × (r ≤ 64) ⌝ }
 {
     store::pow2(word(store, blocks::node_at(store, n)) % 7)
 }
@@ -75,29 +83,32 @@ fn pair_all(x: &[u32], y: &[u32], twins: &mut [u32], queue: &mut [u32]) {
 }
 
 // Whether two pages have the same words.
-fn same_page(x: &[u32], y: &[u32], p: u32, q: u32) -> bool {
+fn same_page(x: &[u32], y: &[u32], p: u32, q: u32) -> bool
+    ensures { λ r. ⌜ r ≡ samePage (now (x .entry)) (now (y .entry)) p q ⌝ }
+{
     let px = blocks::page_at(x, p);
     let py = blocks::page_at(y, q);
-    let n = to_index(blocks::page_words(x));
-    let mut i: usize = 0;
-    while i < n {
-        if word(x, px + i) != word(y, py + i) {
-            return false;
-        }
-        i += 1;
-    }
-    true
+    words::same(x, px, y, py, to_index(blocks::page_words(x)))
 }
 
-// Whether two pointers of a level point to the same: null, pages with the same words, or paired nodes.
-fn same_pointer(x: &[u32], y: &[u32], twins: &[u32], level: u32, p: u32, q: u32) -> bool {
+// Whether two numbers are of paired nodes, or both null.
+fn same_twin(twins: &[u32], p: u32, q: u32) -> bool
+    ensures { λ r. ⌜ r ≡ twin (now (twins .entry)) p q ⌝ }
+{
     if p == 0 || q == 0 {
         return p == q;
     }
-    if level == 1 {
+    word(twins, to_index(p)) == q
+}
+
+// Whether two pointers of a level point to the same: null, pages with the same words, or paired nodes.
+fn same_pointer(x: &[u32], y: &[u32], twins: &[u32], level: u32, p: u32, q: u32) -> bool
+    ensures { λ r. ⌜ r ≡ samePointer (now (x .entry)) (now (y .entry)) (now (twins .entry)) level p q ⌝ }
+{
+    if level == 1 && p != 0 && q != 0 {
         return same_page(x, y, p, q);
     }
-    word(twins, to_index(p)) == q
+    same_twin(twins, p, q)
 }
 
 // Whether the entries of two nodes are the same.
@@ -125,10 +136,7 @@ fn same_link(x: &[u32], y: &[u32], twins: &[u32], a: u32, b: u32, which: usize) 
 {
     let p = word(x, blocks::node_at(x, a) + which);
     let q = word(y, blocks::node_at(y, b) + which);
-    if p == 0 || q == 0 {
-        return p == q;
-    }
-    word(twins, to_index(p)) == q
+    same_twin(twins, p, q)
 }
 
 // Whether a node and its twin are the same.
@@ -173,7 +181,7 @@ fn apart(twins: &[u32], seen: &mut [u32], nodes: u32) -> bool {
 
 // Whether two heads are the same but for the root.
 fn same_head(x: &[u32], y: &[u32]) -> bool {
-    words::same(x, y, 0, 6) && word(x, 7) == word(y, 7)
+    words::same(x, 0, y, 0, 6) && word(x, 7) == word(y, 7)
 }
 
 // Whether two stores hold the same tree, block numbers apart.

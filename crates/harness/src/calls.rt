@@ -249,12 +249,8 @@ fn stayed(store: &[u32], kept: &[u32], out: &[u32], kind: u32, reply: Reply) -> 
     if !words::all_from(out, written(kind, reply), MARK) {
         return false;
     }
-    words::same(
-        store,
-        kept,
-        open_words(store, kind, reply.number),
-        store.len(),
-    )
+    let from = open_words(store, kind, reply.number);
+    words::same(store, from, kept, from, words::less(store.len(), from))
 }
 
 // Makes a call with a marked output, and looks at every word that it may not change. A store has at most 16,384 words here.

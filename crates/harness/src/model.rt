@@ -8,7 +8,8 @@ use plot::Record;
 use store::to_index;
 use store::widen;
 use store::word;
-ghost use Prim.Native.Nat.{_<_};
+ghost use mathlib.Core.Path.{_≡_};
+ghost use Prim.Native.Nat.{_+_, _*_};
 
 // A summary so far: count, total, earliest last day and its key.
 struct Sheet {
@@ -25,7 +26,7 @@ pub fn size(list: &[u32]) -> u32 {
 
 // The first word of a record.
 fn place(i: u32) -> usize
-    ensures { λ r. ⌜ r < 34359738368 ⌝ }
+    ensures { λ r. ⌜ r ≡ 1 + 4 * i ⌝ }
 {
     1 + 4 * to_index(i)
 }
@@ -245,13 +246,5 @@ pub fn reply_to(list: &[u32], call: Call) -> Reply {
 // Whether words are the list's records from low on.
 pub fn lists(list: &[u32], low: u32, out: &[u32], count: u32) -> bool {
     let from = place(rank(list, low));
-    let n = 4 * to_index(count);
-    let mut i: usize = 0;
-    while i < n {
-        if word(out, i) != word(list, from + i) {
-            return false;
-        }
-        i += 1;
-    }
-    true
+    words::same(out, 0, list, from, 4 * to_index(count))
 }

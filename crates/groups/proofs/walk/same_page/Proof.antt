@@ -1,14 +1,20 @@
--- The loop counts up to its end.
+-- Words alike, from where the pages stand.
 use borrow.Author.Needs.{needs}
-use Prim.Native.Nat.{_-_, _≤_}
+use mathlib.Core.Path.{_∙_}
+use Rattle.groups.proofs.Laws.{page-same}
 use Rattle.groups.proofs.walk.same_page.Statement.{statement}
 use Rattle.groups.proofs.walk.same_page.Tie as tie
 
-abbrev Inv-loop : tie.InvT-loop
-Inv-loop x y p q px py n i₀ i = 0 ≤ i
-
-abbrev μ-loop : tie.MeasureT-loop
-μ-loop x y p q px py n i₀ i = n - i
+returns : tie.Need-returns
+returns c =
+    let t = c .before in
+    let w = t .before in
+    let q = w .before in
+    let n = t .to-index .ensures .0 ∙ w .page-words .ensures .0 in
+    c .same .ensures ∙ page-same _ _ _ _ (q .before .page-at .ensures .0) (q .page-at2 .ensures .0) n
 
 pub same-page-spec : {M : Type 1} → statement M
-same-page-spec = tie.close (tie.spec Inv-loop μ-loop (λ c κs. search needs) (λ c κs. search needs) (λ c κs. search needs) (λ c κs. search needs) (λ c. search needs) (λ c. search needs) (λ c κs. search needs) (λ c. search needs) (λ c κs. search needs) (λ c. search needs) (λ c. search needs) (λ c. search needs) (λ c. search needs) (λ c. search needs))
+same-page-spec =
+    tie.close
+    (tie.spec (λ c κs. search needs) (λ c κs. search needs) (λ c κs. search needs) (λ c κs. search needs)
+    (λ c κs. search needs) returns)
