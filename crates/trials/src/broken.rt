@@ -23,7 +23,8 @@ const BUILD: [[u32; 10]; 6] = [
 
 // A word (kind of block: 1 head, 2 node, 3 page; number; offset) and its value; a key, and the answers of find, next, range and summary
 // from the key on, and enter. A row with key 0 goes with the next one.
-const HEADS: [[u32; 10]; 25] = [
+const RULES: [[u32; 10]; 99] = [
+    // The head.
     [1, 0, 0, 0, 1, 3, 3, 3, 3, 3],
     [1, 0, 0, 7, 1, 3, 3, 3, 3, 3],
     [1, 0, 1, 0, 1, 3, 3, 3, 3, 3],
@@ -49,9 +50,6 @@ const HEADS: [[u32; 10]; 25] = [
     [1, 0, 13, 1, 1, 3, 3, 3, 3, 3],
     [1, 0, 14, 1, 1, 3, 3, 3, 3, 3],
     [1, 0, 15, 1, 1, 3, 3, 3, 3, 3],
-];
-
-const NODES: [[u32; 10]; 38] = [
     // Nothing broken.
     [1, 0, 0, 2, 1, 0, 0, 0, 0, 8],
     [1, 0, 0, 2, 536870912, 0, 0, 0, 0, 8],
@@ -98,9 +96,6 @@ const NODES: [[u32; 10]; 38] = [
     [1, 0, 7, 3, 0, 0, 0, 0, 0, 0],
     [2, 3, 1, 3, 1, 9, 9, 9, 9, 9],
     [1, 0, 6, 1, 1, 9, 9, 9, 9, 9],
-];
-
-const PAGES: [[u32; 10]; 18] = [
     // Count.
     [3, 1, 0, 0, 1, 9, 9, 9, 9, 9],
     [3, 1, 0, 3, 1, 9, 9, 9, 9, 9],
@@ -125,9 +120,6 @@ const PAGES: [[u32; 10]; 18] = [
     [3, 3, 0, 0, 1, 0, 0, 9, 9, 8],
     [3, 3, 0, 0, 536870912, 0, 9, 9, 9, 8],
     [3, 1, 0, 0, 2147483648, 0, 0, 0, 0, 8],
-];
-
-const LINKS: [[u32; 10]; 18] = [
     // Node 2 does not link back: met through the link, not by a descent.
     [2, 2, 2, 3, 536870912, 0, 9, 9, 9, 9],
     [2, 2, 2, 0, 536870912, 0, 9, 9, 9, 9],
@@ -216,34 +208,12 @@ fn break_rows(sound: &[u32], store: &mut [u32], rows: &[[u32; 10]], tally: &mut 
     }
 }
 
-fn break_heads(sound: &[u32], store: &mut [u32], tally: &mut [u64]) {
-    let rows = HEADS;
-    break_rows(sound, store, &rows, tally);
-}
-
-fn break_nodes(sound: &[u32], store: &mut [u32], tally: &mut [u64]) {
-    let rows = NODES;
-    break_rows(sound, store, &rows, tally);
-}
-
-fn break_pages(sound: &[u32], store: &mut [u32], tally: &mut [u64]) {
-    let rows = PAGES;
-    break_rows(sound, store, &rows, tally);
-}
-
-fn break_links(sound: &[u32], store: &mut [u32], tally: &mut [u64]) {
-    let rows = LINKS;
-    break_rows(sound, store, &rows, tally);
-}
-
 fn break_rules(sound: &[u32], store: &mut [u32], tally: &mut [u64]) {
-    break_heads(sound, store, tally);
-    break_nodes(sound, store, tally);
-    break_pages(sound, store, tally);
-    break_links(sound, store, tally);
+    let rows = RULES;
+    break_rows(sound, store, &rows, tally);
 }
 
-// The path of six nodes, θ = 6: five with H = 6 use up 30 bits, and the last has the depth of the with all entries null.
+// The path of six nodes, θ = 6: five with H = 6 use up 30 bits; the last has the depth of the row, all its entries null.
 const DEEP: [[u32; 10]; 3] = [
     [0, 0, 0, 1, 5, 1, 1, 0, 0, 0],
     [0, 0, 0, 2, 5, 1, 1, 0, 0, 0],
