@@ -42,7 +42,7 @@ module _ (x l : ℕ) (p : 1 ≤ l) where
   two-steps =
       let q : ℕ = high / l in
       let e : l * (q * 65536) + (high % l * 65536 + x % 65536) ≡ x =
-          omega (arith, mul-assoc l q 65536, mod-add-div high l) in
+      omega (arith, mul-assoc l q 65536, mod-add-div high l) in
       sym (mul-add-div p (q * 65536) (high % l * 65536 + x % 65536)) ∙ ap (λ n. n / l) e
 
   pub quotient-below : x < l * 2 ^ 32 → x / l < 2 ^ 32

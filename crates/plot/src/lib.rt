@@ -103,7 +103,10 @@ pub fn amount_left(price: u32, lease: u32, last: u32, today: u32) -> u32
     requires { ⌜ lawfulTerm lease last ≡ true ⌝ }
     ensures { λ r. ⌜ r ≡ amount price lease last today ⌝ }
 {
-    quotient(wide_product(price, days_left(lease, last, today)), at_least_one(lease))
+    quotient(
+        wide_product(price, days_left(lease, last, today)),
+        at_least_one(lease),
+    )
 }
 
 // What is left of a price, where the term and today are within their limits.

@@ -10,8 +10,7 @@ use Rattle.plot.proofs.amount_left.Tie as tie
 quotient-requires : tie.Need-quotient-requires
 quotient-requires c κs =
     let s = c .before .before .before in
-    rw (c .at-least-one .ensures, c .before .wide-product .ensures, c .before .before .days-left .ensures)
-    (
+    rw (c .at-least-one .ensures, c .before .wide-product .ensures, c .before .before .days-left .ensures) (
       omega arith,
       divisor-fits _ _ (s .pre),
       share-fits (search needs) (omega (arith, days-within (s .args .lease) (s .args .last) (s .args .today))) (omega arith),

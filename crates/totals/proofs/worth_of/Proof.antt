@@ -7,8 +7,7 @@ use Rattle.totals.proofs.worth_of.Tie as tie
 
 returns : tie.Need-returns
 returns c =
-    let b = c .before .before in
-    (
+    let b = c .before .before in (
       c .widen .ensures .0 ∙ c .before .amount-left .ensures ∙ sym (worth-lawful (b .args .item) (b .args .today) (b .pre .0) (b .pre .1)),
       search needs,
     )
