@@ -53,7 +53,7 @@ uint32_t plots_range(const uint32_t *store, size_t store_words, uint32_t low, ui
 
 /* Sums the records with keys from low to high up, on a day 0 to 99,999.
  * Reply: the count, the total of the balances in pence, the key of the earliest last day among leased records (0: none; of equal days the
- * lowest key). Returns 0, 3, 7, 6 or 9. */
+ * highest price, of equal prices the lowest key). Returns 0, 3, 7, 6 or 9. */
 uint32_t plots_summary(const uint32_t *store, size_t store_words, uint32_t low, uint32_t high, uint32_t today, uint64_t *reply,
                        size_t reply_words);
 

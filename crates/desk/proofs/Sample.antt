@@ -17,7 +17,7 @@ use Rattle.node.specs.Node.{runRule, goodRuns, linkRule, pointerLow, pointerHig
 use Rattle.page.specs.Page.{itemAt, itemWords, flat, lawfulItem, inTurn, goesOn, checkedOf, ordered, pageRule, agrees, above, firstFrom}
 use Rattle.page.specs.Page.{firstAbove}
 use Rattle.page.specs.Schema.{unlawful}
-use Rattle.totals.specs.Totals.{noTotals, worth, earlier, updatedOf}
+use Rattle.totals.specs.Totals.{noTotals, worth, ahead, earlier, updatedOf}
 use Rattle.search.specs.Descent.{noSteps, damagedNode, entryVisit, stepOf, lost, stepTaken, descend, descent}
 use Rattle.search.specs.Find.{soundPage, inPage, findOf, checked, findReply}
 use Rattle.search.specs.Next.{firstPointer, runAfter, visitAfter, linked, onward, hop, reach, visited, behind, afterOwn}
@@ -43,7 +43,7 @@ unfolding bytes request response transcript served bit replaced part tab every g
     lawful daysLeft amount balanceReply logBelow levelBound rounds pagesAt bump bumpCost width words zeros headOf nodeWords pageWords size nodeStart
     pageStart pageAt lawfulSizes lawfulCounts headRule setUpWords setUp failing runRule goodRuns linkRule pointerLow
     pointerHigh nodeRule entryNumber itemAt itemWords flat lawfulItem inTurn goesOn checkedOf ordered pageRule agrees above firstFrom
-    firstAbove unlawful noTotals worth earlier updatedOf noSteps damagedNode entryVisit stepOf lost stepTaken descend descent soundPage
+    firstAbove unlawful noTotals worth ahead earlier updatedOf noSteps damagedNode entryVisit stepOf lost stepTaken descend descent soundPage
     inPage findOf checked findReply firstPointer runAfter visitAfter linked onward hop reach visited behind afterOwn fromDescent nextOf damage sumFrom
     summed summaryOf kept block overRun halves halveRun double grow half lower upper aim top blocks.linked putNode putPage putHead
     putPagesTaken putBoth grown splitNode relink splitFirst newRoot climb round aimAt pageImage nodeImage nodeAt itemsIn ownItems ownPasses

@@ -11,11 +11,12 @@ use store::word;
 ghost use mathlib.Core.Path.{_≡_};
 ghost use Prim.Native.Nat.{_+_, _*_};
 
-// A summary so far: count, total, earliest last day and its key.
+// A summary so far: count, total, and of the record that ends first the last day, the price and the key.
 struct Sheet {
     count: u64,
     total: u64,
     last: u32,
+    price: u32,
     key: u32,
 }
 
@@ -194,13 +195,22 @@ fn range(list: &[u32], low: u32, high: u32, room: u32) -> Reply {
     calls::listing(fit, more.key)
 }
 
+// Whether a record ends before the first so far, or with it at a higher price.
+fn ahead(sheet: Sheet, record: Record) -> bool {
+    if record.last == sheet.last {
+        return record.price > sheet.price;
+    }
+    record.last < sheet.last
+}
+
 // A sheet with one record more.
 fn added(sheet: Sheet, record: Record, today: u32) -> Sheet {
-    let earlier = record.lease > 0 && (sheet.key == 0 || record.last < sheet.last);
+    let earlier = record.lease > 0 && (sheet.key == 0 || ahead(sheet, record));
     Sheet {
         count: words::sum64(sheet.count, 1),
         total: words::sum64(sheet.total, balance(record, today)),
         last: if earlier { record.last } else { sheet.last },
+        price: if earlier { record.price } else { sheet.price },
         key: if earlier { record.key } else { sheet.key },
     }
 }
@@ -212,6 +222,7 @@ fn sheet_over(list: &[u32], low: u32, high: u32, today: u32) -> Sheet {
         count: 0,
         total: 0,
         last: 0,
+        price: 0,
         key: 0,
     };
     while i < end {

@@ -6,11 +6,14 @@
 --   rangedIn S low high n == a range with room for n records
 --   leased its            == the leased ones of the records its
 --   earliestDay its       == the earliest last day of records, 0 for none
+--   ending its            == those of the records its that end on it
+--   highestPrice its      == the highest price of records, 0 for none
+--   dearest its           == those of the records its that have it
 --   earliestKey its       == the key of the earliest last day among the leased ones, 0 if none is
 --   findIn, nextIn, rangeIn, summaryIn == the replies
 use mathlib.Core.Bool.{Bool, true, false, not, _&&_}
 use mathlib.Core.List.{List, [], _∷_}
-use Prim.Native.Nat.{ℕ, _/_, min}
+use Prim.Native.Nat.{ℕ, _/_, min, max}
 use lib.Dec.{leb, ltb, eqb}
 use lib.ListN.{length, take, drop}
 use Rattle.lists.specs.Lists.{filter}
@@ -70,10 +73,20 @@ earliestDay [] = 0
 earliestDay (it ∷ []) = it .last
 earliestDay (it ∷ x ∷ its) = min (it .last) (earliestDay (x ∷ its))
 
--- "the key of the earliest last day among leased records .., 0 if none. Equal last days: the lowest key." (The list ascends: the first of
--- them.)
+unfoldable pub ending : List Item → List Item
+ending its = filter (λ it. eqb (it .last) (earliestDay its)) its
+
+unfoldable pub highestPrice : List Item → ℕ
+highestPrice [] = 0
+highestPrice (it ∷ its) = max (it .price) (highestPrice its)
+
+unfoldable pub dearest : List Item → List Item
+dearest its = filter (λ it. eqb (it .price) (highestPrice its)) its
+
+-- "the key of the earliest last day among leased records .., 0 if none." M-100: "among equal last days .. that of the highest price, and
+-- the lowest key only where prices are equal too." (The list ascends: the first of them.)
 unfoldable pub earliestKey : List Item → ℕ
-earliestKey its = firstKey (filter (λ it. eqb (it .last) (earliestDay (leased its))) (leased its))
+earliestKey its = firstKey (dearest (ending (leased its)))
 
 -- "count, total balance (64 bits), and the key of the earliest last day"
 unfoldable pub summaryIn : List Item → ℕ → ℕ → ℕ → SummaryReply

@@ -30,7 +30,7 @@ use Rattle.readings.specs.Listing.{firstOf, findIn, nextIn, within, rang
 use Rattle.readings.specs.Clauses.{Clauses}
 
 -- "count, total balance (64 bits), and the key of the earliest last day among leased records (lease days above 0, ended ones too), 0 if
--- none. Equal last days: the lowest key."
+-- none." M-100: "among equal last days .. that of the highest price, and the lowest key only where prices are equal too."
 pub record Summarised (its : List Item) (today : ℕ) (a : SummaryReply) : Type 0 where
   pub number : a .number ≡ 0
   pub count : a .count ≡ length its

@@ -3,19 +3,20 @@
 use mathlib.Core.Bool.{true, false, _&&_, true≢false}
 use mathlib.Core.Path.{_≡_, refl, sym, ap, _∙_}
 use mathlib.Core.List.{List, [], _∷_}
-use mathlib.Core.Logic.{inl, inr}
+use mathlib.Core.Logic.{_⊎_, inl, inr}
 use Prim.Native.Nat.{ℕ, _+_, _-_, _*_, _^_, _≤_, _<_}
 use native.Mathlib.Omega.{arith}
-use lib.Dec.{ltb}
+use lib.Dec.{eqb, ltb}
 use lib.ListN.{length}
-use borrow.Author.Tests.{eq-eqb, ne-eqb, ltb-true, ltb-false}
+use borrow.Author.Tests.{eq-eqb, ne-eqb, eqb-true, ltb-true, ltb-false}
 use Rattle.lists.proofs.Cases.{bool-cases}
+use Rattle.lists.proofs.Tests.{and-true, or-cases, or-none}
 use Rattle.plot.specs.Plot.{lawfulDay, lawfulTerm}
 use Rattle.plot.specs.Money.{amount, balanceReply}
 use Rattle.plot.proofs.Promises.{balance-within-price}
 use Rattle.store.specs.declared.Item.{Item}
 use Rattle.totals.specs.declared.Totals.{Totals}
-use Rattle.totals.specs.Totals.{noTotals, worth, earlier, updatedOf, totalsOf, Room, Bounded}
+use Rattle.totals.specs.Totals.{noTotals, worth, ahead, earlier, updatedOf, totalsOf, Room, Bounded}
 use Rattle.totals.specs.Promises.{worths}
 
 -- The worth of a record with a lawful term is its amount; any record's is at most its price.
@@ -35,6 +36,35 @@ worth-within it today =
       | inr e ↦ rw (e, worth, balanceReply) (omega arith)
     ]
 
+-- Of two records' last days and prices: those of the first are ahead.
+abbrev pub Ahead : ℕ → ℕ → ℕ → ℕ → Type 0
+Ahead day price day′ price′ = (day < day′) ⊎ ((day ≡ day′) × (price′ < price))
+
+-- A record is not ahead of a day and a price.
+pub record Behind (it : Item) (day price : ℕ) : Type 0 where
+  pub later : day ≤ it .last
+  pub cheaper : it .last ≡ day → it .price ≤ price
+
+module _ (it : Item) (day price : ℕ) where
+  pub ahead-is : ahead it day price ≡ true → Ahead (it .last) (it .price) day price
+  unfolding ahead
+  ahead-is e =
+      elim (or-cases (ltb (it .last) day) _ e) [
+        | inl h ↦ inl (ltb-true (it .last) day h)
+        | inr h ↦
+            let a = and-true (eqb (it .last) day) (ltb price (it .price)) h in
+            inr (eqb-true (it .last) day (a .0), ltb-true price (it .price) (a .1))
+      ]
+
+  pub ahead-not : ahead it day price ≡ false → Behind it day price
+  unfolding ahead
+  ahead-not e =
+      let a = or-none (ltb (it .last) day) _ e in
+      record {
+        later = ltb-false (it .last) day (a .0);
+        cheaper = λ d. ltb-false price (it .price) (rw (eq-eqb (it .last) day d) at (a .1));
+      }
+
 -- The tests of `earlier`, one after another.
 module _ (t : Totals) (it : Item) where
   pub earlier-perpetual : it .lease ≡ 0 → earlier t it ≡ false
@@ -45,41 +75,39 @@ module _ (t : Totals) (it : Item) where
   unfolding earlier
   earlier-first h k = rw (ne-eqb (it .lease) 0 h, eq-eqb (t .key) 0 k)
 
-  pub earlier-test : (it .lease ≡ 0 → ⊥) → (t .key ≡ 0 → ⊥) → earlier t it ≡ ltb (it .last) (t .last)
+  pub earlier-test : (it .lease ≡ 0 → ⊥) → (t .key ≡ 0 → ⊥) → earlier t it ≡ ahead it (t .last) (t .price)
   unfolding earlier
   earlier-test h k = rw (ne-eqb (it .lease) 0 h, ne-eqb (t .key) 0 k)
 
   pub earlier-leased : earlier t it ≡ true → it .lease ≡ 0 → ⊥
   earlier-leased e h = true≢false (sym e ∙ earlier-perpetual h)
 
-  pub earlier-before : earlier t it ≡ true → (t .key ≡ 0 → ⊥) → it .last < t .last
-  earlier-before e k = ltb-true (it .last) (t .last) (sym (earlier-test (earlier-leased e) k) ∙ e)
+  pub earlier-before : earlier t it ≡ true → (t .key ≡ 0 → ⊥) → Ahead (it .last) (it .price) (t .last) (t .price)
+  earlier-before e k = ahead-is it (t .last) (t .price) (sym (earlier-test (earlier-leased e) k) ∙ e)
 
-  pub later-after : earlier t it ≡ false → (it .lease ≡ 0 → ⊥) → (t .key ≡ 0 → ⊥) × (t .last ≤ it .last)
+  pub later-after : earlier t it ≡ false → (it .lease ≡ 0 → ⊥) → (t .key ≡ 0 → ⊥) × Behind it (t .last) (t .price)
   later-after e l =
       let k : t .key ≡ 0 → ⊥ = λ h. true≢false (sym (earlier-first l h) ∙ e) in
-      (k, ltb-false (it .last) (t .last) (sym (earlier-test l k) ∙ e))
+      (k, ahead-not it (t .last) (t .price) (sym (earlier-test l k) ∙ e))
 
 -- One record more.
 module _ (t : Totals) (it : Item) (today : ℕ) where
-  pub updated-taken :
-      earlier t it ≡ true →
-      updatedOf t it today ≡ record { count = t .count + 1; total = t .total + worth it today; key = it .key; last = it .last }
+  abbrev taken : Totals
+  taken = record { count = t .count + 1; total = t .total + worth it today; key = it .key; last = it .last; price = it .price }
+
+  abbrev kept : Totals
+  kept = record { count = t .count + 1; total = t .total + worth it today; key = t .key; last = t .last; price = t .price }
+
+  pub updated-taken : earlier t it ≡ true → updatedOf t it today ≡ taken
   unfolding updatedOf
   updated-taken e = rw (e, updatedOf)
 
-  pub updated-kept :
-      earlier t it ≡ false →
-      updatedOf t it today ≡ record { count = t .count + 1; total = t .total + worth it today; key = t .key; last = t .last }
+  pub updated-kept : earlier t it ≡ false → updatedOf t it today ≡ kept
   unfolding updatedOf
   updated-kept e = rw (e, updatedOf)
 
   -- what both cases have in common
-  updated-both :
-      {n : ℕ} (f : Totals → ℕ) →
-      f (record { count = t .count + 1; total = t .total + worth it today; key = it .key; last = it .last }) ≡ n →
-      f (record { count = t .count + 1; total = t .total + worth it today; key = t .key; last = t .last }) ≡ n →
-      f (updatedOf t it today) ≡ n
+  updated-both : {n : ℕ} (f : Totals → ℕ) → f taken ≡ n → f kept ≡ n → f (updatedOf t it today) ≡ n
   updated-both f p q = elim (bool-cases (earlier t it)) [ inl e ↦ ap f (updated-taken e) ∙ p | inr e ↦ ap f (updated-kept e) ∙ q ]
 
   pub updated-count : updatedOf t it today .count ≡ t .count + 1

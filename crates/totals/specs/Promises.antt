@@ -3,7 +3,8 @@
 --   worths its today == the balances of the records its together
 --   CountAndTotal    == of a list of records the count is its length and the total its balances together
 --   NoneLeased its k == no record of its is leased, and k is 0
---   Earliest its k   == k is the key of the leased record of its with the earliest last day; of several, that with the lowest key
+--   Earliest its k   == k is the key of the leased record of its with the earliest last day; of several, that with the highest price, and
+--                       of several again that with the lowest key
 --   EarliestOf its k == the one or the other
 --   EarliestKey      == of records in ascending key order the key is that of the earliest last day among leased ones, 0 if none is leased
 use mathlib.Core.Path.{_≡_}
@@ -36,10 +37,11 @@ pub record Earliest (its : List Item) (k : ℕ) : Type 0 where
   pub leased : item .lease ≡ 0 → ⊥
   pub key : k ≡ item .key
   pub first : All (λ it. (it .lease ≡ 0 → ⊥) → item .last ≤ it .last) its
-  pub lowest : All (λ it. (it .lease ≡ 0 → ⊥) → it .last ≡ item .last → item .key ≤ it .key) its
+  pub dearest : All (λ it. (it .lease ≡ 0 → ⊥) → it .last ≡ item .last → it .price ≤ item .price) its
+  pub lowest : All (λ it. (it .lease ≡ 0 → ⊥) → it .last ≡ item .last → it .price ≡ item .price → item .key ≤ it .key) its
 
--- "the key of the earliest last day among leased records (lease days above 0, ended ones too), 0 if none. Equal last days: the lowest
--- key."
+-- "the key of the earliest last day among leased records (lease days above 0, ended ones too), 0 if none." M-100: "among equal last days
+-- .. that of the highest price, and the lowest key only where prices are equal too."
 abbrev pub EarliestOf : List Item → ℕ → Type 0
 EarliestOf its k = NoneLeased its k ⊎ Earliest its k
 

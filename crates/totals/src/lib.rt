@@ -4,14 +4,15 @@ ghost use mathlib.Core.Path.{_≡_};
 ghost use mathlib.Core.Bool.{true};
 ghost use Prim.Native.Nat.{_+_, _<_, _≤_, _^_};
 ghost use Rattle.plot.specs.Plot.{lawfulDay, lawfulTerm};
-ghost use Rattle.totals.specs.Totals.{Room, noTotals, worth, earlier, updatedOf};
+ghost use Rattle.totals.specs.Totals.{Room, noTotals, worth, ahead, earlier, updatedOf};
 
-// How many records, their balances together, and of the earliest last day among leased ones the key (0: none) and the day.
+// How many records, their balances together, and of the leased one that ends first the key (0: none), the day and the price.
 pub struct Totals {
     pub count: u64,
     pub total: u64,
     pub key: u64,
     pub last: u32,
+    pub price: u32,
 }
 
 pub fn no_totals() -> Totals
@@ -22,6 +23,7 @@ pub fn no_totals() -> Totals
         total: 0,
         key: 0,
         last: 0,
+        price: 0,
     }
 }
 
@@ -33,11 +35,18 @@ fn worth_of(item: Item, today: u32) -> u64
     store::widen(plot::amount_left(item.price, item.lease, item.last, today))
 }
 
-// Whether a record has the earliest last day so far, without a branch.
+// Whether a record ends before a day, or on it at a higher price, without a branch.
+fn is_ahead(item: Item, day: u32, price: u32) -> bool
+    ensures { λ r. ⌜ r ≡ ahead item day price ⌝ }
+{
+    (item.last < day) | ((item.last == day) & (price < item.price))
+}
+
+// Whether a record is leased, and the first to end so far, without a branch.
 fn is_earlier(totals: Totals, item: Item) -> bool
     ensures { λ r. ⌜ r ≡ earlier totals item ⌝ }
 {
-    (item.lease != 0) & ((totals.key == 0) | (item.last < totals.last))
+    (item.lease != 0) & ((totals.key == 0) | is_ahead(item, totals.last, totals.price))
 }
 
 // The work: the totals with a record added.
@@ -53,6 +62,7 @@ fn updated(totals: Totals, item: Item, today: u32) -> Totals
             total,
             key: item.key,
             last: item.last,
+            price: item.price,
         };
     }
     Totals {
@@ -60,6 +70,7 @@ fn updated(totals: Totals, item: Item, today: u32) -> Totals
         total,
         key: totals.key,
         last: totals.last,
+        price: totals.price,
     }
 }
 

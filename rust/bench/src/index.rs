@@ -1,6 +1,7 @@
 //! What is measured: the proved library, plain Rust and a sorted map behind one trait. SQLite has a module of its own.
 
 use plots::{Record, Refusal, Sizes, Store, Summary};
+use std::cmp::Reverse;
 use std::collections::BTreeMap;
 use std::ops::Bound::{Excluded, Unbounded};
 
@@ -154,14 +155,15 @@ impl Index for Map {
 
     fn summary(&mut self, low: u32, high: u32, today: u32) -> Summary {
         let mut sheet = Summary::default();
-        let mut earliest = u32::MAX;
+        let mut earliest = (u32::MAX, Reverse(0));
         for (&key, record) in self.0.range(low..=high) {
             sheet.count += 1;
             if record.lease > 0 {
                 let left = record.last.saturating_sub(today).min(record.lease);
                 sheet.total += u64::from(record.price) * u64::from(left) / u64::from(record.lease);
-                if record.last < earliest {
-                    (earliest, sheet.earliest) = (record.last, Some(key));
+                let ended = (record.last, Reverse(record.price));
+                if ended < earliest {
+                    (earliest, sheet.earliest) = (ended, Some(key));
                 }
             }
         }

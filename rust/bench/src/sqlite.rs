@@ -152,10 +152,11 @@ impl Sqlite {
             next: database.prepare(c"SELECT key, price, lease, last FROM plots WHERE key > ?1 ORDER BY key LIMIT 1"),
             range: database
                 .prepare(c"SELECT key, price, lease, last FROM plots WHERE key BETWEEN ?1 AND ?2 ORDER BY key"),
+            // The bare column is that of the row with the minimum, which the scan in key order meets first.
             summary: database.prepare(
                 c"SELECT count(*),
                          sum(CASE WHEN lease > 0 AND last > ?3 THEN price * min(last - ?3, lease) / lease ELSE 0 END),
-                         min(CASE WHEN lease > 0 THEN last << 32 | key END) & 4294967295
+                         iif(min(CASE WHEN lease > 0 THEN last << 32 | (4294967295 - price) END) IS NULL, 0, key)
                   FROM plots WHERE key BETWEEN ?1 AND ?2",
             ),
             database,

@@ -279,18 +279,19 @@ pub fn summary(store: &[u32], low: u32, high: u32, today: u32) -> Summary {
         return refused(answer::OUTSIDE);
     }
     let mut sheet = Summary::default();
-    // The earliest last day with its key below it in one number; of equal days the lowest key is less.
+    // The earliest last day and, turned round, the price below it in one number: of equal days the highest price is less. Keys ascend.
     let mut earliest = u64::MAX;
     let summed = walk::<true>(store, &head, low, high, |rows| {
         sheet.count += rows.len() as u64;
         for &[key, price, lease, last] in rows {
             sheet.total += amount(price, lease, last, today);
-            let ended = u64::from(last) << 32 | u64::from(key);
-            earliest = earliest.min(if lease == 0 { u64::MAX } else { ended });
+            let ended = if lease == 0 { u64::MAX } else { u64::from(last) << 32 | u64::from(!price) };
+            if ended < earliest {
+                (earliest, sheet.key) = (ended, key);
+            }
         }
         true
     });
-    sheet.key = if earliest == u64::MAX { 0 } else { earliest as u32 };
     if summed.is_ok() {
         sheet
     } else {

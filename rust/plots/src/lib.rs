@@ -113,7 +113,7 @@ pub struct Summary {
     pub count: u64,
     /// The total of their balances in pence.
     pub total: u64,
-    /// The key of the earliest last day among leased records, the lowest key of equal days.
+    /// The key of the earliest last day among leased records, of equal days the highest price, of equal prices the lowest key.
     pub earliest: Option<u32>,
 }
 

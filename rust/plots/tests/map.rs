@@ -6,6 +6,7 @@ mod common;
 
 use common::{record, size, Keys, Rng};
 use plots::{Entered, Part, Record, Refusal, Sizes, Store, Summary};
+use std::cmp::Reverse;
 use std::collections::BTreeMap;
 use std::ops::Bound::{Excluded, Unbounded};
 
@@ -21,10 +22,11 @@ fn sheet(records: &[Record], today: u32) -> Summary {
         }
     };
     let leased = records.iter().filter(|record| record.lease > 0);
+    let first = leased.min_by_key(|record| (record.last, Reverse(record.price), record.key));
     Summary {
         count: records.len() as u64,
         total: records.iter().map(balance).sum(),
-        earliest: leased.min_by_key(|record| (record.last, record.key)).map(|record| record.key),
+        earliest: first.map(|record| record.key),
     }
 }
 

@@ -2,6 +2,7 @@
 //! root, nodes are lists of entries, an entry tries again after each halving, and 10 is found by running out of blocks.
 
 use plain::Record;
+use std::cmp::Reverse;
 
 pub struct Damaged;
 
@@ -516,6 +517,6 @@ pub fn sheet(records: &[Record], today: u32) -> (u64, u32) {
         }
     }
     let leased = records.iter().filter(|record| record.lease > 0);
-    let earliest = leased.min_by_key(|record| (record.last, record.key)).map_or(0, |record| record.key);
+    let earliest = leased.min_by_key(|record| (record.last, Reverse(record.price), record.key)).map_or(0, |record| record.key);
     (total, earliest)
 }
