@@ -11,10 +11,10 @@ use lib.ListN.{length, replicate, length-replicate}
 use borrow.Author.Tests.{leb-true, le-ltb, lt-ltb, ne-eqb}
 use Rattle.lists.specs.Lists.{All}
 use Rattle.lists.proofs.Cases.{by-cases}
-use Rattle.tree.specs.Book.{Reply, refused, entered}
+use Rattle.tree.specs.Book.{Reply, Sizes, refused, entered}
 use Rattle.lines.specs.declared.Request.{Request}
-use Rattle.lines.specs.declared.Request.the-variants.{SetUp, Enter, Find, Next, Range, Summary, Wrong}
-use Rattle.lines.specs.declared.Reply.the-variants.{Refused}
+use Rattle.lines.specs.declared.Request.the-variants.{SetUp, Enter, Find, Next, Range, Summary, Dump, Wrong}
+use Rattle.lines.specs.declared.Reply.the-variants.{Refused, SetUpLine}
 use Rattle.lines.specs.Request.{fieldsOf, parsed}
 use Rattle.lines.specs.Reply.{lineFeed, replyLine}
 use Rattle.lines.proofs.Promises.{fields-fit}
@@ -34,12 +34,13 @@ use Rattle.index.specs.Calls.{Answer, counts}
 use Rattle.index.specs.Model.{Model, listOf, fresh, enterIn}
 use Rattle.index.proofs.CallLaws.{Holding, set-up-holding, enter-step}
 use Rattle.readings.proofs.Promises.{find-reads, next-reads, summary-reads}
-use Rattle.desk.specs.Replies.{told, setUpTold, enterTold, findTold, nextTold, summaryTold}
+use Rattle.desk.specs.Replies.{told, setUpTold, enterTold, findTold, nextTold, summaryTold, listedLines}
 use Rattle.desk.specs.Listing.{partOf, surveyed}
-use Rattle.desk.specs.Transcript.{answered, opened, outcomeBytes, Served, ending, served, transcript}
-use Rattle.desk.specs.Clerk.{Register, unset, holding, setUpReply, afterSetUp, rangeLines, reckoned, reckonings, reckoning, Clerk}
-use Rattle.desk.proofs.ListingLaws.{first-refused}
-use Rattle.desk.proofs.OneListing.{listed-whole, refused-whole}
+use Rattle.desk.specs.Transcript.{answered, opened, largestKey, dumped, outcomeBytes, Served, ending, served, transcript}
+use Rattle.desk.specs.Clerk.{Register, unset, holding, setUpReply, afterSetUp, rangeLines, dumpLines, reckoned, reckonings}
+use Rattle.desk.specs.Clerk.{reckoning, Clerk}
+use Rattle.desk.proofs.ListingLaws.{first-refused, dump-refused}
+use Rattle.desk.proofs.OneListing.{listed-whole, refused-whole, dump-whole}
 
 abbrev Stands : List ℕ → Register → Type 0
 Stands s unset = s ≡ replicate 8192 0
@@ -110,6 +111,8 @@ unset-same (Next k) = (ap (λ r. replyLine (nextTold r)) (sought-broken zeros ze
 unset-same (Range low high) =
     (ap (outcomeBytes zeros) (sym (first-refused zeros low high 3 (λ z. omega arith) (part-broken zeros zeros-broken low high))), refl)
 unset-same (Summary low high today) = (ap (λ r. replyLine (summaryTold r)) (summary-broken zeros zeros-broken low high today), refl)
+unset-same Dump =
+    (ap (outcomeBytes zeros) (sym (dump-refused zeros 3 (λ z. omega arith) (part-broken zeros zeros-broken 1 largestKey))), refl)
 unset-same Wrong = (refl, refl)
 
 -- a store that holds the register
@@ -129,6 +132,14 @@ range-lines s m low high h q =
       | no p ↦ rw (lt-ltb high low (omega arith), rangeLines) (refused-whole s (listOf m) (h .holds) high q low (omega arith))
     ]
 
+dump-lines : (s : List ℕ) (m : Model) → Holding Plots 8192 m s → outcomeBytes s (dumped s) ≡ dumpLines m
+unfolding dumpLines
+dump-lines s m h =
+    dump-whole s (listOf m) (h .holds)
+    ∙ ap
+    (λ (z : Sizes). replyLine (SetUpLine (z .theta) (z .capacity) (z .nodeBlocks) (z .pageBlocks)) ++ listedLines true (listOf m))
+    (h .sizes)
+
 holding-same : (s : List ℕ) (m : Model) → Holding Plots 8192 m s → (q : Request) → All (λ n. n < 2 ^ 32) (fieldsOf q) → Same s (holding m) q
 unfolding answered outcomeBytes reckoned width enterIn
 holding-same s m h (SetUp θ C N P) f =
@@ -141,6 +152,7 @@ holding-same s m h (Next k) f = (ap (λ r. replyLine (nextTold r)) (next-reads P
 holding-same s m h (Range low high) f = (range-lines s m low high h (f .1 .0), h)
 holding-same s m h (Summary low high today) f =
     (ap (λ r. replyLine (summaryTold r)) (summary-reads Plots s (listOf m) (h .holds) low high today (f .1 .0)), h)
+holding-same s m h Dump f = (dump-lines s m h, h)
 holding-same s m h Wrong f = (refl, h)
 
 same : (s : List ℕ) (r : Register) → Stands s r → (q : Request) → All (λ n. n < 2 ^ 32) (fieldsOf q) → Same s r q

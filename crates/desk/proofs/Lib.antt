@@ -6,3 +6,4 @@ pub mod ServeLaws
 pub mod OneListing
 pub mod Clerk
 pub mod Delivery
+pub mod Register

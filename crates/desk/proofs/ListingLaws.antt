@@ -13,8 +13,10 @@ use lib.Dec.{eqb}
 use lib.ListN.{length, drop, replicate, length-replicate}
 use borrow.Author.Tests.{eq-eqb, ne-eqb, eqb-true, eqb-false}
 use Rattle.lists.proofs.Cases.{by-cases}
-use Rattle.lines.specs.declared.Reply.the-variants.{Refused}
+use Rattle.lines.specs.declared.Reply.{Reply}
+use Rattle.lines.specs.declared.Reply.the-variants.{Refused, SetUpLine}
 use Rattle.store.specs.declared.Format.the-variants.{Plots}
+use Rattle.store.specs.declared.Head.{Head}
 use Rattle.store.specs.Format.{words}
 use Rattle.store.specs.Head.{headOf}
 use Rattle.page.specs.Page.{flat}
@@ -23,9 +25,9 @@ use Rattle.scan.proofs.Promises.{range-rule, range-more, range-onward}
 use Rattle.desk.specs.declared.Survey.{Survey}
 use Rattle.desk.specs.declared.Listing.{Listing}
 use Rattle.desk.specs.Listing.{partRecords, partOf, partItems, counted, surveyOf, surveyFrom, surveyed, noListing, listingAfter}
-use Rattle.desk.specs.declared.Outcome.the-variants.{Line, Parts}
+use Rattle.desk.specs.declared.Outcome.the-variants.{Line, Parts, Register}
 use Rattle.desk.specs.Listing.{partLines, carriedFrom, carried}
-use Rattle.desk.specs.Transcript.{opened}
+use Rattle.desk.specs.Transcript.{listing, opened, largestKey, dumped}
 
 pub record PartFacts (low high : ℕ) (p : RangeReply) : Type 0 where
   pub few : p .count ≤ partRecords
@@ -181,35 +183,59 @@ left-falls low high q h l f =
       | no e ↦ let o = f .onward e in let g = f .more in rw (left-more high low h, left-more high (q .more) e) (omega arith)
     ]
 
--- the survey decides how a range is answered
+-- a survey that is not refused is a range listed, or the register with its sizes; a refused one is a line
 module _ (s : List ℕ) (low high : ℕ) (a : Survey) (e : a ≡ surveyed s low high) where
-  is-done : surveyed s low high .number ≡ 0
-      → Parts (record { active = true; at = low; high = high; count = surveyed s low high .count }) ≡ opened s low high
-  unfolding opened
-  is-done z = rw (eq-eqb _ 0 z, opened)
+  abbrev number-is : surveyed s low high .number ≡ a .number
+  number-is = sym (ap (λ (x : Survey). x .number) e)
 
-  is-refused : (surveyed s low high .number ≡ 0 → ⊥) → Line (Refused 4 (surveyed s low high .number)) ≡ opened s low high
-  unfolding opened
-  is-refused z = rw (ne-eqb _ 0 z, opened)
+  pub listing-is : (dump : Bool)
+      → record { active = true; dump = dump; at = low; high = high; count = a .count } ≡ listing s dump low high
+  unfolding listing
+  listing-is dump = ap (λ (x : Survey). record { active = true; dump = dump; at = low; high = high; count = x .count }) e
 
-  pub opened-parts : a .number ≡ 0 → Parts (record { active = true; at = low; high = high; count = a .count }) ≡ opened s low high
-  opened-parts z =
-      ap (λ (n : ℕ). Parts (record { active = true; at = low; high = high; count = n })) (ap (λ (x : Survey). x .count) e)
-      ∙ is-done (sym (ap (λ (x : Survey). x .number) e) ∙ z)
+  pub opened-parts : a .number ≡ 0
+      → Parts (record { active = true; dump = false; at = low; high = high; count = a .count }) ≡ opened s low high
+  unfolding opened
+  opened-parts z = rw (eq-eqb _ 0 (number-is ∙ z), opened) (ap Parts (listing-is false))
 
   pub opened-refused : (a .number ≡ 0 → ⊥) → Line (Refused 4 (a .number)) ≡ opened s low high
-  opened-refused z =
-      ap (λ (n : ℕ). Line (Refused 4 n)) (ap (λ (x : Survey). x .number) e) ∙ is-refused (λ n. z (ap (λ (x : Survey). x .number) e ∙ n))
+  unfolding opened
+  opened-refused z = rw (ne-eqb _ 0 (λ n. z (sym number-is ∙ n)), opened) (ap (λ (n : ℕ). Line (Refused 4 n)) (sym number-is))
 
--- a range whose first call is refused
-pub first-refused : (s : List ℕ) (low high n : ℕ) → (n ≡ 0 → ⊥) → partOf s low high .reply ≡ rangeRefused n
-    → Line (Refused 4 n) ≡ opened s low high
-first-refused s low high n nonzero r =
-    let number = ap (λ (a : RangeReply). a .number) r in
-    let c : surveyed s low high ≡ record { number = n; count = 0 } =
-    survey-turn s high low ∙ rest-done s high _ _ (ap (λ (a : RangeReply). a .more) r)
-    ∙ survey-refused _ _ (λ z. nonzero (sym number ∙ z)) ∙ ap (λ (i : ℕ). record { number = i; count = 0 }) number in
-    opened-refused s low high (record { number = n; count = 0 }) (sym c) nonzero
+module _ (s : List ℕ) (a : Survey) (e : a ≡ surveyed s 1 largestKey) where
+  abbrev sizesLine : Head → Reply
+  sizesLine h = SetUpLine (h .theta) (h .capacity) (h .nodeBlocks) (h .pageBlocks)
+
+  pub dumped-register : a .number ≡ 0 → (h : Head) → h ≡ headOf s
+      → Register (SetUpLine (h .theta) (h .capacity) (h .nodeBlocks) (h .pageBlocks))
+      (record { active = true; dump = true; at = 1; high = largestKey; count = a .count }) ≡ dumped s
+  unfolding dumped
+  dumped-register z h i =
+      rw (eq-eqb _ 0 (number-is s 1 largestKey a e ∙ z), dumped)
+      (ap (Register (sizesLine h)) (listing-is s 1 largestKey a e true)
+      ∙ ap (λ (x : Head). Register (sizesLine x) (listing s true 1 largestKey)) i)
+
+  pub dumped-refused : (a .number ≡ 0 → ⊥) → Line (Refused 6 (a .number)) ≡ dumped s
+  unfolding dumped
+  dumped-refused z =
+      rw (ne-eqb _ 0 (λ n. z (sym (number-is s 1 largestKey a e) ∙ n)), dumped)
+      (ap (λ (n : ℕ). Line (Refused 6 n)) (sym (number-is s 1 largestKey a e)))
+
+-- the first call is refused
+module _ (s : List ℕ) (low high n : ℕ) (nonzero : n ≡ 0 → ⊥) (r : partOf s low high .reply ≡ rangeRefused n) where
+  survey-first : surveyed s low high ≡ record { number = n; count = 0 }
+  survey-first =
+      let number = ap (λ (a : RangeReply). a .number) r in
+      survey-turn s high low ∙ rest-done s high _ _ (ap (λ (a : RangeReply). a .more) r)
+      ∙ survey-refused _ _ (λ z. nonzero (sym number ∙ z)) ∙ ap (λ (i : ℕ). record { number = i; count = 0 }) number
+
+  pub first-refused : Line (Refused 4 n) ≡ opened s low high
+  first-refused = opened-refused s low high (record { number = n; count = 0 }) (sym survey-first) nonzero
+
+pub dump-refused : (s : List ℕ) (n : ℕ) → (n ≡ 0 → ⊥) → partOf s 1 largestKey .reply ≡ rangeRefused n
+    → Line (Refused 6 n) ≡ dumped s
+dump-refused s n nonzero r =
+    dumped-refused s (record { number = n; count = 0 }) (sym (survey-first s 1 largestKey n nonzero r)) nonzero
 
 -- the parts
 
@@ -218,7 +244,8 @@ unfolding listingAfter
 after-last s l e = rw (eq-eqb _ 0 e, listingAfter)
 
 pub after-more : (s : List ℕ) (l : Listing) → (partOf s (l .at) (l .high) .reply .more ≡ 0 → ⊥)
-    → listingAfter s l ≡ record { active = true; at = partOf s (l .at) (l .high) .reply .more; high = l .high; count = l .count }
+    → listingAfter s l
+    ≡ record { active = true; dump = l .dump; at = partOf s (l .at) (l .high) .reply .more; high = l .high; count = l .count }
 unfolding listingAfter
 after-more s l e = rw (ne-eqb _ 0 e, listingAfter)
 

@@ -14,7 +14,7 @@ use Rattle.lists.specs.Lists.{All, filter}
 use Rattle.lists.specs.Keyed.{Sorted}
 use Rattle.lists.proofs.Cases.{by-cases}
 use Rattle.lists.proofs.ListLaws.{length-filter, all-map, all-filter-to, filter-true, filter-false}
-use Rattle.lists.proofs.AppendLaws.{filter-same}
+use Rattle.lists.proofs.AppendLaws.{filter-every, filter-same}
 use Rattle.lists.proofs.Tests.{and-true}
 use Rattle.store.specs.declared.Format.the-variants.{Plots}
 use Rattle.store.specs.declared.Item.{Item}
@@ -28,15 +28,17 @@ use Rattle.scan.specs.Range.{RangeReply, rangeRefused, Ranged, After, ranged, l
 use Rattle.readings.specs.Listing.{firstKey, within, rangedIn, rangeIn}
 use Rattle.readings.proofs.ListingLaws.{within-sorted, within-all}
 use Rattle.readings.proofs.Promises.{range-reads, ranged-reads}
-use Rattle.lines.specs.declared.Reply.the-variants.{RangeEnd, Refused}
+use Rattle.lines.specs.declared.Reply.the-variants.{RangeEnd, Refused, SetUpLine}
 use Rattle.lines.specs.Reply.{replyLine}
 use Rattle.desk.specs.declared.Listing.{Listing}
+use Rattle.desk.specs.declared.Outcome.the-variants.{Parts}
 use Rattle.desk.specs.Replies.{listedLines}
-use Rattle.desk.specs.Listing.{partRecords, partOf, partItems, counted, surveyed, noListing, partLines, carried}
-use Rattle.desk.specs.Transcript.{opened, outcomeBytes}
+use Rattle.desk.specs.Listing.{partRecords, partOf, partItems, counted, surveyed, noListing, lastLine, partLines, carried}
+use Rattle.desk.specs.Transcript.{listing, opened, largestKey, dumped, outcomeBytes}
 use Rattle.desk.specs.Clerk.{OneListing}
 use Rattle.desk.proofs.ListingLaws.{part-room, counted-done, survey-done, survey-turn, rest-done, rest-more}
-use Rattle.desk.proofs.ListingLaws.{opened-parts, first-refused, after-last, after-more, none-carried, carried-turn}
+use Rattle.desk.proofs.ListingLaws.{listing-is, opened-parts, dumped-register, first-refused, after-last, after-more}
+use Rattle.desk.proofs.ListingLaws.{none-carried, carried-turn}
 use Rattle.desk.proofs.LineLaws.{lines-append}
 use Rattle.desk.proofs.PartLaws.{end-last, end-none, lines-done}
 
@@ -192,58 +194,72 @@ module _ (s : List ℕ) (S : List Item) (h : Holds Plots s S) (high : ℕ) (q : 
   counts-list (suc n) low l p = counts-by low p (drop partRecords (W low)) refl (λ k m o. counts-list n k (omega arith) o)
 
   -- the parts list it
-  abbrev at : ℕ → ℕ → Listing
-  at count low = record { active = true; at = low; high = high; count = count }
+  module _ (dump : Bool) (count : ℕ) where
+    abbrev at : ℕ → Listing
+    at low = record { active = true; dump = dump; at = low; high = high; count = count }
 
-  abbrev Lists : ℕ → ℕ → Type 0
-  Lists count low = carried s (at count low) ≡ listedLines (W low) ++ replyLine (RangeEnd count)
+    abbrev lines : List Item → List ℕ
+    lines = listedLines dump
 
-  lists-by : (count low : ℕ) → low ≤ high → (rest : List Item) → drop partRecords (W low) ≡ rest
-      → ((k : ℕ) → length (W k) < length (W low) → k ≤ high → Lists count k) → Lists count low
-  unfolding firstKey
-  lists-by count low p [] e ih =
-      let r = reply-is low p in
-      let more = ap (λ (a : RangeReply). a .more) r ∙ ap firstKey e in
-      carried-turn s (at count low) refl
-      ∙ ap (λ (l : Listing). partLines s (at count low) ++ carried s l) (after-last s (at count low) more)
-      ∙ ap (λ (bs : List ℕ). partLines s (at count low) ++ bs) (none-carried s noListing refl) ∙ append-nil _
-      ∙ lines-done s (at count low) (ap (λ (a : RangeReply). a .number) r)
-      ∙ ap (λ (bs : List ℕ). listedLines (partItems s low high) ++ bs) (end-last _ count more)
-      ∙ ap (λ (its : List Item). listedLines its ++ replyLine (RangeEnd count))
-      (items-are low p ∙ sym (append-nil _) ∙ sym (parts (W low) [] e))
-  lists-by count low p (x ∷ xs) e ih =
-      let r = reply-is low p in
-      let b = behind low x xs e in
-      let more = ap (λ (a : RangeReply). a .more) r ∙ ap firstKey e in
-      let n = length-parts (W low) (x ∷ xs) e in
-      let m = shorter (W low) xs x e in
-      let w = ap length (b .rest) in
-      let end = replyLine (RangeEnd count) in
-      carried-turn s (at count low) refl
-      ∙ ap (λ (l : Listing). partLines s (at count low) ++ carried s l) (after-more s (at count low) (λ z. b .above (sym more ∙ z)))
-      ∙ ap (λ (k : ℕ). partLines s (at count low) ++ carried s (at count k)) more
-      ∙ ap (λ (bs : List ℕ). partLines s (at count low) ++ bs) (ih (x .key) (omega arith) (b .below))
-      ∙ ap (λ (bs : List ℕ). bs ++ (listedLines (W (x .key)) ++ end))
-      (lines-done s (at count low) (ap (λ (a : RangeReply). a .number) r)
-      ∙ ap (λ (bs : List ℕ). listedLines (partItems s low high) ++ bs) (end-none _ count (λ z. b .above (sym more ∙ z))) ∙ append-nil _
-      ∙ ap listedLines (items-are low p))
-      ∙ ap (λ (its : List Item). listedLines (take partRecords (W low)) ++ (listedLines its ++ end)) (b .rest)
-      ∙ sym (append-assoc (listedLines (take partRecords (W low))) (listedLines (x ∷ xs)) end)
-      ∙ ap (λ (bs : List ℕ). bs ++ end) (sym (lines-append (take partRecords (W low)) (x ∷ xs)) ∙ ap listedLines (sym (parts (W low) (x ∷ xs) e)))
+    abbrev end : List ℕ
+    end = lastLine dump count
 
-  lists-list : (n count low : ℕ) → length (W low) < n → low ≤ high → Lists count low
-  lists-list zero count low l p = absurd (omega arith)
-  lists-list (suc n) count low l p =
-      lists-by count low p (drop partRecords (W low)) refl (λ k m o. lists-list n count k (omega arith) o)
+    abbrev Lists : ℕ → Type 0
+    Lists low = carried s (at low) ≡ lines (W low) ++ end
 
-  -- so the range is listed whole
+    lists-by : (low : ℕ) → low ≤ high → (rest : List Item) → drop partRecords (W low) ≡ rest
+        → ((k : ℕ) → length (W k) < length (W low) → k ≤ high → Lists k) → Lists low
+    unfolding firstKey
+    lists-by low p [] e ih =
+        let r = reply-is low p in
+        let more = ap (λ (a : RangeReply). a .more) r ∙ ap firstKey e in
+        carried-turn s (at low) refl
+        ∙ ap (λ (l : Listing). partLines s (at low) ++ carried s l) (after-last s (at low) more)
+        ∙ ap (λ (bs : List ℕ). partLines s (at low) ++ bs) (none-carried s noListing refl) ∙ append-nil _
+        ∙ lines-done s (at low) (ap (λ (a : RangeReply). a .number) r)
+        ∙ ap (λ (bs : List ℕ). lines (partItems s low high) ++ bs) (end-last dump _ count more)
+        ∙ ap (λ (its : List Item). lines its ++ end) (items-are low p ∙ sym (append-nil _) ∙ sym (parts (W low) [] e))
+    lists-by low p (x ∷ xs) e ih =
+        let r = reply-is low p in
+        let b = behind low x xs e in
+        let more = ap (λ (a : RangeReply). a .more) r ∙ ap firstKey e in
+        let n = length-parts (W low) (x ∷ xs) e in
+        let m = shorter (W low) xs x e in
+        let w = ap length (b .rest) in
+        carried-turn s (at low) refl
+        ∙ ap (λ (l : Listing). partLines s (at low) ++ carried s l) (after-more s (at low) (λ z. b .above (sym more ∙ z)))
+        ∙ ap (λ (k : ℕ). partLines s (at low) ++ carried s (at k)) more
+        ∙ ap (λ (bs : List ℕ). partLines s (at low) ++ bs) (ih (x .key) (omega arith) (b .below))
+        ∙ ap (λ (bs : List ℕ). bs ++ (lines (W (x .key)) ++ end))
+        (lines-done s (at low) (ap (λ (a : RangeReply). a .number) r)
+        ∙ ap (λ (bs : List ℕ). lines (partItems s low high) ++ bs) (end-none dump _ count (λ z. b .above (sym more ∙ z))) ∙ append-nil _
+        ∙ ap lines (items-are low p))
+        ∙ ap (λ (its : List Item). lines (take partRecords (W low)) ++ (lines its ++ end)) (b .rest)
+        ∙ sym (append-assoc (lines (take partRecords (W low))) (lines (x ∷ xs)) end)
+        ∙ ap (λ (bs : List ℕ). bs ++ end)
+        (sym (lines-append dump (take partRecords (W low)) (x ∷ xs)) ∙ ap lines (sym (parts (W low) (x ∷ xs) e)))
+
+    lists-list : (n low : ℕ) → length (W low) < n → low ≤ high → Lists low
+    lists-list zero low l p = absurd (omega arith)
+    lists-list (suc n) low l p = lists-by low p (drop partRecords (W low)) refl (λ k m o. lists-list n k (omega arith) o)
+
+  -- so a listing is whole
+  pub counted-whole : (low : ℕ) → low ≤ high → record { number = 0; count = length (W low) } ≡ surveyed s low high
+  counted-whole low p = sym (counts-list (suc (length (W low))) low (omega arith) p)
+
+  pub carried-whole : (dump : Bool) (low : ℕ) → low ≤ high
+      → carried s (listing s dump low high) ≡ listedLines dump (W low) ++ lastLine dump (length (W low))
+  carried-whole dump low p =
+      ap (carried s) (sym (listing-is s low high _ (counted-whole low p) dump))
+      ∙ lists-list dump (length (W low)) (suc (length (W low))) low (omega arith) p
+
   pub listed-whole : (low : ℕ) → low ≤ high
-      → outcomeBytes s (opened s low high) ≡ listedLines (W low) ++ replyLine (RangeEnd (length (W low)))
-  unfolding outcomeBytes
+      → outcomeBytes s (opened s low high) ≡ listedLines false (W low) ++ replyLine (RangeEnd (length (W low)))
+  unfolding outcomeBytes lastLine
   listed-whole low p =
-      let c = counts-list (suc (length (W low))) low (omega arith) p in
-      ap (outcomeBytes s) (sym (opened-parts s low high (record { number = 0; count = length (W low) }) (sym c) refl))
-      ∙ lists-list (suc (length (W low))) (length (W low)) low (omega arith) p
+      let c = counted-whole low p in
+      ap (outcomeBytes s) (sym (opened-parts s low high _ c refl) ∙ ap Parts (listing-is s low high _ c false))
+      ∙ carried-whole false low p
 
   pub refused-whole : (low : ℕ) → high < low → outcomeBytes s (opened s low high) ≡ replyLine (Refused 4 7)
   unfolding outcomeBytes
@@ -261,4 +277,29 @@ one-listing s S h low high room p q l =
     let r = ranged-reads Plots s S h low high room p q in
     let all : take room W ≡ W = take-all room W (omega (arith, within-length low high S)) in
     let its : ranged Plots s (headOf s) low high room .items ≡ W = ap (λ (x : Ranged). x .items) r ∙ all in
-    listed-whole s S h high q low p ∙ ap (λ (xs : List Item). listedLines xs ++ replyLine (RangeEnd (length xs))) (sym its)
+    listed-whole s S h high q low p ∙ ap (λ (xs : List Item). listedLines false xs ++ replyLine (RangeEnd (length xs))) (sym its)
+
+-- every lawful key is from 1 to the largest
+within-whole : (S : List Item) → All (λ it. lawfulItem Plots it ≡ true) S → within 1 largestKey S ≡ S
+unfolding within width
+within-whole S l =
+    filter-every _ S
+    (all-map (λ it. lawfulItem Plots it ≡ true) (λ it. (leb 1 (it .key) && leb (it .key) largestKey) ≡ true) S
+    (λ it e. let k = lawful-key Plots it e in in-range largestKey 1 it (k .0) (omega (arith, k .1))) l)
+
+-- the register is written out whole
+pub dump-whole : (s : List ℕ) (S : List Item) → Holds Plots s S
+    → let h = headOf s in
+    outcomeBytes s (dumped s)
+    ≡ replyLine (SetUpLine (h .theta) (h .capacity) (h .nodeBlocks) (h .pageBlocks)) ++ listedLines true S
+unfolding outcomeBytes lastLine
+dump-whole s S h =
+    let q : largestKey < 2 ^ 32 = omega arith in
+    let p : 1 ≤ largestKey = omega arith in
+    let c = counted-whole s S h largestKey q 1 p in
+    let z = headOf s in
+    let first = replyLine (SetUpLine (z .theta) (z .capacity) (z .nodeBlocks) (z .pageBlocks)) in
+    ap (outcomeBytes s) (sym (dumped-register s _ c refl z refl))
+    ∙ ap (λ (l : Listing). first ++ carried s l) (listing-is s 1 largestKey _ c true)
+    ∙ ap (λ (bs : List ℕ). first ++ bs)
+    (carried-whole s S h largestKey q true 1 p ∙ append-nil _ ∙ ap (listedLines true) (within-whole S (h .lawful)))

@@ -1,6 +1,6 @@
 -- One part of a listing: the words that range wrote are its records, and the lines are theirs.
 use mathlib.Core.Path.{_≡_, refl, sym, ap, _∙_, subst}
-use mathlib.Core.Bool.{true}
+use mathlib.Core.Bool.{Bool, true}
 use mathlib.Core.List.{List, [], _∷_, _++_, append-nil}
 use Prim.Native.Nat.{ℕ, zero, suc, _+_, _*_, _/_, _%_, _^_, _≤_, _<_}
 use native.Mathlib.Nat.{mod-eq-of-lt}
@@ -11,9 +11,8 @@ use borrow.Author.Tests.{eq-eqb, ne-eqb}
 use Rattle.lists.specs.Lists.{All, tab}
 use Rattle.lists.proofs.ListLaws.{all-map}
 use Rattle.lists.proofs.Tests.{tab-ext}
-use Rattle.lines.specs.declared.Reply.the-variants.{RangeEnd, Refused}
+use Rattle.lines.specs.declared.Reply.the-variants.{Refused}
 use Rattle.lines.specs.Reply.{replyLine}
-use Rattle.lines.proofs.Promises.{reply-fits}
 use Rattle.store.specs.declared.Format.the-variants.{Plots}
 use Rattle.store.specs.declared.Item.{Item}
 use Rattle.store.specs.Format.{words}
@@ -23,9 +22,10 @@ use Rattle.scan.specs.Range.{RangeReply, After, ranged}
 use Rattle.scan.proofs.Promises.{range-rule, range-ascends}
 use Rattle.desk.specs.declared.Listing.{Listing}
 use Rattle.desk.specs.Replies.{listedLines}
-use Rattle.desk.specs.Listing.{partRecords, partOf, partItems, itemFrom, itemsOf, noListing, partEnd, partLines, listingAfter}
+use Rattle.desk.specs.Listing.{partRecords, partOf, partItems, itemFrom, itemsOf, noListing, kindListed, lastLine, partEnd}
+use Rattle.desk.specs.Listing.{partLines, listingAfter}
 use Rattle.desk.proofs.ListingLaws.{PartFacts, part-room, part-facts, piece-facts, after-last, after-more}
-use Rattle.desk.proofs.LineLaws.{length-lines}
+use Rattle.desk.proofs.LineLaws.{lines-bounds}
 
 -- the words of records, read as records
 
@@ -65,47 +65,52 @@ part-done s low high narrow =
     Plots s low high (replicate (4 * partRecords) 0) (λ n i z. absurd (i z))
     (λ l k z. (ap length same, items-flat its _ keys ∙ same))
 
-pub end-last : (more count : ℕ) → more ≡ 0 → partEnd more count ≡ replyLine (RangeEnd count)
+pub end-last : (dump : Bool) (more count : ℕ) → more ≡ 0 → partEnd dump more count ≡ lastLine dump count
 unfolding partEnd
-end-last more count e = rw (eq-eqb more 0 e, partEnd)
+end-last dump more count e = rw (eq-eqb more 0 e, partEnd)
 
-pub end-none : (more count : ℕ) → (more ≡ 0 → ⊥) → partEnd more count ≡ []
+pub end-none : (dump : Bool) (more count : ℕ) → (more ≡ 0 → ⊥) → partEnd dump more count ≡ []
 unfolding partEnd
-end-none more count e = rw (ne-eqb more 0 e, partEnd)
+end-none dump more count e = rw (ne-eqb more 0 e, partEnd)
 
 module _ (s : List ℕ) (l : Listing) where
   abbrev q : RangeReply
   q = partOf s (l .at) (l .high) .reply
 
-  lines-refused : (q .number ≡ 0 → ⊥) → partLines s l ≡ replyLine (Refused 4 (q .number))
+  lines-refused : (q .number ≡ 0 → ⊥) → partLines s l ≡ replyLine (Refused (kindListed (l .dump)) (q .number))
   unfolding partLines
   lines-refused n = rw (ne-eqb (q .number) 0 n, partLines)
 
-  pub lines-done : q .number ≡ 0 → partLines s l ≡ listedLines (partItems s (l .at) (l .high)) ++ partEnd (q .more) (l .count)
+  pub lines-done : q .number ≡ 0
+      → partLines s l ≡ listedLines (l .dump) (partItems s (l .at) (l .high)) ++ partEnd (l .dump) (q .more) (l .count)
   unfolding partLines
   lines-done z = rw (eq-eqb (q .number) 0 z, partLines)
 
-  -- a part has a line at least
-  pub lines-some : l .high < 2 ^ 32 → 1 ≤ length (partLines s l)
-  lines-some narrow =
+  -- a part that is not the last has a line at least
+  pub lines-some : l .high < 2 ^ 32 → (q .more ≡ 0 → ⊥) → 1 ≤ length (partLines s l)
+  lines-some narrow m =
       let f = part-facts s (l .at) (l .high) in
+      let its = partItems s (l .at) (l .high) in
       elim (ℕ-discrete (q .number) 0) [
-        | no n ↦ omega (arith, ap length (lines-refused n), reply-fits (Refused 4 (q .number)))
+        | no n ↦ absurd (m (f .none n .1))
         | yes z ↦
-            let all = ap length (lines-done z) ∙ length-append (listedLines (partItems s (l .at) (l .high))) (partEnd (q .more) (l .count)) in
-            elim (ℕ-discrete (q .more) 0) [
-              | yes m ↦ omega (arith, all, ap length (end-last (q .more) (l .count) m), reply-fits (RangeEnd (l .count)))
-              | no m ↦
-                  omega (arith, all, length-lines (partItems s (l .at) (l .high)), part-done s (l .at) (l .high) narrow z .0, f .full m)
-            ]
+            omega (
+              arith,
+              ap length (lines-done z) ∙ length-append (listedLines (l .dump) its) (partEnd (l .dump) (q .more) (l .count)),
+              lines-bounds (l .dump) its .0,
+              part-done s (l .at) (l .high) narrow z .0,
+              f .full m,
+            )
       ]
 
   -- the call replied p and left the words ws
   module _ (p : RangeReply) (ws : List ℕ) (e : p ≡ q) (w : ws ≡ partOf s (l .at) (l .high) .words) (narrow : l .high < 2 ^ 32) where
-    pub refused-lines : (p .number ≡ 0 → ⊥) → partLines s l ≡ replyLine (Refused 4 (p .number))
-    refused-lines n =
+    pub refused-lines : (kind : ℕ) → kind ≡ kindListed (l .dump) → (p .number ≡ 0 → ⊥)
+        → partLines s l ≡ replyLine (Refused kind (p .number))
+    refused-lines kind k n =
         lines-refused (λ z. n (ap (λ (r : RangeReply). r .number) e ∙ z))
-        ∙ ap (λ (r : RangeReply). replyLine (Refused 4 (r .number))) (sym e)
+        ∙ ap (λ (r : RangeReply). replyLine (Refused (kindListed (l .dump)) (r .number))) (sym e)
+        ∙ ap (λ (i : ℕ). replyLine (Refused i (p .number))) (sym k)
 
     pub refused-after : (p .number ≡ 0 → ⊥) → listingAfter s l ≡ noListing
     refused-after n =
@@ -117,23 +122,24 @@ module _ (s : List ℕ) (l : Listing) where
         ap (λ (r : RangeReply). itemsOf (r .count) ws) e ∙ ap (itemsOf (q .count)) w
         ∙ part-done s (l .at) (l .high) narrow (sym (ap (λ (r : RangeReply). r .number) e) ∙ z) .1
 
-    done-lines : p .number ≡ 0 → partLines s l ≡ listedLines (itemsOf (p .count) ws) ++ partEnd (p .more) (l .count)
+    done-lines : p .number ≡ 0 → partLines s l ≡ listedLines (l .dump) (itemsOf (p .count) ws) ++ partEnd (l .dump) (p .more) (l .count)
     done-lines z =
         lines-done (sym (ap (λ (r : RangeReply). r .number) e) ∙ z)
-        ∙ ap (λ (its : List Item). listedLines its ++ partEnd (q .more) (l .count)) (sym (items-are z))
-        ∙ ap (λ (r : RangeReply). listedLines (itemsOf (p .count) ws) ++ partEnd (r .more) (l .count)) (sym e)
+        ∙ ap (λ (its : List Item). listedLines (l .dump) its ++ partEnd (l .dump) (q .more) (l .count)) (sym (items-are z))
+        ∙ ap (λ (r : RangeReply). listedLines (l .dump) (itemsOf (p .count) ws) ++ partEnd (l .dump) (r .more) (l .count)) (sym e)
 
-    pub more-lines : p .number ≡ 0 → (p .more ≡ 0 → ⊥) → partLines s l ≡ listedLines (itemsOf (p .count) ws)
-    more-lines z n = done-lines z ∙ rw (end-none (p .more) (l .count) n) (append-nil _)
+    pub more-lines : p .number ≡ 0 → (p .more ≡ 0 → ⊥) → partLines s l ≡ listedLines (l .dump) (itemsOf (p .count) ws)
+    more-lines z n = done-lines z ∙ rw (end-none (l .dump) (p .more) (l .count) n) (append-nil _)
 
     pub more-after : (p .more ≡ 0 → ⊥)
-        → listingAfter s l ≡ record { active = true; at = p .more; high = l .high; count = l .count }
+        → listingAfter s l ≡ record { active = true; dump = l .dump; at = p .more; high = l .high; count = l .count }
     more-after n =
         after-more s l (λ z. n (ap (λ (r : RangeReply). r .more) e ∙ z))
-        ∙ ap (λ (r : RangeReply). record { active = true; at = r .more; high = l .high; count = l .count }) (sym e)
+        ∙ ap (λ (r : RangeReply). record { active = true; dump = l .dump; at = r .more; high = l .high; count = l .count }) (sym e)
 
-    pub last-lines : p .number ≡ 0 → p .more ≡ 0 → partLines s l ≡ listedLines (itemsOf (p .count) ws) ++ replyLine (RangeEnd (l .count))
-    last-lines z n = done-lines z ∙ rw (end-last (p .more) (l .count) n)
+    pub last-lines : p .number ≡ 0 → p .more ≡ 0
+        → partLines s l ≡ listedLines (l .dump) (itemsOf (p .count) ws) ++ lastLine (l .dump) (l .count)
+    last-lines z n = done-lines z ∙ rw (end-last (l .dump) (p .more) (l .count) n)
 
     pub last-after : p .more ≡ 0 → listingAfter s l ≡ noListing
     last-after n = after-last s l (sym (ap (λ (r : RangeReply). r .more) e) ∙ n)

@@ -4,8 +4,8 @@ use mathlib.Core.Path.{_≡_, refl, sym, ap, _∙_, subst}
 use mathlib.Core.Bool.{Bool, true, false, _&&_, _||_, false≢true}
 use mathlib.Core.List.{List, [], _∷_, _++_, append-assoc, append-nil}
 use mathlib.Core.Logic.{_⊎_, inl, inr}
-use Prim.Native.Nat.{ℕ, zero, suc, _+_, _-_, _≤_, _<_, min}
-use native.Mathlib.Decide.{decLe}
+use Prim.Native.Nat.{ℕ, zero, suc, _+_, _-_, _*_, _^_, _≤_, _<_, min}
+use native.Mathlib.Decide.{decLe, ℕ-discrete}
 use native.Mathlib.Nat.{add-zero}
 use native.Mathlib.Numerals.{add-one}
 use native.Mathlib.Omega.{arith}
@@ -26,12 +26,13 @@ use Rattle.desk.specs.declared.Desk.{Desk}
 use Rattle.desk.specs.declared.Listing.{Listing}
 use Rattle.desk.specs.declared.Progress.{Progress}
 use Rattle.desk.specs.declared.Outcome.{Outcome}
-use Rattle.desk.specs.declared.Outcome.the-variants.{Line, Parts}
-use Rattle.desk.specs.Listing.{partBytes, noListing, carried, partLines, listingAfter}
+use Rattle.desk.specs.declared.Outcome.the-variants.{Line, Parts, Register}
+use Rattle.desk.specs.Listing.{partBytes, partOf, noListing, carried, partLines, listingAfter}
 use Rattle.desk.specs.Transcript.{answered, outcomeBytes, Served, before, ending, served}
-use Rattle.desk.specs.Serving.{lineOf, restOf, untilFeed, keptLine, goesOn, Answers, Serves, Finishes}
-use Rattle.desk.proofs.ListingLaws.{none-carried, carried-turn}
-use Rattle.desk.proofs.LineLaws.{put-line, written-most}
+use Rattle.desk.specs.Serving.{lineOf, restOf, untilFeed, keptLine, goesOn, toDo, GetsOn, Answers, Serves, Finishes}
+use Rattle.desk.proofs.ListingLaws.{after-last, none-carried, carried-turn}
+use Rattle.desk.proofs.LineLaws.{put-line, written-within}
+use Rattle.desk.proofs.PartLaws.{lines-some}
 
 -- the first byte 0A
 
@@ -150,23 +151,36 @@ module _ (s l t out out' : List ℕ) (n : ℕ) (q : Request) (o : Outcome) (p : 
   abbrev now-words : t ≡ answered s (parsed l) .words
   now-words = words ∙ ap (λ (r : Request). answered s r .words) asked
 
+  -- a line, and then what the listing that is left still writes
+  answers-put : (r : Reply) (rest : List ℕ) → outcomeBytes t o ≡ replyLine r ++ rest → 45 ≤ length out → p .put ≡ written r out .count
+      → out' ≡ written r out .bytes → carried t (p .desk .listing) ≡ rest → Answers s l n out t out' p
+  answers-put r rest e h c b left =
+      let y = put-line (replyLine r) out out' (p .put) r refl h c b in
+      let k : length (replyLine r) ≡ p .put = sym (y .0) in
+      let most : p .put ≤ length out = omega (arith, c, written-within r out) in
+      record {
+        words = now-words;
+        says = ap (outcomeBytes t) (sym now-outcome) ∙ e
+            ∙ ap (λ (xs : List ℕ). xs ++ rest) (sym (ap (take (p .put)) (y .1) ∙ take-at (replyLine r) _ (p .put) k))
+            ∙ ap (λ (ys : List ℕ). take (p .put) out' ++ ys) (sym left);
+        empty = empty;
+        taken = taken;
+        put = most;
+        long = ap length (y .1) ∙ length-append (replyLine r) _ ∙ rw length-drop (omega arith);
+        stays = ap (drop (p .put)) (y .1) ∙ drop-at (replyLine r) _ (p .put) k;
+      }
+
   pub answers-line : (r : Reply) → o ≡ Line r → 45 ≤ length out → p .put ≡ written r out .count → out' ≡ written r out .bytes
       → p .desk .listing ≡ noListing → Answers s l n out t out' p
   unfolding outcomeBytes
   answers-line r e h c b none =
-      let y = put-line (replyLine r) out out' (p .put) r refl h c b in
-      let k : length (replyLine r) ≡ p .put = sym (y .0) in
-      let none-left : carried t (p .desk .listing) ≡ [] = none-carried t (p .desk .listing) (ap (λ (x : Listing). x .active) none) in
-      record {
-        words = now-words;
-        says = ap (outcomeBytes t) (sym now-outcome ∙ e) ∙ sym (ap (take (p .put)) (y .1) ∙ take-at (replyLine r) _ (p .put) k)
-            ∙ sym (append-nil _) ∙ ap (λ (ys : List ℕ). take (p .put) out' ++ ys) (sym none-left);
-        empty = empty;
-        taken = taken;
-        put = omega (arith, c, written-most r out);
-        long = ap length (y .1) ∙ length-append (replyLine r) _ ∙ rw length-drop (omega (arith, c, written-most r out));
-        stays = ap (drop (p .put)) (y .1) ∙ drop-at (replyLine r) _ (p .put) k;
-      }
+      answers-put r [] (ap (outcomeBytes t) e ∙ sym (append-nil _)) h c b
+      (none-carried t (p .desk .listing) (ap (λ (x : Listing). x .active) none))
+
+  pub answers-register : (r : Reply) (x : Listing) → o ≡ Register r x → 45 ≤ length out → p .put ≡ written r out .count
+      → out' ≡ written r out .bytes → p .desk .listing ≡ x → Answers s l n out t out' p
+  unfolding outcomeBytes
+  answers-register r x e h c b same = answers-put r (carried t x) (ap (outcomeBytes t) e) h c b (ap (carried t) same)
 
   pub answers-parts : (x : Listing) → o ≡ Parts x → p .put ≡ 0 → out' ≡ out → p .desk .listing ≡ x → Answers s l n out t out' p
   unfolding outcomeBytes
@@ -259,6 +273,41 @@ serves-part s d input out out' left put active e len same o =
       long = same;
       stays = ap (drop put) o ∙ drop-at X _ put (sym len);
     }
+
+-- a turn gets on: input is taken, or lines are put, or the listing is at its end
+
+abbrev flag : Bool → ℕ
+flag b = elim b [ true ↦ 1 | false ↦ 0 ]
+
+flag-most : (b : Bool) → flag b ≤ 1
+flag-most true = omega arith
+flag-most false = omega arith
+
+to-do-most : (d : Desk) → toDo d ≤ 1
+unfolding toDo
+to-do-most d = flag-most (d .listing .active)
+
+to-do-one : (d : Desk) → d .listing .active ≡ true → toDo d ≡ 1
+unfolding toDo
+to-do-one d e = ap flag e
+
+to-do-none : (d : Desk) → d .listing .active ≡ false → toDo d ≡ 0
+unfolding toDo
+to-do-none d e = ap flag e
+
+pub line-gets-on : (d : Desk) (r : Progress) → 1 ≤ r .taken → GetsOn d r
+line-gets-on d r h = omega (arith, to-do-most (r .desk))
+
+pub part-gets-on : (s : List ℕ) (d : Desk) (left : Listing) (put : ℕ) → d .listing .high < 2 ^ 32 → d .listing .active ≡ true
+    → left ≡ listingAfter s (d .listing) → put ≡ length (partLines s (d .listing))
+    → GetsOn d (record { desk = record { line = d .line; held = d .held; listing = left }; taken = 0; put = put })
+part-gets-on s d left put narrow active e len =
+    let l = d .listing in
+    let next : Desk = record { line = d .line; held = d .held; listing = left } in
+    elim (ℕ-discrete (partOf s (l .at) (l .high) .reply .more) 0) [
+      | yes m ↦ omega (arith, to-do-one d active, to-do-none next (ap (λ (x : Listing). x .active) (e ∙ after-last s l m)))
+      | no m ↦ omega (arith, to-do-one d active, to-do-most next, lines-some s l narrow m)
+    ]
 
 -- turn after turn
 

@@ -3,6 +3,7 @@
 --   Register           == nothing set up yet, or what is held
 --   Reckoned           == the bytes replied, and the register after it
 --   setUpReply θ C N P == what set-up replies in a slice of 8,192 words; afterSetUp: the register after it
+--   dumpLines m        == the lines of the register m written out
 --   rangeLines S low high == the lines of the records of S from low to high, and the last line; one line where low is above high
 --   entries r m        == the record r entered in the register: the book's reply
 --   reckoned r q       == the answer to the request q
@@ -17,8 +18,8 @@ use lib.Dec.{leb, ltb, eqb}
 use lib.ListN.{length}
 use Rattle.tree.specs.Book.{entered}
 use Rattle.lines.specs.declared.Request.{Request}
-use Rattle.lines.specs.declared.Request.the-variants.{SetUp, Enter, Find, Next, Range, Summary, Wrong}
-use Rattle.lines.specs.declared.Reply.the-variants.{RangeEnd, Refused, WrongLine}
+use Rattle.lines.specs.declared.Request.the-variants.{SetUp, Enter, Find, Next, Range, Summary, Dump, Wrong}
+use Rattle.lines.specs.declared.Reply.the-variants.{RangeEnd, Refused, SetUpLine, WrongLine}
 use Rattle.lines.specs.Request.{parsed, kindOf}
 use Rattle.lines.specs.Reply.{lineFeed, replyLine}
 use Rattle.store.specs.declared.Format.the-variants.{Plots}
@@ -63,8 +64,14 @@ unfoldable pub rangeLines : List Item → ℕ → ℕ → List ℕ
 rangeLines S low high =
     elim (ltb high low) [
       | true ↦ replyLine (Refused 4 7)
-      | false ↦ listedLines (within low high S) ++ replyLine (RangeEnd (length (within low high S)))
+      | false ↦ listedLines false (within low high S) ++ replyLine (RangeEnd (length (within low high S)))
     ]
+
+-- M-101: "one kind 0 line with its θ, C, N and P, then one kind 1 line a record, ascending"
+unfoldable pub dumpLines : Model → List ℕ
+dumpLines m =
+    let z = m .sizes in
+    replyLine (SetUpLine (z .theta) (z .capacity) (z .nodeBlocks) (z .pageBlocks)) ++ listedLines true (listOf m)
 
 -- on a store that nobody has set up every request but set-up gets 3
 unfoldable pub reckoned : Register → Request → Reckoned
@@ -74,6 +81,7 @@ reckoned unset (Find k) = record { bytes = replyLine (Refused 2 3); register = u
 reckoned unset (Next k) = record { bytes = replyLine (Refused 3 3); register = unset }
 reckoned unset (Range low high) = record { bytes = replyLine (Refused 4 3); register = unset }
 reckoned unset (Summary low high today) = record { bytes = replyLine (Refused 5 3); register = unset }
+reckoned unset Dump = record { bytes = replyLine (Refused 6 3); register = unset }
 reckoned (holding m) (Enter k p l d) =
     let it : Item = record { key = k; price = p; lease = l; last = d } in
     record {
@@ -85,6 +93,7 @@ reckoned (holding m) (Next k) = record { bytes = replyLine (nextTold (nextIn (li
 reckoned (holding m) (Range low high) = record { bytes = rangeLines (listOf m) low high; register = holding m }
 reckoned (holding m) (Summary low high today) =
     record { bytes = replyLine (summaryTold (summaryIn (listOf m) low high today)); register = holding m }
+reckoned (holding m) Dump = record { bytes = dumpLines m; register = holding m }
 reckoned r Wrong = record { bytes = replyLine WrongLine; register = r }
 
 unfoldable pub reckonings : Register → List ℕ → List ℕ → List ℕ
@@ -106,4 +115,4 @@ abbrev pub OneListing : Type 0
 OneListing =
     (s : List ℕ) (S : List Item) → Holds Plots s S → (low high room : ℕ) → low ≤ high → high < 2 ^ 32 → length S ≤ room
     → let its = ranged Plots s (headOf s) low high room .items in
-    outcomeBytes s (opened s low high) ≡ listedLines its ++ replyLine (RangeEnd (length its))
+    outcomeBytes s (opened s low high) ≡ listedLines false its ++ replyLine (RangeEnd (length its))

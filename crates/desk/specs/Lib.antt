@@ -4,3 +4,4 @@ pub mod Transcript
 pub mod Serving
 pub mod Sample
 pub mod Clerk
+pub mod Register

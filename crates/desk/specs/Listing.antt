@@ -1,4 +1,4 @@
--- A range of any length, listed in parts: the call is repeated from the first key not written.
+-- A range of any length, or the register, listed in parts: the call is repeated from the first key not written.
 --   partRecords          == how many records a part has at most
 --   partBytes            == how many bytes it has at most, with the last line of the listing
 --   pieceReply p         == the answer to one call, as range's definition has it
@@ -10,7 +10,9 @@
 --   surveyOf p n         == the survey whose last call gave p, after n records in all
 --   noListing            == no listing is open
 --   partLines s l, listingAfter s l == the bytes of the next part of the listing l, and what is left of the listing after it
---   partEnd more count   == its last line, if no key is left
+--   kindListed dump      == the kind of a listing: 4 of a range, 6 of the register
+--   lastLine dump count  == the line after the records: of a range the count, of the register none
+--   partEnd dump more count == the same, if no key is left
 --   carried s l          == the bytes of what is left of the listing l, part after part
 --   carriedFrom fuel s l == the same with so many parts at most
 use mathlib.Core.Bool.{Bool, true, false}
@@ -71,24 +73,33 @@ unfoldable pub surveyed : List ℕ → ℕ → ℕ → Survey
 surveyed s low high = surveyFrom (suc (high - low)) s low high
 
 abbrev pub noListing : Listing
-noListing = record { active = false; at = 0; high = 0; count = 0 }
+noListing = record { active = false; dump = false; at = 0; high = 0; count = 0 }
+
+abbrev pub kindListed : Bool → ℕ
+kindListed false = 4
+kindListed true = 6
 
 -- "Range gives a line a record, then answer 1 with the count."
-unfoldable pub partEnd : ℕ → ℕ → List ℕ
-partEnd more count = elim (eqb more 0) [ true ↦ replyLine (RangeEnd count) | false ↦ [] ]
+unfoldable pub lastLine : Bool → ℕ → List ℕ
+lastLine false count = replyLine (RangeEnd count)
+lastLine true count = []
+
+unfoldable pub partEnd : Bool → ℕ → ℕ → List ℕ
+partEnd dump more count = elim (eqb more 0) [ true ↦ lastLine dump count | false ↦ [] ]
 
 unfoldable pub partLines : List ℕ → Listing → List ℕ
 partLines s l =
     elim (eqb (partOf s (l .at) (l .high) .reply .number) 0) [
-      | true ↦ listedLines (partItems s (l .at) (l .high)) ++ partEnd (partOf s (l .at) (l .high) .reply .more) (l .count)
-      | false ↦ replyLine (Refused 4 (partOf s (l .at) (l .high) .reply .number))
+      | true ↦ listedLines (l .dump) (partItems s (l .at) (l .high)) ++ partEnd (l .dump) (partOf s (l .at) (l .high) .reply .more) (l .count)
+      | false ↦ replyLine (Refused (kindListed (l .dump)) (partOf s (l .at) (l .high) .reply .number))
     ]
 
 unfoldable pub listingAfter : List ℕ → Listing → Listing
 listingAfter s l =
     elim (eqb (partOf s (l .at) (l .high) .reply .more) 0) [
       | true ↦ noListing
-      | false ↦ record { active = true; at = partOf s (l .at) (l .high) .reply .more; high = l .high; count = l .count }
+      | false ↦
+          record { active = true; dump = l .dump; at = partOf s (l .at) (l .high) .reply .more; high = l .high; count = l .count }
     ]
 
 unfoldable pub carriedFrom : ℕ → List ℕ → Listing → List ℕ

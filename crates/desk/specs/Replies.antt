@@ -1,13 +1,13 @@
 -- The reply line that an operation's answer gets. Document 01, "The counter program".
 --   told kind n r  == the reply r where the number n is 0, else the line of the number n alone
 --   setUpTold, enterTold, findTold, nextTold, summaryTold == an operation's answer as a reply
---   listedTold it  == a record in a listing; listedLines its: a line for each
-use mathlib.Core.Bool.{true, false}
+--   listedTold dump it == a record in a listing of a range, or, if dump, of the register; listedLines dump its: a line for each
+use mathlib.Core.Bool.{Bool, true, false}
 use mathlib.Core.List.{List, [], _∷_, _++_}
 use Prim.Native.Nat.{ℕ}
 use lib.Dec.{eqb}
 use Rattle.lines.specs.declared.Reply.{Reply}
-use Rattle.lines.specs.declared.Reply.the-variants.{SetUpDone, Entered, Found, NextIs, Listed, Totals, Refused}
+use Rattle.lines.specs.declared.Reply.the-variants.{SetUpDone, Entered, Found, NextIs, Listed, Totals, Refused, EnterLine}
 use Rattle.lines.specs.Reply.{replyLine}
 use Rattle.tree.specs.Book.{}
 use Rattle.store.specs.declared.Item.{Item}
@@ -38,10 +38,11 @@ nextTold a = told 3 (a .number) (NextIs (a .item .key) (a .item .price) (a .item
 unfoldable pub summaryTold : SummaryReply → Reply
 summaryTold a = told 5 (a .number) (Totals (a .count) (a .total) (a .key))
 
--- "Range gives a line a record"
-abbrev pub listedTold : Item → Reply
-listedTold it = Listed (it .key) (it .price) (it .lease) (it .last)
+-- "Range gives a line a record"; M-101: "one kind 1 line a record, ascending"
+abbrev pub listedTold : Bool → Item → Reply
+listedTold false it = Listed (it .key) (it .price) (it .lease) (it .last)
+listedTold true it = EnterLine (it .key) (it .price) (it .lease) (it .last)
 
-unfoldable pub listedLines : List Item → List ℕ
-listedLines [] = []
-listedLines (it ∷ its) = replyLine (listedTold it) ++ listedLines its
+unfoldable pub listedLines : Bool → List Item → List ℕ
+listedLines dump [] = []
+listedLines dump (it ∷ its) = replyLine (listedTold dump it) ++ listedLines dump its

@@ -4,6 +4,8 @@
 --   keptLine bs       == the bytes of a line that are kept: one more than a line has
 --   untilFeed bs      == how many bytes stand before the first 0A
 --   goesOn d left room == the desk has a listing to carry on or bytes to take, and room for a part
+--   toDo d            == 1 if a listing is open, else 0
+--   GetsOn d r        == a turn gets on: bytes are taken or put, or the listing is at its end
 --   Answers s l n out t out' r == r says how the line l was answered
 --   Serves s d input out t out' r == r says how far the desk d has come with the input: what it has put into the output, and then what
 --                        is still to be written, is what was to be written; whatever input follows
@@ -17,7 +19,7 @@ use mathlib.Core.Path.{_≡_}
 use mathlib.Core.Bool.{Bool, true, false, _&&_, _||_}
 use mathlib.Core.List.{List, [], _∷_, _++_}
 use mathlib.Core.Logic.{_⊎_}
-use Prim.Native.Nat.{ℕ, suc, _+_, _≤_, _<_}
+use Prim.Native.Nat.{ℕ, suc, _+_, _*_, _≤_, _<_}
 use lib.Dec.{leb, ltb, eqb}
 use lib.ListN.{length, take, drop, replicate}
 use Rattle.lines.specs.declared.Reply.the-variants.{WrongLine}
@@ -44,6 +46,13 @@ keptLine bs = take 43 bs
 -- whether there is something to do, and room for it
 unfoldable pub goesOn : Desk → ℕ → ℕ → Bool
 goesOn d left room = leb partBytes room && (d .listing .active || ltb 0 left)
+
+unfoldable pub toDo : Desk → ℕ
+toDo d = elim (d .listing .active) [ true ↦ 1 | false ↦ 0 ]
+
+-- (the listing of an empty register has no line)
+abbrev pub GetsOn : Desk → Progress → Type 0
+GetsOn d r = toDo (r .desk) < 2 * (r .taken + r .put) + toDo d
 
 -- the line l is answered: what is put, and the listing that is opened, are its outcome
 pub record Answers (s l : List ℕ) (n : ℕ) (out : List ℕ) (t out' : List ℕ) (r : Progress) : Type 0 where

@@ -19,14 +19,16 @@ ghost use Rattle.scan.specs.Range.{rangeRefused, rangeOf};
 ghost use Rattle.index.specs.Answers.{reply, enterReply, rangeReply, summaryReply};
 ghost use Rattle.desk.specs.Replies.{setUpTold, enterTold, findTold, nextTold, summaryTold, listedTold, listedLines};
 ghost use Rattle.desk.specs.Listing.{partBytes, pieceReply, partOf, itemFrom, itemsOf, surveyOf, surveyed, noListing};
-ghost use Rattle.desk.specs.Listing.{partLines, listingAfter};
-ghost use Rattle.desk.specs.Transcript.{opened, answered};
-ghost use Rattle.desk.specs.Serving.{lineOf, keptLine, untilFeed, goesOn, Answers, Serves, Finishes};
+ghost use Rattle.desk.specs.Listing.{kindListed, lastLine, partLines, listingAfter};
+ghost use Rattle.desk.specs.Transcript.{opened, dumped, answered};
+ghost use Rattle.desk.specs.Serving.{lineOf, keptLine, untilFeed, goesOn, GetsOn, Answers, Serves, Finishes};
 ghost use Rattle.desk.specs.Serving.{finished};
 
-// A range that is listed in parts: the next key wanted, the high end, and how many records the whole has.
+// A range that is listed in parts, or, if dump, the register written out: the next key wanted, the high end, and how many records the
+// whole has.
 pub struct Listing {
     pub active: bool,
+    pub dump: bool,
     pub at: u32,
     pub high: u32,
     pub count: u32,
@@ -45,10 +47,11 @@ pub struct Survey {
     pub count: u32,
 }
 
-// What a request is answered with: one line, or a listing in parts.
+// What a request is answered with: one line, a listing in parts, or a line and then a listing.
 pub enum Outcome {
     Line(Reply),
     Parts(Listing),
+    Register(Reply, Listing),
 }
 
 // What is under way between two bytes: the line so far (one byte more than a line has, so that a longer one is seen to be too long), how
@@ -206,6 +209,7 @@ fn no_listing() -> Listing
 {
     Listing {
         active: false,
+        dump: false,
         at: 0,
         high: 0,
         count: 0,
@@ -220,12 +224,34 @@ fn open_range(store: &[u32], low: u32, high: u32) -> Outcome
     if a.number == 0 {
         return Outcome::Parts(Listing {
             active: true,
+            dump: false,
             at: low,
             high,
             count: a.count,
         });
     }
     Outcome::Line(Reply::Refused(4, a.number))
+}
+
+// The register written out: refused with one line, or counted and then a line with the sizes and the listing.
+fn open_dump(store: &[u32]) -> Outcome
+    ensures { λ r. ⌜ r ≡ dumped (now (store .entry)) ⌝ }
+{
+    let a = count_range(store, 1, 4294967295);
+    if a.number != 0 {
+        return Outcome::Line(Reply::Refused(6, a.number));
+    }
+    let head = store::head_of(store);
+    Outcome::Register(
+        Reply::SetUpLine(head.theta, head.capacity, head.nodeBlocks, head.pageBlocks),
+        Listing {
+            active: true,
+            dump: true,
+            at: 1,
+            high: 4294967295,
+            count: a.count,
+        },
+    )
 }
 
 // Answers a request.
@@ -252,33 +278,54 @@ pub fn answer(store: &mut [u32], request: Request) -> Outcome
         Request::Summary(low, high, today) => {
             Outcome::Line(summary_told(index::summary(store, low, high, today)))
         }
+        Request::Dump => open_dump(store),
         Request::Wrong => Outcome::Line(Reply::WrongLine),
     }
 }
 
 // The line of the record whose words stand at an index.
-fn record_told(words: &[u32], at: usize) -> Reply
+fn record_told(words: &[u32], at: usize, dump: bool) -> Reply
     requires { ⌜ at + 4 ≤ length (now words) ⌝ }
-    ensures { λ r. ⌜ r ≡ listedTold (itemFrom (now (words .entry)) at) ⌝ }
+    ensures { λ r. ⌜ r ≡ listedTold dump (itemFrom (now (words .entry)) at) ⌝ }
 {
+    if dump {
+        return Reply::EnterLine(words[at], words[at + 1], words[at + 2], words[at + 3]);
+    }
     Reply::Listed(words[at], words[at + 1], words[at + 2], words[at + 3])
 }
 
 // Writes a line for each of n records, and says how many bytes they have.
-fn write_records(words: &[u32], n: u32, out: &mut [u8]) -> usize
+fn write_records(words: &[u32], dump: bool, n: u32, out: &mut [u8]) -> usize
     requires { ⌜ (4 * n ≤ length (now words)) × (n ≤ 64) × (45 * n ≤ length (now out)) ⌝ }
-    ensures { λ r. ⌜ (r ≡ 45 * n) × (now (out .exit) ≡ listedLines (itemsOf n (now (words .entry))) ++ drop (45 * n) (now (out .entry))) ⌝ }
+    ensures { λ r. ⌜ (r ≡ length (listedLines dump (itemsOf n (now (words .entry))))) × (r ≤ 45 * n)
+        × (now (out .exit) ≡ listedLines dump (itemsOf n (now (words .entry))) ++ drop r (now (out .entry))) ⌝ }
 {
     let mut i: u32 = 0;
     let mut from: usize = 0;
     let mut at: usize = 0;
     while i < n {
-        lines::write(&mut out[at..], record_told(words, from));
+        at += lines::write(&mut out[at..], record_told(words, from, dump));
         from += 4;
-        at += 45;
         i += 1;
     }
     at
+}
+
+fn kind_listed(dump: bool) -> u32
+    ensures { λ r. ⌜ r ≡ kindListed dump ⌝ }
+{
+    if dump { 6 } else { 4 }
+}
+
+// Puts the line after the records of a listing, none after those of the register, and says how many bytes it has.
+fn put_last(dump: bool, count: u32, out: &mut [u8]) -> usize
+    requires { ⌜ 45 ≤ length (now out) ⌝ }
+    ensures { λ r. ⌜ (r ≡ length (lastLine dump count)) × (r ≤ 45) × (now (out .exit) ≡ lastLine dump count ++ drop r (now (out .entry))) ⌝ }
+{
+    if dump {
+        return 0;
+    }
+    lines::write(out, Reply::RangeEnd(count))
 }
 
 // What is left of a listing, and how many bytes of it were put.
@@ -296,17 +343,18 @@ fn list_part(store: &[u32], l: Listing, out: &mut [u8]) -> Listed
     let mut part = [0u32; 256];
     let p = read_part(store, l.at, l.high, &mut part);
     if p.number != 0 {
-        let put = lines::write(out, Reply::Refused(4, p.number));
+        let put = lines::write(out, Reply::Refused(kind_listed(l.dump), p.number));
         return Listed {
             listing: no_listing(),
             put,
         };
     }
-    let put = write_records(&part, p.count, out);
+    let put = write_records(&part, l.dump, p.count, out);
     if p.more != 0 {
         return Listed {
             listing: Listing {
                 active: true,
+                dump: l.dump,
                 at: p.more,
                 high: l.high,
                 count: l.count,
@@ -314,7 +362,7 @@ fn list_part(store: &[u32], l: Listing, out: &mut [u8]) -> Listed
             put,
         };
     }
-    let end = lines::write(&mut out[put..], Reply::RangeEnd(l.count));
+    let end = put_last(l.dump, l.count, &mut out[put..]);
     Listed {
         listing: no_listing(),
         put: put + end,
@@ -372,7 +420,7 @@ fn fresh(listing: Listing) -> Desk
     }
 }
 
-// Answers the line that is held: with one line, or by opening a listing.
+// Answers the line that is held: with one line, or by opening a listing, or with both.
 fn answer_line(store: &mut [u32], d: Desk, taken: usize, out: &mut [u8]) -> Progress
     requires { ⌜ (d .held ≤ 43) × (partBytes ≤ length (now out)) ⌝ }
     ensures { λ r. ⌜ Answers (now (store .entry)) (lineOf d) taken (now (out .entry)) (now (store .exit)) (now (out .exit)) r ⌝ }
@@ -394,6 +442,14 @@ fn answer_line(store: &mut [u32], d: Desk, taken: usize, out: &mut [u8]) -> Prog
             taken,
             put: 0,
         },
+        Outcome::Register(reply, listing) => {
+            let put = lines::write(out, reply);
+            Progress {
+                desk: fresh(listing),
+                taken,
+                put,
+            }
+        }
     }
 }
 
@@ -401,7 +457,7 @@ fn answer_line(store: &mut [u32], d: Desk, taken: usize, out: &mut [u8]) -> Prog
 fn take_line(store: &mut [u32], d: Desk, input: &[u8], out: &mut [u8]) -> Progress
     requires { ⌜ (partBytes ≤ length (now out)) × (d .listing .active ≡ false) × (1 ≤ length (now input)) ⌝ }
     ensures { λ r. ⌜ Serves (now (store .entry)) d (now (input .entry)) (now (out .entry)) (now (store .exit)) (now (out .exit)) r
-        × (1 ≤ r .taken + r .put) ⌝ }
+        × GetsOn d r ⌝ }
 {
     let n = until_feed(input);
     let next = add_to(d, &input[..n]);
@@ -419,7 +475,7 @@ fn take_line(store: &mut [u32], d: Desk, input: &[u8], out: &mut [u8]) -> Progre
 fn turn(store: &mut [u32], d: Desk, input: &[u8], out: &mut [u8]) -> Progress
     requires { ⌜ (partBytes ≤ length (now out)) × ((d .listing .active ≡ true) ⊎ (1 ≤ length (now input))) ⌝ }
     ensures { λ r. ⌜ Serves (now (store .entry)) d (now (input .entry)) (now (out .entry)) (now (store .exit)) (now (out .exit)) r
-        × (1 ≤ r .taken + r .put) ⌝ }
+        × GetsOn d r ⌝ }
 {
     let listing = d.listing;
     if listing.active {

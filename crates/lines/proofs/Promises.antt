@@ -1,5 +1,8 @@
 -- The promises hold, by the laws of columns and of lines.
-use Rattle.lines.specs.Promises.{ColumnFits, ColumnPlain, FormatThenParse, ParseThenFormat, FieldsFit, ReplyFits}
+use mathlib.Core.Path.{refl}
+use Rattle.lines.specs.Promises.{ColumnFits, ColumnPlain, FormatThenParse, ParseThenFormat, FieldsFit, ReplyFits, DumpParses}
+use Rattle.lines.specs.Request.{requestLine}
+use Rattle.lines.specs.Reply.{requestFields, replyLine}
 use Rattle.lines.proofs.ColumnLaws as columns
 use Rattle.lines.proofs.RequestLaws.{line-parsed, line-kept, fields-small}
 use Rattle.lines.proofs.ReplyLaws.{length-reply}
@@ -21,3 +24,7 @@ fields-fit = fields-small
 
 pub reply-fits : ReplyFits
 reply-fits = length-reply
+
+pub dump-parses : DumpParses
+unfolding replyLine requestFields requestLine
+dump-parses a b c d = (refl, refl)

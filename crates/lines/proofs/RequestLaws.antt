@@ -2,19 +2,21 @@
 use mathlib.Core.Path.{_≡_, refl, sym, ap, _∙_}
 use mathlib.Core.Bool.{Bool, true, false, _&&_, false≢true}
 use mathlib.Core.List.{List, [], _∷_, _++_}
-use Prim.Native.Nat.{ℕ, zero, suc, _+_, _*_, _^_, _≤_, _<_}
+use Prim.Native.Nat.{ℕ, zero, suc, _+_, _-_, _*_, _/_, _^_, _≤_, _<_}
 use native.Mathlib.Omega.{arith}
 use lib.Dec.{ltb, eqb}
 use lib.ListN.{length, drop, getD, length-append, drop-of-length-le}
 use borrow.Author.Tests.{eq-eqb, eqb-true, lt-ltb, ltb-true}
 use Rattle.lists.specs.Lists.{All, part}
 use Rattle.lists.proofs.Cases.{by-cases}
-use Rattle.lists.proofs.Tests.{and-true, and-three, untrue}
+use Rattle.lists.proofs.AppendLaws.{all-append}
+use Rattle.lists.proofs.Tests.{and-true, and-three, untrue, all-tab}
 use Rattle.lists.proofs.Parts.{part-front, part-past, part-next, length-part}
 use Rattle.lines.specs.declared.Request.{Request}
-use Rattle.lines.specs.declared.Request.the-variants.{SetUp, Enter, Find, Next, Range, Summary, Wrong}
-use Rattle.lines.specs.Columns.{plain, skipped, numberOf, isNumber, column}
+use Rattle.lines.specs.declared.Request.the-variants.{SetUp, Enter, Find, Next, Range, Summary, Dump, Wrong}
+use Rattle.lines.specs.Columns.{plain, skipped, numberOf, isNumber, byteAt, column}
 use Rattle.lines.specs.Request.{kindOf, fieldsOf, columns, requestLine, fieldOf, unused, requestOf, wellFormed, parsed}
+use Rattle.lines.specs.Reply.{lineFeed}
 use Rattle.lines.proofs.ColumnLaws.{length-column, column-plain, column-read}
 
 -- columns that hold a number
@@ -125,15 +127,18 @@ line-of bs f =
     (next 22 10 32 _ refl (omega arith) (f .third)
     (next 32 10 42 [] refl (omega arith) (f .fourth) (drop-of-length-le bs {i = 42} (omega arith))))))
 
-pub wrong-kind : (k a b c d : ℕ) → 6 ≤ k → requestOf k a b c d ≡ Wrong
+pub wrong-kind :
+    (k a b c d : ℕ) → (k ≡ 0 → ⊥) → (k ≡ 1 → ⊥) → (k ≡ 2 → ⊥) → (k ≡ 3 → ⊥) → (k ≡ 4 → ⊥) → (k ≡ 5 → ⊥) → (k ≡ 6 → ⊥)
+    → requestOf k a b c d ≡ Wrong
 unfolding requestOf
-wrong-kind zero a b c d h = absurd (omega arith)
-wrong-kind (suc zero) a b c d h = absurd (omega arith)
-wrong-kind (suc (suc zero)) a b c d h = absurd (omega arith)
-wrong-kind (suc (suc (suc zero))) a b c d h = absurd (omega arith)
-wrong-kind (suc (suc (suc (suc zero)))) a b c d h = absurd (omega arith)
-wrong-kind (suc (suc (suc (suc (suc zero))))) a b c d h = absurd (omega arith)
-wrong-kind (suc (suc (suc (suc (suc (suc k)))))) a b c d h = refl
+wrong-kind zero a b c d h₀ h₁ h₂ h₃ h₄ h₅ h₆ = absurd (h₀ refl)
+wrong-kind (suc zero) a b c d h₀ h₁ h₂ h₃ h₄ h₅ h₆ = absurd (h₁ refl)
+wrong-kind (suc (suc zero)) a b c d h₀ h₁ h₂ h₃ h₄ h₅ h₆ = absurd (h₂ refl)
+wrong-kind (suc (suc (suc zero))) a b c d h₀ h₁ h₂ h₃ h₄ h₅ h₆ = absurd (h₃ refl)
+wrong-kind (suc (suc (suc (suc zero)))) a b c d h₀ h₁ h₂ h₃ h₄ h₅ h₆ = absurd (h₄ refl)
+wrong-kind (suc (suc (suc (suc (suc zero))))) a b c d h₀ h₁ h₂ h₃ h₄ h₅ h₆ = absurd (h₅ refl)
+wrong-kind (suc (suc (suc (suc (suc (suc zero)))))) a b c d h₀ h₁ h₂ h₃ h₄ h₅ h₆ = absurd (h₆ refl)
+wrong-kind (suc (suc (suc (suc (suc (suc (suc k))))))) a b c d h₀ h₁ h₂ h₃ h₄ h₅ h₆ = refl
 
 -- What a request keeps of the kind and the fields that made it.
 unused-kept : (r : Request) (t : Bool) → (unused r t ≡ Wrong → ⊥) → (t ≡ true) × (unused r t ≡ r)
@@ -169,7 +174,12 @@ request-kept (suc (suc (suc (suc (suc zero))))) a b c d h =
     let u = unused-kept (Summary a b c) (eqb d 0) h in
     let z = zero-fields 0 0 d (u .0) in
     rw (u .1) (refl, rw (z .2))
-request-kept (suc (suc (suc (suc (suc (suc k)))))) a b c d h = absurd (h refl)
+request-kept (suc (suc (suc (suc (suc (suc zero)))))) a b c d h =
+    let u = unused-kept Dump (eqb a 0 && eqb b 0 && eqb c 0 && eqb d 0) h in
+    let t = and-true (eqb a 0 && eqb b 0 && eqb c 0) (eqb d 0) (u .0) in
+    let z = zero-fields a b c (t .0) in
+    rw (u .1) (refl, rw (z .0, z .1, z .2, eqb-true d 0 (t .1)))
+request-kept (suc (suc (suc (suc (suc (suc (suc k))))))) a b c d h = absurd (h refl)
 
 pub line-kept : (bs : List ℕ) → (parsed bs ≡ Wrong → ⊥) → requestLine (parsed bs) ≡ bs
 unfolding requestLine
@@ -196,6 +206,7 @@ line-parsed (Find a) h = parsed-line 2 a 0 0 0 (omega arith) (h .0) (h .1 .0) (h
 line-parsed (Next a) h = parsed-line 3 a 0 0 0 (omega arith) (h .0) (h .1 .0) (h .1 .1 .0) (h .1 .1 .1 .0)
 line-parsed (Range a b) h = parsed-line 4 a b 0 0 (omega arith) (h .0) (h .1 .0) (h .1 .1 .0) (h .1 .1 .1 .0)
 line-parsed (Summary a b c) h = parsed-line 5 a b c 0 (omega arith) (h .0) (h .1 .0) (h .1 .1 .0) (h .1 .1 .1 .0)
+line-parsed Dump h = parsed-line 6 0 0 0 0 (omega arith) (h .0) (h .1 .0) (h .1 .1 .0) (h .1 .1 .1 .0)
 line-parsed Wrong h = parsed-line 99 0 0 0 0 (omega arith) (h .0) (h .1 .0) (h .1 .1 .0) (h .1 .1 .1 .0)
 
 -- the fields are 32-bit numbers
@@ -222,7 +233,8 @@ request-small (suc (suc zero)) a b c d p q r s = unused-small (Find a) _ (p, (no
 request-small (suc (suc (suc zero))) a b c d p q r s = unused-small (Next a) _ (p, (none, (none, (none, tt))))
 request-small (suc (suc (suc (suc zero)))) a b c d p q r s = unused-small (Range a b) _ (p, (q, (none, (none, tt))))
 request-small (suc (suc (suc (suc (suc zero))))) a b c d p q r s = unused-small (Summary a b c) _ (p, (q, (r, (none, tt))))
-request-small (suc (suc (suc (suc (suc (suc k)))))) a b c d p q r s = (none, (none, (none, (none, tt))))
+request-small (suc (suc (suc (suc (suc (suc zero)))))) a b c d p q r s = unused-small Dump _ (none, (none, (none, (none, tt))))
+request-small (suc (suc (suc (suc (suc (suc (suc k))))))) a b c d p q r s = (none, (none, (none, (none, tt))))
 
 pub fields-small : (bs : List ℕ) → Small (parsed bs)
 unfolding parsed
@@ -233,3 +245,21 @@ fields-small bs =
     rw (e, parsed)
     (request-small _ _ _ _ _ (number-small _ (f .first)) (number-small _ (f .second)) (number-small _ (f .third)) (number-small _ (f .fourth))))
     (λ e. rw (e, parsed) (none, (none, (none, (none, tt)))))
+
+-- no byte of a line is 0A: the columns have blanks and digits
+column-printed : (w n : ℕ) → All (λ b. lineFeed < b) (column w n)
+unfolding column byteAt
+column-printed w n =
+    all-tab (λ b. lineFeed < b) w (byteAt w n) (λ i h.
+    by-cases (eqb (n / 10 ^ (w - 1 - i)) 0 && ltb i (w - 1))
+    (λ e. rw (e, byteAt) (omega arith))
+    (λ e. rw (e, byteAt) (omega arith)))
+
+columns-printed : (ns : List ℕ) → All (λ b. lineFeed < b) (columns ns)
+columns-printed [] = tt
+columns-printed (n ∷ ns) = all-append (λ b. lineFeed < b) (column 10 n) (columns ns) (column-printed 10 n) (columns-printed ns)
+
+pub line-printed : (r : Request) → All (λ b. lineFeed < b) (requestLine r)
+unfolding requestLine
+line-printed r =
+    all-append (λ b. lineFeed < b) (column 2 (kindOf r)) (columns (fieldsOf r)) (column-printed 2 (kindOf r)) (columns-printed (fieldsOf r))

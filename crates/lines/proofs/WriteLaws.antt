@@ -11,7 +11,7 @@ use Rattle.lists.specs.Lists.{replaced}
 use Rattle.lists.proofs.Parts.{replaced-none, replaced-set, replaced-after}
 use Rattle.lines.specs.declared.Reply.{Reply}
 use Rattle.lines.specs.Columns.{nought, column}
-use Rattle.lines.specs.Reply.{lineFeed, fourFields, summaryFields, replyLine, written}
+use Rattle.lines.specs.Reply.{lineFeed, fourFields, summaryFields, requestFields, replyLine, lineSize, written}
 use Rattle.lines.specs.Steps.{digitOr}
 use Rattle.lines.proofs.ColumnLaws.{padded, column-padded, length-column}
 
@@ -98,12 +98,26 @@ summary-put s₀ s₁ s₂ s₃ s₄ count total key h e₁ e₂ e₃ e₄ =
     let f₄ = fill-next s₀ 34 10 key 44 _ s₃ s₄ f₃ refl e₄ in
     fill-last s₀ 44 lineFeed _ s₄ f₄ (omega arith) ∙ simp append-assoc
 
--- A reply is written where 45 bytes are there, or nothing is.
-pub written-fits : (r : Reply) (line out bs : List ℕ) (n : ℕ) → 45 ≤ length out → replyLine r ≡ line → (n ≡ 45) × (bs ≡ line ++ drop 45 out)
-    → (n ≡ written r out .count) × (bs ≡ written r out .bytes)
-unfolding written
-written-fits r line out bs n h e w = rw (le-leb 45 (length out) h, written) (w .0, w .1 ∙ ap (λ l. l ++ drop 45 out) (sym e))
+pub request-put :
+    (s₀ s₁ s₂ s₃ : List ℕ) (kind a b c d : ℕ)
+    → 43 ≤ length s₀
+    → s₁ ≡ replaced 0 2 (column 2 kind) s₀
+    → s₂ ≡ replaced 12 10 (column 10 b) (replaced 2 10 (column 10 a) s₁)
+    → s₃ ≡ replaced 32 10 (column 10 d) (replaced 22 10 (column 10 c) s₂)
+    → set s₃ 42 lineFeed ≡ requestFields kind a b c d ++ drop 43 s₀
+unfolding requestFields
+request-put s₀ s₁ s₂ s₃ kind a b c d h e₁ e₂ e₃ =
+    let f₁ = fill-next s₀ 0 2 kind 2 [] s₀ s₁ (none-filled s₀) refl e₁ in
+    let f₂ = fill-two s₀ 2 10 a b 22 _ s₁ s₂ f₁ refl e₂ in
+    let f₃ = fill-two s₀ 22 10 c d 42 _ s₂ s₃ f₂ refl e₃ in
+    fill-last s₀ 42 lineFeed _ s₃ f₃ (omega arith) ∙ simp append-assoc
 
-pub written-short : (r : Reply) (out : List ℕ) → length out < 45 → (0 ≡ written r out .count) × (out ≡ written r out .bytes)
+-- A reply is written where its bytes are there, or nothing is.
+pub written-fits : (r s : Reply) (out bs : List ℕ) (n : ℕ) → lineSize r ≤ length out → r ≡ s
+    → (n ≡ lineSize s) × (bs ≡ replyLine s ++ drop (lineSize s) out) → (n ≡ written r out .count) × (bs ≡ written r out .bytes)
 unfolding written
-written-short r out h = rw (lt-leb 45 (length out) h, written) (refl, refl)
+written-fits r s out bs n h e w = rw (le-leb (lineSize r) (length out) h, written) (rw e w)
+
+pub written-short : (r : Reply) (out : List ℕ) → length out < lineSize r → (0 ≡ written r out .count) × (out ≡ written r out .bytes)
+unfolding written
+written-short r out h = rw (lt-leb (lineSize r) (length out) h, written) (refl, refl)

@@ -1,4 +1,4 @@
--- The sample of document 01, "The counter program", as rows of one table. `proofs/Checks.antt` proves that all hold.
+-- The sample of document 01, "The counter program", and lines of M-101, as rows of one table. `proofs/Checks.antt` proves that all hold.
 --   Check          == a row: a request line as it stands there with its request, or a reply with its line
 --   bytes text     == the bytes of a text
 --   same xs ys     == the two lists are equal
@@ -13,9 +13,9 @@ use Prim.Native.String.{String}
 use Prim.Native.String as text
 use lib.Dec.{eqb}
 use Rattle.lines.specs.declared.Request.{Request}
-use Rattle.lines.specs.declared.Request.the-variants.{SetUp, Enter, Find, Summary}
+use Rattle.lines.specs.declared.Request.the-variants.{SetUp, Enter, Find, Summary, Dump}
 use Rattle.lines.specs.declared.Reply.{Reply}
-use Rattle.lines.specs.declared.Reply.the-variants.{SetUpDone, Entered, Found, Totals}
+use Rattle.lines.specs.declared.Reply.the-variants.{SetUpDone, Entered, Found, Totals, SetUpLine, EnterLine}
 use Rattle.lines.specs.Request.{kindOf, fieldsOf, requestLine, parsed}
 use Rattle.lines.specs.Reply.{replyLine}
 
@@ -56,4 +56,8 @@ table =
     ∷ reply (Entered 1073741824 2 3 3) " 1 01073741824         2         3         3\n"
     ∷ reply (Found 3221225472 90000 0 0) " 2 03221225472     90000         0         0\n"
     ∷ reply (Totals 3 684462 1073741824) " 5 0         3              6844621073741824\n"
+    -- M-101
+    ∷ request " 6         0         0         0         0" Dump
+    ∷ reply (SetUpLine 1 1 4 4) " 0         1         1         4         4\n"
+    ∷ reply (EnterLine 2147483648 1250000 36525 66000) " 12147483648   1250000     36525     66000\n"
     ∷ []

@@ -8,7 +8,7 @@ ghost use lib.ListN.{length, drop};
 ghost use Rattle.lists.specs.Lists.{part, replaced};
 ghost use Rattle.lines.specs.Columns.{skipped, column};
 ghost use Rattle.lines.specs.Request.{unused, requestOf, parsed};
-ghost use Rattle.lines.specs.Reply.{fourFields, summaryFields, written};
+ghost use Rattle.lines.specs.Reply.{fourFields, requestFields, summaryFields, lineSize, written};
 ghost use Rattle.lines.specs.Steps.{spelledBy, numberIn, digitOr};
 
 // What a line asks for: the kind with the fields that it uses.
@@ -19,10 +19,11 @@ pub enum Request {
     Next(u32),
     Range(u32, u32),
     Summary(u32, u32, u32),
+    Dump,
     Wrong,
 }
 
-// What is replied.
+// What is replied. SetUpLine and EnterLine are lines of a register written out: requests, with no answer.
 pub enum Reply {
     SetUpDone(u32),
     Entered(u32, u32, u32, u32),
@@ -32,6 +33,8 @@ pub enum Reply {
     RangeEnd(u32),
     Totals(u32, u64, u32),
     Refused(u32, u32),
+    SetUpLine(u32, u32, u32, u32),
+    EnterLine(u32, u32, u32, u32),
     WrongLine,
 }
 
@@ -139,7 +142,8 @@ fn request_of(kind: u32, a: u32, b: u32, c: u32, d: u32) -> Request
         3 => unless_used(Request::Next(a), zeros(b, c, d)),
         4 => unless_used(Request::Range(a, b), zeros(0, c, d)),
         5 => unless_used(Request::Summary(a, b, c), zeros(0, 0, d)),
-        6..=99 => Request::Wrong,
+        6 => unless_used(Request::Dump, zeros(a, b, c) & (d == 0)),
+        7..=99 => Request::Wrong,
         _ => Request::Wrong,
     }
 }
@@ -215,6 +219,18 @@ fn put_fields(out: &mut [u8], kind: u32, answer: u32, a: u32, b: u32, c: u32, d:
     45
 }
 
+// Puts a request with four fields.
+fn put_request(out: &mut [u8], kind: u32, a: u32, b: u32, c: u32, d: u32) -> usize
+    requires { ⌜ 43 ≤ length (now out) ⌝ }
+    ensures { λ r. ⌜ (r ≡ 43) × (now (out .exit) ≡ requestFields kind a b c d ++ drop 43 (now (out .entry))) ⌝ }
+{
+    put(out, 0, 2, kind as u64);
+    put_two(out, 2, 10, a, b);
+    put_two(out, 22, 10, c, d);
+    out[42] = b'\n';
+    43
+}
+
 // Puts a summary: count, total in 20 columns, earliest key.
 fn put_summary(out: &mut [u8], count: u32, total: u64, key: u32) -> usize
     requires { ⌜ 45 ≤ length (now out) ⌝ }
@@ -228,11 +244,22 @@ fn put_summary(out: &mut [u8], count: u32, total: u64, key: u32) -> usize
     45
 }
 
+// How many bytes the line of a reply has.
+fn size_of(reply: Reply) -> usize
+    ensures { λ r. ⌜ r ≡ lineSize reply ⌝ }
+{
+    match reply {
+        Reply::SetUpLine(theta, capacity, nodes, pages) => 43,
+        Reply::EnterLine(key, price, lease, last) => 43,
+        _ => 45,
+    }
+}
+
 // Writes the line of a reply, and says how many bytes it has; nothing is written where it does not fit.
 pub fn write(out: &mut [u8], reply: Reply) -> usize
     ensures { λ r. ⌜ (r ≡ written reply (now (out .entry)) .count) × (now (out .exit) ≡ written reply (now (out .entry)) .bytes) ⌝ }
 {
-    if out.len() < 45 {
+    if out.len() < size_of(reply) {
         return 0;
     }
     match reply {
@@ -252,6 +279,15 @@ pub fn write(out: &mut [u8], reply: Reply) -> usize
         Reply::RangeEnd(count) => put_fields(out, 4, 1, count, 0, 0, 0),
         Reply::Totals(count, total, key) => put_summary(out, count, total, key),
         Reply::Refused(kind, answer) => put_fields(out, kind, answer, 0, 0, 0, 0),
+        Reply::SetUpLine(theta, capacity, nodes, pages) => put_request(
+            out,
+            0,
+            theta,
+            capacity,
+            nodes,
+            pages,
+        ),
+        Reply::EnterLine(key, price, lease, last) => put_request(out, 1, key, price, lease, last),
         Reply::WrongLine => put_fields(out, 99, 2, 0, 0, 0, 0),
     }
 }

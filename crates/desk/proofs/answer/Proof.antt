@@ -66,8 +66,14 @@ returns-6 c =
 returns-7 : tie.Need-returns-7
 unfolding answered
 returns-7 c =
+    let s = c .before .before .before .before .before .args .store .now in
+    told-as s (c .before .before .enum-told .given .1) (c .open-dump .ensures) refl refl
+
+returns-8 : tie.Need-returns-8
+unfolding answered
+returns-8 c =
     let s = c .before .before .before .args .store .now in
-    told-as s (c .enum-told .given .1) refl refl refl
+    told-as s (c .enum-told2 .given .1) refl refl refl
 
 pub answer-spec : {M : Type 1} → statement M
 answer-spec =
@@ -75,5 +81,6 @@ answer-spec =
     (tie.spec (λ c. search needs) (λ c κs. search needs) (λ c κs. search needs) (λ c. search needs) (λ c κs. search needs)
     (λ c κs. search needs) (λ c. search needs) (λ c κs. search needs) (λ c κs. search needs) (λ c. search needs) (λ c κs. search needs)
     (λ c κs. search needs) (λ c. search needs) (λ c κs. search needs) (λ c. search needs) (λ c κs. search needs) summary-told-requires
-    (λ c. search needs) (λ c. search needs) returns (λ c. search needs) returns-2 (λ c. search needs) returns-3 (λ c. search needs)
-    returns-4 (λ c. search needs) returns-5 (λ c. search needs) returns-6 returns-7)
+    (λ c. search needs) (λ c κs. search needs) (λ c. search needs) (λ c. search needs) returns (λ c. search needs) returns-2
+    (λ c. search needs) returns-3 (λ c. search needs) returns-4 (λ c. search needs) returns-5 (λ c. search needs) returns-6
+    (λ c. search needs) returns-7 returns-8)

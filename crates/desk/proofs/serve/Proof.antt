@@ -2,10 +2,10 @@
 use borrow.Author.Needs.{needs}
 use mathlib.Core.Path.{_≡_, refl, sym, _∙_}
 use mathlib.Core.Logic.{_⊎_, inl, inr}
-use Prim.Native.Nat.{ℕ, _+_, _-_, _^_, _≤_, _<_}
+use Prim.Native.Nat.{ℕ, _+_, _-_, _*_, _^_, _≤_, _<_}
 use native.Mathlib.Omega.{arith}
 use lib.ListN.{length}
-use Rattle.desk.specs.Serving.{Serves}
+use Rattle.desk.specs.Serving.{toDo, GetsOn, Serves}
 use Rattle.desk.proofs.ServeLaws.{serves-start, serves-then, serves-over, goes-on-room, part-long}
 use Rattle.desk.proofs.serve.Statement.{statement}
 use Rattle.desk.proofs.serve.Tie as tie
@@ -19,7 +19,7 @@ Inv-loop store₀ input out₀ desk₀ taken₀ put₀ store out desk taken put 
     Serves store₀ desk₀ input out₀ store out (record { desk = desk; taken = taken; put = put }) × (length store ≡ length store₀)
 
 abbrev μ-loop : tie.MeasureT-loop
-μ-loop store₀ input out₀ desk₀ taken₀ put₀ store out desk taken put = (length input - taken) + (length out₀ - put)
+μ-loop store₀ input out₀ desk₀ taken₀ put₀ store out desk taken put = 2 * ((length input - taken) + (length out₀ - put)) + toDo desk
 
 loop-holds : tie.Need-loop-holds Inv-loop μ-loop
 loop-holds c = (serves-start _ _ _ _, refl)
@@ -37,12 +37,12 @@ turn-requires c κs =
     let r = goes-on-room (l .desk) _ _ (sym (g .goes-on .ensures) ∙ c .before .before .before .if1 .taken) in
     (omega (arith, r .0, part-long (l .out) (l .put)), more (part-long (c .before .before .before .before .before .before .before .before .before .args .input .now) (l .taken)) (r .1))
 
--- a turn stays within what is left, and does something
+-- a turn stays within what is left, and gets on
 moves : (c : tie.After-turn Inv-loop μ-loop)
     → let l = c .before .before .before .before .before .before .loop in
     let a = c .before .before .before .before .before .before .before .before .before .before .args in
     (c .turn .result .taken ≤ length (a .input .now) - l .taken) × (c .turn .result .put ≤ length (l .out) - l .put)
-    × (1 ≤ c .turn .result .taken + c .turn .result .put)
+    × GetsOn (l .desk) (c .turn .result)
 moves c =
     let l = c .before .before .before .before .before .before .loop in
     let a = c .before .before .before .before .before .before .before .before .before .before .args in

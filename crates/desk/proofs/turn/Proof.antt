@@ -4,10 +4,8 @@ use mathlib.Core.Path.{_≡_, refl, sym, ap, _∙_}
 use mathlib.Core.Bool.{Bool, true, false, false≢true}
 use mathlib.Core.Logic.{_⊎_, inl, inr}
 use Prim.Native.Nat.{_^_, _<_}
-use native.Mathlib.Omega.{arith}
 use lib.ListN.{length}
-use Rattle.desk.proofs.PartLaws.{lines-some}
-use Rattle.desk.proofs.ServeLaws.{serves-part}
+use Rattle.desk.proofs.ServeLaws.{serves-part, part-gets-on}
 use Rattle.desk.proofs.turn.Statement.{statement}
 use Rattle.desk.proofs.turn.Tie as tie
 
@@ -21,7 +19,8 @@ returns c =
     let a = c .before .before .before .before .before .before .before .before .before .before .before .before .args in
     let same : length (c .before .before .before .before .list-part .last .1 .1 .0) ≡ length (a .out .now) = search needs in
     let n : a .d .listing .high < 2 ^ 32 = search needs in
-    (serves-part _ _ _ _ _ _ _ (c .before .before .before .before .before .before .before .if1 .taken) (p .0) (p .1) same (p .2), omega (arith, p .1, lines-some (a .store .now) (a .d .listing) n))
+    let listed = c .before .before .before .before .before .before .before .if1 .taken in
+    (serves-part _ _ _ _ _ _ _ listed (p .0) (p .1) same (p .2), part-gets-on (a .store .now) (a .d) _ _ n listed (p .0) (p .1))
 
 take-line-requires : tie.Need-take-line-requires
 take-line-requires c κs =

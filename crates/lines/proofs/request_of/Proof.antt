@@ -1,7 +1,7 @@
--- Each arm is one clause of the definition; the last two are the kinds from 6 on.
+-- Each arm is one clause of the definition; the last two are the kinds from 7 on.
 use borrow.Author.Needs.{needs}
-use mathlib.Core.Path.{sym}
-use native.Mathlib.Omega.{arith}
+use mathlib.Core.Path.{_≡_, sym}
+use Rattle.lines.specs.declared.Request.the-variants.{Wrong}
 use Rattle.lines.specs.Request.{requestOf}
 use Rattle.lines.proofs.RequestLaws.{wrong-kind}
 use Rattle.lines.proofs.request_of.Statement.{statement}
@@ -32,14 +32,25 @@ unfolding requestOf
 returns-6 c = rw (c .before .before .match .keys6, c .unless-used4 .ensures, c .before .zeros4 .ensures)
 
 returns-7 : tie.Need-returns-7
-returns-7 c = sym (wrong-kind _ _ _ _ _ (omega arith))
+unfolding requestOf
+returns-7 c = rw (c .before .before .match .keys7, c .unless-used5 .ensures, c .before .zeros5 .ensures)
+
+wrong : (c : tie.At-match-rest)
+    → Wrong ≡ requestOf (c .before .args .kind) (c .before .args .a) (c .before .args .b) (c .before .args .c) (c .before .args .d)
+wrong c =
+    let h = c .match .rest in
+    sym
+    (wrong-kind _ _ _ _ _ (h .0 .0 .0 .0 .0 .0 .1) (h .0 .0 .0 .0 .0 .1) (h .0 .0 .0 .0 .1) (h .0 .0 .0 .1) (h .0 .0 .1) (h .0 .1) (h .1))
 
 returns-8 : tie.Need-returns-8
-returns-8 c = sym (wrong-kind _ _ _ _ _ (omega arith))
+returns-8 c = wrong (c .before)
+
+returns-9 : tie.Need-returns-9
+returns-9 c = wrong (c .before)
 
 pub request-of-spec : {M : Type 1} → statement M
 request-of-spec =
     tie.close
     (tie.spec (λ c κs. search needs) (λ c κs. search needs) (λ c κs. search needs) (λ c κs. search needs) (λ c κs. search needs)
-    (λ c κs. search needs) (λ c κs. search needs) (λ c κs. search needs) returns returns-2 returns-3 returns-4 returns-5 returns-6 returns-7
-    returns-8)
+    (λ c κs. search needs) (λ c κs. search needs) (λ c κs. search needs) (λ c κs. search needs) (λ c κs. search needs) returns returns-2
+    returns-3 returns-4 returns-5 returns-6 returns-7 returns-8 returns-9)
