@@ -57,14 +57,16 @@ int main(void)
     range(OUT_WORDS);
     range(3);
     show("balance", plots_balance(1250000, 36525, 66000, 46000, reply, REPLY_WORDS), 1);
-    show("key of", plots_key_of(255, 4095, 4095, reply, REPLY_WORDS), 1);
-    show("label of", plots_label_of(16777216, reply, REPLY_WORDS), 3);
+    show("key of", plots_key_of(255, 4095, 255, 15, reply, REPLY_WORDS), 1);
+    show("label of", plots_label_of(16777409, reply, REPLY_WORDS), 4);
+    show("convert", plots_convert(16777228, reply, REPLY_WORDS), 1);
 
     /* refusals: zeros */
     enter(2147483648, 1250000, 36525, 66000);
     enter(1, 2, 36526, 3);
     show("set up", plots_set_up(store, STORE_WORDS - 1, 1, 1, 4, 4, reply, REPLY_WORDS), 1);
-    show("key of", plots_key_of(0, 0, 0, reply, REPLY_WORDS), 1);
+    show("key of", plots_key_of(0, 0, 0, 0, reply, REPLY_WORDS), 1);
+    show("convert", plots_convert(16777472, reply, REPLY_WORDS), 1);
 
     /* a reply of two words takes two values, and the words after it stay */
     reply[2] = reply[3] = GUARD;

@@ -61,13 +61,17 @@ uint32_t plots_summary(const uint32_t *store, size_t store_words, uint32_t low, 
  * Reply: the balance in pence. Returns 0 or 6. */
 uint32_t plots_balance(uint32_t price, uint32_t lease, uint32_t last, uint32_t today, uint64_t *reply, size_t reply_words);
 
-/* The key of a label: section 1 to 255, row 0 to 4,095, place 0 to 4,095.
+/* The key of a label: section 1 to 255, row 0 to 4,095, place 0 to 255, letter 0 (none) or 1 to 15 (A to O).
  * Reply: the key. Returns 0 or 11. */
-uint32_t plots_key_of(uint32_t section, uint32_t row, uint32_t place, uint64_t *reply, size_t reply_words);
+uint32_t plots_key_of(uint32_t section, uint32_t row, uint32_t place, uint32_t letter, uint64_t *reply, size_t reply_words);
 
 /* The label of a key from 2^24 on.
- * Reply: the section, the row, the place. Returns 0 or 11. */
+ * Reply: the section, the row, the place, the letter. Returns 0 or 11. */
 uint32_t plots_label_of(uint32_t key, uint64_t *reply, size_t reply_words);
+
+/* The key, with letter 0, of a key of the old packing (section * 2^24 + row * 2^12 + place) from 2^24 on with a place of at most 255.
+ * Reply: the key. Returns 0 or 11. */
+uint32_t plots_convert(uint32_t key, uint64_t *reply, size_t reply_words);
 
 #ifdef __cplusplus
 }

@@ -8,8 +8,8 @@
 --   rangeValues r   == of range: the count, the first key not written
 --   summaryValues r == of summary: the count, the total balance, the key of the earliest last day
 --   balanceValues r == of balance: the balance
---   keyValues r     == of a label's key: the key
---   labelValues r   == of a key's label: the section, the row, the place
+--   keyValues r     == of a label's key, or of a conversion: the key
+--   labelValues r   == of a key's label: the section, the row, the place, the letter
 use mathlib.Core.Path.{_≡_}
 use mathlib.Core.List.{List, [], _∷_}
 use Prim.Native.Nat.{ℕ}
@@ -62,4 +62,4 @@ unfoldable pub keyValues : KeyReply → List ℕ
 keyValues r = r .key ∷ []
 
 unfoldable pub labelValues : LabelReply → List ℕ
-labelValues r = r .section ∷ r .row ∷ r .place ∷ []
+labelValues r = r .section ∷ r .row ∷ r .place ∷ r .letter ∷ []

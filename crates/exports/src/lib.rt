@@ -13,7 +13,7 @@ use store::SetUpAnswer;
 ghost use mathlib.Core.Path.{_≡_};
 ghost use lib.ListN.{set};
 ghost use Rattle.plot.specs.Money.{balanceReply};
-ghost use Rattle.plot.specs.Label.{keyReply, keyOfReply, labelReply, labelOfReply};
+ghost use Rattle.plot.specs.Label.{keyReply, keyOfReply, labelReply, labelOfReply, convertReply};
 ghost use Rattle.store.specs.declared.Format.the-variants.{Plots};
 ghost use Rattle.store.specs.SetUp.{setUp};
 ghost use Rattle.search.specs.Find.{findReply};
@@ -187,13 +187,13 @@ fn label_answer(answer: LabelAnswer) -> Answer
     match answer {
         LabelAnswer::Labelled(label) => Answer {
             number: 0,
-            count: 3,
+            count: 4,
             first: label.section as u64,
             second: label.row as u64,
             third: label.place as u64,
-            fourth: 0,
+            fourth: label.letter as u64,
         },
-        LabelAnswer::NoLabel => zeros(11, 3),
+        LabelAnswer::NoLabel => zeros(11, 4),
     }
 }
 
@@ -345,14 +345,21 @@ pub extern "C" fn plots_balance(
 
 // The key of a label.
 #[no_mangle]
-pub extern "C" fn plots_key_of(section: u32, row: u32, place: u32, reply: &mut [u64]) -> u32
-    ensures { λ r. ⌜ (let a = keyOfReply (record { section = section; row = row; place = place }) in
+pub extern "C" fn plots_key_of(
+    section: u32,
+    row: u32,
+    place: u32,
+    letter: u32,
+    reply: &mut [u64],
+) -> u32
+    ensures { λ r. ⌜ (let a = keyOfReply (record { section = section; row = row; place = place; letter = letter }) in
         (r ≡ a .number) × (now (reply .exit) ≡ filled (keyValues a) (now (reply .entry)))) ⌝ }
 {
     let label = Label {
         section: section,
         row: row,
         place: place,
+        letter: letter,
     };
     put_answer(reply, key_answer(index::key_of(label)))
 }
@@ -364,4 +371,13 @@ pub extern "C" fn plots_label_of(key: u32, reply: &mut [u64]) -> u32
         (r ≡ a .number) × (now (reply .exit) ≡ filled (labelValues a) (now (reply .entry)))) ⌝ }
 {
     put_answer(reply, label_answer(index::label_of(key)))
+}
+
+// The key of a key of the old packing.
+#[no_mangle]
+pub extern "C" fn plots_convert(key: u32, reply: &mut [u64]) -> u32
+    ensures { λ r. ⌜ (let a = convertReply key in
+        (r ≡ a .number) × (now (reply .exit) ≡ filled (keyValues a) (now (reply .entry)))) ⌝ }
+{
+    put_answer(reply, key_answer(index::convert(key)))
 }

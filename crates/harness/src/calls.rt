@@ -33,6 +33,8 @@ pub const KEY_OF: u32 = 7;
 
 pub const LABEL_OF: u32 = 8;
 
+pub const CONVERT: u32 = 10;
+
 // What the words of an output hold before a call.
 pub const MARK: u32 = 4277009102;
 
@@ -174,7 +176,7 @@ fn labelled(answer: LabelAnswer) -> Reply {
                 widen(label.section),
                 widen(label.row),
                 widen(label.place),
-                0,
+                widen(label.letter),
             )
         }
         LabelAnswer::NoLabel => refusal(11),
@@ -190,8 +192,10 @@ fn plain(call: Call) -> Reply {
             section: call.a,
             row: call.b,
             place: call.c,
+            letter: call.d,
         })),
-        _ => labelled(index::label_of(call.a)),
+        LABEL_OF => labelled(index::label_of(call.a)),
+        _ => keyed(index::convert(call.a)),
     }
 }
 

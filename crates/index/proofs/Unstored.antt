@@ -7,12 +7,13 @@ use Rattle.lists.proofs.Cases.{by-cases}
 use Rattle.plot.specs.declared.Label.{Label}
 use Rattle.plot.specs.Plot.{lawfulDay, lawfulTerm}
 use Rattle.plot.specs.Money.{Reply, amount, balanceReply}
-use Rattle.plot.specs.Label.{lawfulLabel, pack, sectionOf, rowOf, placeOf, hasLabel, keyOfReply, LabelReply, labelOfReply}
+use Rattle.plot.specs.Label.{pack, sectionOf, rowOf, placeOf, letterOf, hasLabel, keyOfReply, LabelReply, labelOfReply, convertReply}
 use Rattle.plot.specs.Promises.{InTerm}
 use Rattle.plot.proofs.Laws.{day-limit, limit-day, amount-perpetual}
 use Rattle.plot.proofs.Laws.{term-refused, today-refused, balance-given, label-limits, key-refused, key-given, key-limits, label-given}
-use Rattle.plot.proofs.Promises.{term-limits, balance-exact, label-key-label, key-label-key}
-use Rattle.index.specs.Demands.{BalanceAnswered, KeyAnswered, LabelAnswered, BothWays, Demand4}
+use Rattle.plot.proofs.Laws.{key-lawful, convert-limits, convert-refused, convert-given}
+use Rattle.plot.proofs.Promises.{term-limits, balance-exact, label-key-label, key-label-key, label-order, converted, converted-in-order}
+use Rattle.index.specs.Demands.{BalanceAnswered, KeyAnswered, LabelAnswered, BothWays, ConvertAnswered, Demand4}
 
 module _ (price lease last today : ℕ) where
   outside : (InTerm lease last × (today ≤ 99999) → ⊥) → balanceReply price lease last today ≡ record { number = 6; value = 0 }
@@ -56,31 +57,33 @@ label-answered k =
       done = λ h. ap (λ (a : LabelReply). a .number) (sym (label-given {k = k} (h .0) (h .1)));
     }
 
--- a call that is done has a lawful label, or a key with one
-keyed : (l : Label) → keyOfReply l .number ≡ 0 → lawfulLabel (l .section) (l .row) (l .place) ≡ true
-unfolding keyOfReply
-keyed l e =
-    by-cases (lawfulLabel (l .section) (l .row) (l .place)) (λ t. t) (λ t. absurd (omega (arith, rw (t, keyOfReply) at e)))
-
+-- a call that is done has a key with a label
 labelled : (k : ℕ) → labelOfReply k .number ≡ 0 → hasLabel k ≡ true
 unfolding labelOfReply
 labelled k e = by-cases (hasLabel k) (λ t. t) (λ t. absurd (omega (arith, rw (t, labelOfReply) at e)))
 
 abbrev parts : ℕ → Label
-parts k = record { section = sectionOf k; row = rowOf k; place = placeOf k }
+parts k = record { section = sectionOf k; row = rowOf k; place = placeOf k; letter = letterOf k }
 
 both-ways : BothWays
 unfolding keyOfReply labelOfReply
 both-ways = (
   λ l e.
-      let t = keyed l e in
-      let p = label-key-label (l .section) (l .row) (l .place) t in
-      rw (t, keyOfReply) (rw (p .0, labelOfReply) (rw (p .1, p .2, p .3))),
+      let t = key-lawful l e in
+      let p = label-key-label (l .section) (l .row) (l .place) (l .letter) t in
+      rw (t, keyOfReply) (rw (p .0, labelOfReply) (rw (p .1, p .2, p .3, p .4))),
   λ k e.
       let t = labelled k e in
       let p = key-label-key k t in
-      rw (t, labelOfReply) (sym (key-given {l = parts k} (label-limits _ _ _ (p .0)) (sym (p .1)))),
+      rw (t, labelOfReply) (sym (key-given {l = parts k} (label-limits _ _ _ _ (p .0)) (sym (p .1)))),
 )
 
+converted-answered : (k : ℕ) → ConvertAnswered k
+converted-answered k =
+    record {
+      refused = λ h. sym (convert-refused k h);
+      done = λ h. sym (convert-given k (h .0) (h .1) (h .2) refl);
+    }
+
 pub demand-4 : Demand4
-demand-4 = (balanced, key-answered, label-answered, both-ways)
+demand-4 = (balanced, key-answered, label-answered, both-ways, label-order, converted-answered, converted, converted-in-order)

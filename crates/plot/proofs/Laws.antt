@@ -1,6 +1,6 @@
 -- What the functions' proofs and the promises share: bounds on products and quotients, days left and balances, and the limits of labels
 -- and keys.
-use mathlib.Core.Bool.{true, false, not, _&&_, and-false, and-eq-true-iff, not-eq-not}
+use mathlib.Core.Bool.{Bool, true, false, not, _&&_, and-false, and-eq-true-iff, not-eq-not}
 use mathlib.Core.Path.{_≡_, sym, ap, subst⁻¹, _∙_}
 use mathlib.Core.Logic.{inl, inr}
 use Prim.Native.Nat.{ℕ, _+_, _*_, _/_, _%_, _^_, _≤_, _<_, max}
@@ -11,11 +11,13 @@ use native.Mathlib.Omega.{arith}
 use lib.Dec.{leb, ltb, eqb}
 use lib.Pow.{pow-pos, pow-add}
 use borrow.Author.Tests.{leb-true, ltb-true, eqb-true, le-leb, lt-ltb, eq-eqb, ne-eqb}
+use Rattle.lists.proofs.Cases.{bool-cases}
 use Rattle.plot.specs.declared.Record.{Record}
 use Rattle.plot.specs.declared.Label.{Label}
 use Rattle.plot.specs.Plot.{isWord, lawfulDay, lawfulTerm, lawful}
 use Rattle.plot.specs.Money.{daysLeft, amount, balanceReply}
-use Rattle.plot.specs.Label.{lawfulLabel, pack, sectionOf, rowOf, placeOf, hasLabel, keyOfReply, labelOfReply}
+use Rattle.plot.specs.Label.{lawfulLabel, pack, sectionOf, rowOf, placeOf, letterOf, hasLabel, keyOfReply, labelOfReply}
+use Rattle.plot.specs.Label.{oldPlaceOf, converts, convertReply}
 use Rattle.plot.specs.Promises.{InTerm, Limits}
 
 -- The product of two numbers of k bits has at most k + k.
@@ -149,38 +151,58 @@ module _ (price lease last today : ℕ) where
   balance-given t d e = rw (t, d, balanceReply) (rw e)
 
 -- The limits of a label.
-module _ (s r p : ℕ) where
-  pub label-limits : lawfulLabel s r p ≡ true → Limits s r p
+module _ (s r p l : ℕ) where
+  pub label-limits : lawfulLabel s r p l ≡ true → Limits s r p l
   unfolding lawfulLabel
   label-limits h =
-      let a = and-eq-true-iff (leb 1 s) (leb s 255 && (leb r 4095 && leb p 4095)) .0 h in
-      let b = and-eq-true-iff (leb s 255) (leb r 4095 && leb p 4095) .0 (a .1) in
-      let d = and-eq-true-iff (leb r 4095) (leb p 4095) .0 (b .1) in
+      let a = and-eq-true-iff (leb 1 s) _ .0 h in
+      let b = and-eq-true-iff (leb s 255) _ .0 (a .1) in
+      let d = and-eq-true-iff (leb r 4095) _ .0 (b .1) in
+      let e = and-eq-true-iff (leb p 255) (leb l 15) .0 (d .1) in
       record {
         first = leb-true 1 s (a .0);
         section = leb-true s 255 (b .0);
         row = leb-true r 4095 (d .0);
-        place = leb-true p 4095 (d .1);
+        place = leb-true p 255 (e .0);
+        letter = leb-true l 15 (e .1);
       }
 
-  pub limits-label : Limits s r p → lawfulLabel s r p ≡ true
+  pub limits-label : Limits s r p l → lawfulLabel s r p l ≡ true
   unfolding lawfulLabel
-  limits-label h = simp (le-leb 1 s (h .first), le-leb s 255 (h .section), le-leb r 4095 (h .row), le-leb p 4095 (h .place))
+  limits-label h =
+      simp
+      (le-leb 1 s (h .first), le-leb s 255 (h .section), le-leb r 4095 (h .row), le-leb p 255 (h .place), le-leb l 15 (h .letter))
 
 -- What `key_of` is to reply: a refusal outside the limits, else the key.
+abbrev isLawful : Label → Bool
+isLawful l = lawfulLabel (l .section) (l .row) (l .place) (l .letter)
+
+abbrev packed : Label → ℕ
+packed l = pack (l .section) (l .row) (l .place) (l .letter)
+
 module _ {l : Label} where
-  pub key-refused : (Limits (l .section) (l .row) (l .place) → ⊥) → record { number = 11; key = 0 } ≡ keyOfReply l
+  pub key-refused : (Limits (l .section) (l .row) (l .place) (l .letter) → ⊥) → record { number = 11; key = 0 } ≡ keyOfReply l
   unfolding keyOfReply
-  key-refused h =
-      rw (not-eq-not {a = lawfulLabel (l .section) (l .row) (l .place)} {b = false} .0 (λ e. h (label-limits _ _ _ e)), keyOfReply)
+  key-refused h = rw (not-eq-not {a = isLawful l} {b = false} .0 (λ e. h (label-limits _ _ _ _ e)), keyOfReply)
 
   pub key-given :
       {k : ℕ} →
-      Limits (l .section) (l .row) (l .place) →
-      k ≡ pack (l .section) (l .row) (l .place) →
+      Limits (l .section) (l .row) (l .place) (l .letter) →
+      k ≡ packed l →
       record { number = 0; key = k } ≡ keyOfReply l
   unfolding keyOfReply
-  key-given h e = rw (limits-label (l .section) (l .row) (l .place) h, keyOfReply) (rw e)
+  key-given h e = rw (limits-label (l .section) (l .row) (l .place) (l .letter) h, keyOfReply) (rw e)
+
+-- a label that is not refused
+module _ (l : Label) where
+  pub key-lawful : keyOfReply l .number ≡ 0 → isLawful l ≡ true
+  unfolding keyOfReply
+  key-lawful e =
+      elim (bool-cases (isLawful l)) [ inl h ↦ h | inr h ↦ absurd (omega (arith, rw (h, keyOfReply) at e)) ]
+
+  pub key-packed : isLawful l ≡ true → keyOfReply l .key ≡ packed l
+  unfolding keyOfReply
+  key-packed h = rw (h, keyOfReply)
 
 -- The limits of a key that has a label.
 module _ (k : ℕ) where
@@ -196,11 +218,38 @@ module _ (k : ℕ) where
 
 -- What `label_of` is to reply: a refusal below 2^24, else the parts of the key.
 module _ {k : ℕ} where
-  pub label-refused : k < 2 ^ 24 → record { number = 11; section = 0; row = 0; place = 0 } ≡ labelOfReply k
+  pub label-refused : k < 2 ^ 24 → record { number = 11; section = 0; row = 0; place = 0; letter = 0 } ≡ labelOfReply k
   unfolding labelOfReply
   label-refused h = rw (not-eq-not {a = hasLabel k} {b = false} .0 (λ e. omega (arith, key-limits k e)), labelOfReply)
 
   pub label-given : 2 ^ 24 ≤ k → k < 2 ^ 32
-      → record { number = 0; section = sectionOf k; row = rowOf k; place = placeOf k } ≡ labelOfReply k
+      → record { number = 0; section = sectionOf k; row = rowOf k; place = placeOf k; letter = letterOf k } ≡ labelOfReply k
   unfolding labelOfReply
   label-given h l = rw (limits-key k h l, labelOfReply)
+
+-- What `convert` is to reply: a refusal below 2^24 or of a place above 255, else the key with letter 0.
+module _ (k : ℕ) where
+  pub convert-limits : converts k ≡ true → (2 ^ 24 ≤ k) × (k < 2 ^ 32) × (oldPlaceOf k ≤ 255)
+  unfolding converts
+  convert-limits h =
+      let a = and-eq-true-iff (hasLabel k) (leb (oldPlaceOf k) 255) .0 h in
+      let b = key-limits k (a .0) in
+      (b .0, b .1, leb-true (oldPlaceOf k) 255 (a .1))
+
+  pub convert-refused : ((2 ^ 24 ≤ k) × (k < 2 ^ 32) × (oldPlaceOf k ≤ 255) → ⊥) → record { number = 11; key = 0 } ≡ convertReply k
+  unfolding convertReply
+  convert-refused h = rw (not-eq-not {a = converts k} {b = false} .0 (λ e. h (convert-limits e)), convertReply)
+
+  pub convert-given :
+      {n : ℕ} →
+      2 ^ 24 ≤ k →
+      k < 2 ^ 32 →
+      oldPlaceOf k ≤ 255 →
+      n ≡ pack (sectionOf k) (rowOf k) (oldPlaceOf k) 0 →
+      record { number = 0; key = n } ≡ convertReply k
+  unfolding converts convertReply
+  convert-given h l p e = rw (limits-key k h l, le-leb (oldPlaceOf k) 255 p, convertReply) (rw e)
+
+  pub convert-key : converts k ≡ true → convertReply k .key ≡ pack (sectionOf k) (rowOf k) (oldPlaceOf k) 0
+  unfolding convertReply
+  convert-key h = rw (h, convertReply)

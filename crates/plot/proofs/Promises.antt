@@ -1,16 +1,20 @@
 -- The promises hold, by the laws on money and labels.
 use mathlib.Core.Bool.{not, _&&_, and-eq-true-iff}
-use Prim.Native.Nat.{_^_}
+use mathlib.Core.Path.{_≡_, sym, _∙_}
+use mathlib.Core.Logic.{inl, inr}
+use Prim.Native.Nat.{ℕ, _^_, _<_}
+use native.Mathlib.Decide.{decLt}
 use native.Mathlib.Nat.{mul-zero, zero-div}
 use native.Mathlib.Omega.{arith}
 use lib.Dec.{eqb}
 use borrow.Author.Tests.{ltb-true, eqb-false, not-true}
 use Rattle.plot.specs.Plot.{isWord, lawful, lawfulTerm}
-use Rattle.plot.specs.Label.{pack, sectionOf, rowOf, placeOf}
+use Rattle.plot.specs.Label.{LabelReply, pack, sectionOf, rowOf, placeOf, letterOf, oldPlaceOf}
 use Rattle.plot.specs.Promises.{TermLimits, DaysWithinLease, NoneLeftAtTheEnd, BalanceWithinPrice, BalanceExact, LabelKeyLabel}
-use Rattle.plot.specs.Promises.{KeyLabelKey, LawfulRecord}
+use Rattle.plot.specs.Promises.{KeyLabelKey, Limits, Before, LabelOrder, Converted, ConvertedInOrder, LawfulRecord}
 use Rattle.plot.proofs.Laws.{term-facts, facts-term, days-within, days-ended, amount-quotient, amount-exact, amount-within}
-use Rattle.plot.proofs.Laws.{label-limits, limits-label, key-limits, limits-key}
+use Rattle.plot.proofs.Laws.{label-limits, limits-label, key-limits, limits-key, label-given, key-lawful, key-packed}
+use Rattle.plot.proofs.Laws.{convert-limits, convert-key}
 
 pub term-limits : TermLimits
 term-limits lease last = (term-facts lease last, facts-term lease last)
@@ -30,19 +34,75 @@ pub balance-exact : BalanceExact
 balance-exact = amount-exact
 
 pub label-key-label : LabelKeyLabel
-unfolding pack sectionOf rowOf placeOf
-label-key-label s r p h =
-    let l = label-limits s r p h in
-    (limits-key (pack s r p) (omega arith) (omega arith), omega arith, omega arith, omega arith)
+unfolding pack sectionOf rowOf placeOf letterOf
+label-key-label s r p l h =
+    let i = label-limits s r p l h in
+    (limits-key (pack s r p l) (omega arith) (omega arith), omega arith, omega arith, omega arith, omega arith)
 
 pub key-label-key : KeyLabelKey
-unfolding pack sectionOf rowOf placeOf
+unfolding pack sectionOf rowOf placeOf letterOf
 key-label-key k h =
-    let l = key-limits k h in (
-      limits-label (sectionOf k) (rowOf k) (placeOf k)
-          record { first = omega arith; section = omega arith; row = omega arith; place = omega arith },
+    let i = key-limits k h in (
+      limits-label (sectionOf k) (rowOf k) (placeOf k) (letterOf k)
+          record { first = omega arith; section = omega arith; row = omega arith; place = omega arith; letter = omega arith },
       omega arith,
     )
+
+before-lower : {a b c d e f g h : ℕ} → Limits a b c d → Limits e f g h
+    → Before (record { section = a; row = b; place = c; letter = d }) (record { section = e; row = f; place = g; letter = h })
+    → pack a b c d < pack e f g h
+unfolding pack
+before-lower i j (inl q) = omega (arith, i .row, i .place, i .letter)
+before-lower i j (inr (q, inl r)) = omega (arith, i .place, i .letter)
+before-lower i j (inr (q, inr (r, inl t))) = omega (arith, i .letter)
+before-lower i j (inr (q, inr (r, inr (t, u)))) = omega arith
+
+lower-before : {a b c d e f g h : ℕ} → Limits a b c d → Limits e f g h → pack a b c d < pack e f g h
+    → Before (record { section = a; row = b; place = c; letter = d }) (record { section = e; row = f; place = g; letter = h })
+unfolding pack
+lower-before {a} {b} {c} {d} {e} {f} {g} {h} i j q =
+    elim (decLt a e) [
+      | yes r ↦ inl r
+      | no r ↦
+          let x : a ≡ e = omega (arith, j .row, j .place, j .letter) in
+          elim (decLt b f) [
+            | yes t ↦ inr (x, inl t)
+            | no t ↦
+                let y : b ≡ f = omega (arith, j .place, j .letter) in
+                elim (decLt c g) [
+                  | yes u ↦ inr (x, inr (y, inl u))
+                  | no u ↦
+                      let z : c ≡ g = omega (arith, j .letter) in
+                      inr (x, inr (y, inr (z, omega arith)))
+                ]
+          ]
+    ]
+
+pub label-order : LabelOrder
+label-order x y p q =
+    let h = key-lawful x p in
+    let k = key-lawful y q in
+    let i = label-limits _ _ _ _ h in
+    let j = label-limits _ _ _ _ k in
+    rw (key-packed x h, key-packed y k) (before-lower i j, lower-before i j)
+
+same-label : {s s′ r r′ p p′ l l′ : ℕ} → s ≡ s′ → r ≡ r′ → p ≡ p′ → l ≡ l′
+    → _≡_ {A = LabelReply} (record { number = 0; section = s; row = r; place = p; letter = l })
+    (record { number = 0; section = s′; row = r′; place = p′; letter = l′ })
+same-label a b c d = rw (a, b, c, d)
+
+pub converted : Converted
+unfolding pack sectionOf rowOf placeOf letterOf oldPlaceOf
+converted k h =
+    let i = convert-limits k h in
+    rw (convert-key k h) (sym (label-given (omega (arith, i .0)) (omega (arith, i .1, i .2))) ∙ same-label (omega arith) (omega arith) (omega (arith, i .2)) (omega arith))
+
+pub converted-in-order : ConvertedInOrder
+unfolding pack sectionOf rowOf oldPlaceOf
+converted-in-order j k h i l =
+    let a = convert-limits j h in
+    let b = convert-limits k i in
+    rw (convert-key j h, convert-key k i) (omega (arith, a .2, b .2))
 
 pub lawful-record : LawfulRecord
 unfolding lawful isWord

@@ -4,7 +4,7 @@ ghost use Prim.Native.Nat.{_*_, _/_, _<_, _≤_, _^_, max};
 ghost use mathlib.Core.Bool.{true};
 ghost use Rattle.plot.specs.Plot.{lawfulDay, lawfulTerm, lawful};
 ghost use Rattle.plot.specs.Money.{daysLeft, amount, reply, balanceReply};
-ghost use Rattle.plot.specs.Label.{lawfulLabel, keyReply, keyOfReply, labelReply, labelOfReply};
+ghost use Rattle.plot.specs.Label.{lawfulLabel, keyReply, keyOfReply, labelReply, labelOfReply, convertReply};
 
 // What is held of a plot: its key, the price in pence, the lease days (0: perpetual) and the last day.
 pub struct Record {
@@ -19,10 +19,12 @@ pub enum BalanceAnswer {
     OutsideLimits,
 }
 
+// Where a plot lies: section, row, place, and the letter of a plot between two places (0: none, 1 to 15: A to O).
 pub struct Label {
     pub section: u32,
     pub row: u32,
     pub place: u32,
+    pub letter: u32,
 }
 
 pub enum KeyAnswer {
@@ -129,6 +131,7 @@ pub fn key_of(label: Label) -> KeyAnswer
     let section = label.section;
     let row = label.row;
     let place = label.place;
+    let letter = label.letter;
     if section < 1 {
         return KeyAnswer::NoKey;
     }
@@ -138,10 +141,13 @@ pub fn key_of(label: Label) -> KeyAnswer
     if row > 4095 {
         return KeyAnswer::NoKey;
     }
-    if place > 4095 {
+    if place > 255 {
         return KeyAnswer::NoKey;
     }
-    KeyAnswer::Key(section * 16777216 + row * 4096 + place)
+    if letter > 15 {
+        return KeyAnswer::NoKey;
+    }
+    KeyAnswer::Key(section * 16777216 + row * 4096 + place * 16 + letter)
 }
 
 // The label of a key.
@@ -154,6 +160,21 @@ pub fn label_of(key: u32) -> LabelAnswer
     LabelAnswer::Labelled(Label {
         section: key / 16777216,
         row: key / 4096 % 4096,
-        place: key % 4096,
+        place: key / 16 % 256,
+        letter: key % 16,
     })
+}
+
+// The key, with letter 0, of a key of the old packing, whose lowest 12 bits are the place.
+pub fn convert(key: u32) -> KeyAnswer
+    ensures { λ r. ⌜ keyReply r ≡ convertReply key ⌝ }
+{
+    let place = key % 4096;
+    if key <= 16777215 {
+        return KeyAnswer::NoKey;
+    }
+    if place > 255 {
+        return KeyAnswer::NoKey;
+    }
+    KeyAnswer::Key(key / 4096 * 4096 + place * 16)
 }

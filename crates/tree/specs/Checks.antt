@@ -1,7 +1,7 @@
 -- The starred desk checks of document 01, as rows of one table. `proofs/Checks.antt` proves that all hold.
 --   Check    == a row: what is asked, and what the definitions are to give
 --   money    == a balance: price, lease days, last day and today; the answer's number and value
---   label    == the key of a label: section, row and place; the answer's number and key
+--   label    == the key of a label: section, row, place and letter; the answer's number and key
 --   figures  == levels, nodes and pages of the tree of some keys
 --   replies  == what the book replies to the last of some keys
 --   bound    == L
@@ -21,7 +21,7 @@ use Rattle.tree.specs.Book.{plotSchema, Sizes, Reply, refused, book, lev
 
 pub data Check : Type 0 where
   money : (price lease last today number value : ℕ) → Check
-  label : (section row place number key : ℕ) → Check
+  label : (section row place letter number key : ℕ) → Check
   figures : (width theta capacity : ℕ) (keys : List ℕ) (levels nodes pages : ℕ) → Check
   replies : Sizes → (keys : List ℕ) → Reply → Check
   bound : (width theta capacity : ℕ) (levels : ℕ) → Check
@@ -45,8 +45,9 @@ sameReply a b =
 unfoldable pub holds : Check → Bool
 holds (money price lease last today number value) =
     let r = balanceReply price lease last today in eqb (r .number) number && eqb (r .value) value
-holds (label section row place number key) =
-    let r = keyOfReply (record { section = section; row = row; place = place }) in eqb (r .number) number && eqb (r .key) key
+holds (label section row place letter number key) =
+    let r = keyOfReply (record { section = section; row = row; place = place; letter = letter }) in
+    eqb (r .number) number && eqb (r .key) key
 holds (figures w θ C ks l n p) =
     let t = build (λ (k : ℕ). k) C w ks in eqb (levels θ (shape t)) l && (eqb (nodes θ (shape t)) n && eqb (pages t) p)
 holds (replies s ks r) = sameReply (last (refused 0) (book plotSchema s [] (records ks) .replies)) r
@@ -73,11 +74,11 @@ table =
     -- "Last day − today above the lease days: the full price."
     ∷ money 60000 9131 45999 0 0 60000
     -- "Label 1, 0, 0: 16,777,216."
-    ∷ label 1 0 0 0 16777216
-    -- "255, 4,095, 4,095: 4,294,967,295."
-    ∷ label 255 4095 4095 0 4294967295
+    ∷ label 1 0 0 0 0 16777216
+    -- M-102: "The starred label 255, 4,095, 4,095 becomes 255, 4,095, 255, 15."
+    ∷ label 255 4095 255 15 0 4294967295
     -- "Section 0: 11."
-    ∷ label 0 0 0 11 0
+    ∷ label 0 0 0 0 11 0
     -- "The empty set: 1 level, 1 node, 0 pages."
     ∷ figures 32 1 1 [] 1 1 0
     -- "The three keys above, θ = 1, C = 1: 2 levels, 3 nodes, 3 pages."

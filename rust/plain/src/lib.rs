@@ -16,7 +16,7 @@ mod read;
 
 pub use enter::{enter, Entered};
 pub use head::{set_up, SetUp};
-pub use label::{key_of, label_of, Keyed, Labelled};
+pub use label::{convert, key_of, label_of, Keyed, Labelled};
 pub use money::{balance, Balance, Record};
 pub use read::{find, next, range, summary, Found, Ranged, Summary};
 

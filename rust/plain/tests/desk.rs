@@ -3,7 +3,7 @@
 mod common;
 
 use common::{new_store, size, Rng};
-use plain::{balance, checker, enter, find, key_of, label_of, next, range, set_up, summary, Record};
+use plain::{balance, checker, convert, enter, find, key_of, label_of, next, range, set_up, summary, Record};
 
 fn plot(key: u32) -> Record {
     Record { key, price: 1, lease: 0, last: 0 }
@@ -52,21 +52,35 @@ fn exact_quotients() {
 
 #[test]
 fn labels() {
-    assert_eq!((key_of(1, 0, 0).number, key_of(1, 0, 0).key), (0, 16_777_216));
-    assert_eq!((key_of(255, 4095, 4095).number, key_of(255, 4095, 4095).key), (0, u32::MAX));
-    for (section, row, place) in [(0, 0, 0), (256, 0, 0), (1, 4096, 0), (1, 0, 4096), (u32::MAX, 1, 1)] {
-        assert_eq!((key_of(section, row, place).number, key_of(section, row, place).key), (11, 0));
+    assert_eq!((key_of(1, 0, 0, 0).number, key_of(1, 0, 0, 0).key), (0, 16_777_216));
+    assert_eq!((key_of(255, 4095, 255, 15).number, key_of(255, 4095, 255, 15).key), (0, u32::MAX));
+    for (section, row, place, letter) in
+        [(0, 0, 0, 0), (256, 0, 0, 0), (1, 4096, 0, 0), (1, 0, 256, 0), (1, 0, 0, 16), (u32::MAX, 1, 1, 1)]
+    {
+        let refused = key_of(section, row, place, letter);
+        assert_eq!((refused.number, refused.key), (11, 0));
+    }
+    // 12, 12A, 13
+    let keys = [(12, 0), (12, 1), (13, 0)].map(|(place, letter)| key_of(1, 2, place, letter).key);
+    assert!(keys.is_sorted());
+    for (old, number, key) in [
+        ((1 << 24) - 1, 11, 0),
+        (1 << 24 | 256, 11, 0),
+        (1 << 24 | 255, 0, 1 << 24 | 255 << 4),
+        (255 << 24 | 4095 << 12 | 12, 0, 255 << 24 | 4095 << 12 | 12 << 4),
+    ] {
+        assert_eq!((convert(old).number, convert(old).key), (number, key));
     }
     for key in [0, 1, (1 << 24) - 1] {
         let label = label_of(key);
-        assert_eq!([label.number, label.section, label.row, label.place], [11, 0, 0, 0]);
+        assert_eq!([label.number, label.section, label.row, label.place, label.letter], [11, 0, 0, 0, 0]);
     }
     let mut rng = Rng(1);
     for _ in 0..10_000 {
         let key = rng.word() | 1 << 24;
         let label = label_of(key);
         assert_eq!(label.number, 0);
-        assert_eq!(key_of(label.section, label.row, label.place).key, key);
+        assert_eq!(key_of(label.section, label.row, label.place, label.letter).key, key);
     }
 }
 

@@ -51,8 +51,16 @@ mod exports {
         ) -> u32;
         pub fn plots_balance(price: u32, lease: u32, last: u32, today: u32, reply: *mut u64, reply_words: usize)
             -> u32;
-        pub fn plots_key_of(section: u32, row: u32, place: u32, reply: *mut u64, reply_words: usize) -> u32;
+        pub fn plots_key_of(
+            section: u32,
+            row: u32,
+            place: u32,
+            letter: u32,
+            reply: *mut u64,
+            reply_words: usize,
+        ) -> u32;
         pub fn plots_label_of(key: u32, reply: *mut u64, reply_words: usize) -> u32;
+        pub fn plots_convert(key: u32, reply: *mut u64, reply_words: usize) -> u32;
     }
 }
 
@@ -119,14 +127,21 @@ pub fn balance(price: u32, lease: u32, last: u32, today: u32, reply: &mut [u64])
 
 /// The key of a label. Values: the key. Numbers: 0, 11.
 #[inline]
-pub fn key_of(section: u32, row: u32, place: u32, reply: &mut [u64]) -> u32 {
+pub fn key_of(section: u32, row: u32, place: u32, letter: u32, reply: &mut [u64]) -> u32 {
     // SAFETY: the reply is lent mutably for the call.
-    unsafe { exports::plots_key_of(section, row, place, reply.as_mut_ptr(), reply.len()) }
+    unsafe { exports::plots_key_of(section, row, place, letter, reply.as_mut_ptr(), reply.len()) }
 }
 
-/// The label of a key. Values: the section, the row, the place. Numbers: 0, 11.
+/// The label of a key. Values: the section, the row, the place, the letter. Numbers: 0, 11.
 #[inline]
 pub fn label_of(key: u32, reply: &mut [u64]) -> u32 {
     // SAFETY: the reply is lent mutably for the call.
     unsafe { exports::plots_label_of(key, reply.as_mut_ptr(), reply.len()) }
+}
+
+/// The key of a key of the old packing. Values: the key. Numbers: 0, 11.
+#[inline]
+pub fn convert(key: u32, reply: &mut [u64]) -> u32 {
+    // SAFETY: the reply is lent mutably for the call.
+    unsafe { exports::plots_convert(key, reply.as_mut_ptr(), reply.len()) }
 }

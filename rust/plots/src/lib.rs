@@ -133,8 +133,10 @@ pub struct Label {
     pub section: u32,
     /// The row: 0 to 4,095.
     pub row: u32,
-    /// The place: 0 to 4,095.
+    /// The place: 0 to 255.
     pub place: u32,
+    /// The letter of a plot between two places: 0 for none, 1 to 15 for A to O.
+    pub letter: u32,
 }
 
 /// What is left of a price today: price × days left / lease days, rounded down; 0 if the lease is perpetual. Refused:
@@ -156,18 +158,18 @@ pub fn balance(price: u32, lease: u32, last: u32, today: u32) -> Result<u32, Ref
     }
 }
 
-/// The key of a label: section × 2^24 + row × 2^12 + place. Refused: `LabelOutside`.
+/// The key of a label: section × 2^24 + row × 2^12 + place × 16 + letter. Refused: `LabelOutside`.
 ///
 /// ```
 /// use plots::{key_of, Label, Refusal};
 ///
-/// assert_eq!(key_of(Label { section: 1, row: 0, place: 0 }), Ok(16_777_216));
-/// assert_eq!(key_of(Label { section: 255, row: 4095, place: 4095 }), Ok(u32::MAX));
-/// assert_eq!(key_of(Label { section: 0, row: 0, place: 0 }), Err(Refusal::LabelOutside));
+/// assert_eq!(key_of(Label { section: 1, row: 0, place: 0, letter: 0 }), Ok(16_777_216));
+/// assert_eq!(key_of(Label { section: 255, row: 4095, place: 255, letter: 15 }), Ok(u32::MAX));
+/// assert_eq!(key_of(Label { section: 0, row: 0, place: 0, letter: 0 }), Err(Refusal::LabelOutside));
 /// ```
 pub fn key_of(label: Label) -> Result<u32, Refusal> {
     let mut reply = [0];
-    match ffi::key_of(label.section, label.row, label.place, &mut reply) {
+    match ffi::key_of(label.section, label.row, label.place, label.letter, &mut reply) {
         0 => Ok(reply[0] as u32),
         number => Err(Refusal::of(number)),
     }
@@ -178,16 +180,35 @@ pub fn key_of(label: Label) -> Result<u32, Refusal> {
 /// ```
 /// use plots::{label_of, Label, Refusal};
 ///
-/// assert_eq!(label_of(16_777_216), Ok(Label { section: 1, row: 0, place: 0 }));
+/// assert_eq!(label_of(16_777_409), Ok(Label { section: 1, row: 0, place: 12, letter: 1 }));
 /// assert_eq!(label_of(16_777_215), Err(Refusal::LabelOutside));
 /// ```
 pub fn label_of(key: u32) -> Result<Label, Refusal> {
-    let mut reply = [0; 3];
+    let mut reply = [0; 4];
     match ffi::label_of(key, &mut reply) {
         0 => {
-            let [section, row, place] = reply.map(|word| word as u32);
-            Ok(Label { section, row, place })
+            let [section, row, place, letter] = reply.map(|word| word as u32);
+            Ok(Label { section, row, place, letter })
         }
+        number => Err(Refusal::of(number)),
+    }
+}
+
+/// The key, with no letter, of a key of the old packing, section × 2^24 + row × 2^12 + place. Refused: `LabelOutside`, for a
+/// place above 255 and for keys below 2^24.
+///
+/// ```
+/// use plots::{convert, key_of, Label, Refusal};
+///
+/// let new = key_of(Label { section: 1, row: 0, place: 12, letter: 0 })?;
+/// assert_eq!(convert(16_777_228), Ok(new));
+/// assert_eq!(convert(16_777_472), Err(Refusal::LabelOutside));
+/// # Ok::<(), Refusal>(())
+/// ```
+pub fn convert(key: u32) -> Result<u32, Refusal> {
+    let mut reply = [0];
+    match ffi::convert(key, &mut reply) {
+        0 => Ok(reply[0] as u32),
         number => Err(Refusal::of(number)),
     }
 }

@@ -18,12 +18,13 @@ enum Call {
     Range { low: u32, high: u32 },
     Summary { low: u32, high: u32, today: u32 },
     Balance { price: u32, lease: u32, last: u32, today: u32 },
-    KeyOf { section: u32, row: u32, place: u32 },
+    KeyOf { section: u32, row: u32, place: u32, letter: u32 },
     LabelOf(u32),
+    Convert(u32),
 }
 
 /// The operations in the order of `Call::index`, each with the numbers that it can answer.
-const OPERATIONS: [(&str, &[usize]); 9] = [
+const OPERATIONS: [(&str, &[usize]); 10] = [
     ("set_up", &[0, 4, 5]),
     ("enter", &[0, 3, 6, 8, 9, 10]),
     ("find", &[0, 1, 3, 9]),
@@ -33,6 +34,7 @@ const OPERATIONS: [(&str, &[usize]); 9] = [
     ("balance", &[0, 6]),
     ("key_of", &[0, 11]),
     ("label_of", &[0, 11]),
+    ("convert", &[0, 11]),
 ];
 
 impl Call {
@@ -47,6 +49,7 @@ impl Call {
             Call::Balance { .. } => 6,
             Call::KeyOf { .. } => 7,
             Call::LabelOf(_) => 8,
+            Call::Convert(_) => 9,
         }
     }
 
@@ -82,13 +85,17 @@ impl Call {
                 let a = plain::balance(price, lease, last, today);
                 (a.number, vec![a.value.into()])
             }
-            Call::KeyOf { section, row, place } => {
-                let a = plain::key_of(section, row, place);
+            Call::KeyOf { section, row, place, letter } => {
+                let a = plain::key_of(section, row, place, letter);
                 (a.number, vec![a.key.into()])
             }
             Call::LabelOf(key) => {
                 let a = plain::label_of(key);
-                (a.number, vec![a.section.into(), a.row.into(), a.place.into()])
+                (a.number, vec![a.section.into(), a.row.into(), a.place.into(), a.letter.into()])
+            }
+            Call::Convert(key) => {
+                let a = plain::convert(key);
+                (a.number, vec![a.key.into()])
             }
         }
     }
@@ -103,8 +110,9 @@ impl Call {
             Call::Range { low, high } => ffi::range(store, low, high, out, reply),
             Call::Summary { low, high, today } => ffi::summary(store, low, high, today, reply),
             Call::Balance { price, lease, last, today } => ffi::balance(price, lease, last, today, reply),
-            Call::KeyOf { section, row, place } => ffi::key_of(section, row, place, reply),
+            Call::KeyOf { section, row, place, letter } => ffi::key_of(section, row, place, letter, reply),
             Call::LabelOf(key) => ffi::label_of(key, reply),
+            Call::Convert(key) => ffi::convert(key, reply),
         }
     }
 
@@ -129,12 +137,15 @@ impl Call {
             Call::Balance { price, lease, last, today } => {
                 plots::balance(price, lease, last, today).map(|pence| vec![pence.into()])
             }
-            Call::KeyOf { section, row, place } => {
-                plots::key_of(Label { section, row, place }).map(|key| vec![key.into()])
+            Call::KeyOf { section, row, place, letter } => {
+                plots::key_of(Label { section, row, place, letter }).map(|key| vec![key.into()])
             }
-            Call::LabelOf(key) => plots::label_of(key).map(|a| vec![a.section.into(), a.row.into(), a.place.into()]),
+            Call::LabelOf(key) => {
+                plots::label_of(key).map(|a| vec![a.section.into(), a.row.into(), a.place.into(), a.letter.into()])
+            }
+            Call::Convert(key) => plots::convert(key).map(|key| vec![key.into()]),
         };
-        let values = [1, 4, 4, 4, 2, 3, 1, 1, 3][self.index()];
+        let values = [1, 4, 4, 4, 2, 3, 1, 1, 4, 1][self.index()];
         match answer {
             Ok(none) if none.is_empty() => (1, vec![0; values]),
             Ok(values) => (0, values),
@@ -174,7 +185,7 @@ struct Pair {
 }
 
 #[derive(Default)]
-struct Counts([[u64; 12]; 9]);
+struct Counts([[u64; 12]; 10]);
 
 impl Pair {
     fn new(words: &[u32]) -> Pair {
@@ -308,7 +319,7 @@ fn storeless(rng: &mut Rng) -> Call {
         let (inside, any) = (rng.below(bound + 1), rng.word());
         rng.one_of(&[0, 1, bound, bound + 1, inside, inside, inside, any])
     };
-    match rng.below(3) {
+    match rng.below(4) {
         0 => {
             let Record { price, lease, last, .. } = record(1, rng);
             let today = day(rng);
@@ -317,10 +328,16 @@ fn storeless(rng: &mut Rng) -> Call {
                 _ => Call::Balance { price, lease, last, today },
             }
         }
-        1 => Call::KeyOf { section: near(rng, 255), row: near(rng, 4_095), place: near(rng, 4_095) },
-        _ => {
+        1 => {
+            Call::KeyOf { section: near(rng, 255), row: near(rng, 4_095), place: near(rng, 255), letter: near(rng, 15) }
+        }
+        2 => {
             let any = rng.word();
             Call::LabelOf(rng.one_of(&[0, (1 << 24) - 1, 1 << 24, u32::MAX, any, any >> 6]))
+        }
+        _ => {
+            let any = rng.word();
+            Call::Convert(rng.one_of(&[(1 << 24) - 1, 1 << 24 | 255, 1 << 24 | 256, any, any & !0xf00, any >> 6]))
         }
     }
 }

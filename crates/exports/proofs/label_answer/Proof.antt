@@ -7,7 +7,7 @@ use Rattle.exports.proofs.label_answer.Tie as tie
 
 returns : tie.Need-returns
 unfolding valuesOf labelValues
-returns c = rw (c .before .before .before .before .answer .given .1) (refl, refl)
+returns c = rw (c .before .before .before .before .before .answer .given .1) (refl, refl)
 
 returns-2 : tie.Need-returns-2
 unfolding valuesOf labelValues
@@ -16,5 +16,5 @@ returns-2 c = rw (c .zeros .ensures, c .before .enum-told .given .1) (refl, refl
 pub label-answer-spec : {M : Type 1} → statement M
 label-answer-spec =
     tie.close
-    (tie.spec (λ c. search needs) (λ c. search needs) (λ c. search needs) (λ c. search needs) (λ c. search needs) (λ c κs. search needs)
-    returns returns-2)
+    (tie.spec (λ c. search needs) (λ c. search needs) (λ c. search needs) (λ c. search needs) (λ c. search needs) (λ c. search needs)
+    (λ c κs. search needs) returns returns-2)

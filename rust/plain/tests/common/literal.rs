@@ -517,6 +517,7 @@ pub fn sheet(records: &[Record], today: u32) -> (u64, u32) {
         }
     }
     let leased = records.iter().filter(|record| record.lease > 0);
-    let earliest = leased.min_by_key(|record| (record.last, Reverse(record.price), record.key)).map_or(0, |record| record.key);
+    let earliest =
+        leased.min_by_key(|record| (record.last, Reverse(record.price), record.key)).map_or(0, |record| record.key);
     (total, earliest)
 }
