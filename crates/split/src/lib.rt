@@ -7,14 +7,14 @@ ghost use mathlib.Core.List.{List, _++_};
 ghost use Prim.Native.Nat.{ℕ, pred, _+_, _-_, _*_, _/_, _%_, _^_, _≤_, _<_};
 ghost use lib.ListN.{length, drop, getD, replicate};
 ghost use Rattle.lists.specs.Bits.{bits, index};
-ghost use Rattle.lists.specs.Lists.{tab, greatest, replaced};
+ghost use Rattle.lists.specs.Lists.{tab, replaced};
 ghost use Rattle.tree.specs.Trie.{Key};
 ghost use Rattle.store.specs.Format.{width};
 ghost use Rattle.store.specs.Head.{nodeWords, nodeStart, nodeAt};
 ghost use Rattle.node.specs.Node.{depthWord, backWord, forwardWord};
 ghost use Rattle.represent.specs.Image.{entryWords};
 ghost use Rattle.split.specs.Block.{halveRun, double, grow, half, lower, upper, aim, linked, top};
-ghost use Rattle.split.specs.Value.{entryIn, blockOf, own, localAt, Reached};
+ghost use Rattle.split.specs.Value.{entryIn, blockOf, own, running, localAt, Reached};
 
 // A node block by value: its depth, level and links, and of each entry the local depth and the pointer.
 pub struct Node {
@@ -197,12 +197,13 @@ fn one_less(x: u32) -> u32
     x - 1
 }
 
-// n entries of a node from `start` on, lowered. The largest new depth is kept while they are copied.
+// n entries of a node from `start` on, lowered. The largest new depth is kept as a running value while they are copied; no half is walked
+// again for it.
 fn lower_entries(node: Node, start: usize, n: usize) -> Lowered
     requires { ⌜ start + n ≤ 64 ⌝ }
     ensures { λ r. ⌜ ((j : ℕ) → j < n
         → (getD (r .h) j 0 ≡ pred (getD (node .h) (start + j) 0)) × (getD (r .p) j 0 ≡ getD (node .p) (start + j) 0))
-        × (r .largest ≡ greatest n (λ j. pred (getD (node .h) (start + j) 0))) ⌝ }
+        × (r .largest ≡ running node start n) ⌝ }
 {
     let mut h = [0u32; 64];
     let mut p = [0u32; 64];

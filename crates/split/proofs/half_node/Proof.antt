@@ -9,7 +9,7 @@ use lib.Pow.{pow-mono}
 use lib.ListN.{getD}
 use borrow.Author.Needs.{needs}
 use Rattle.lists.specs.Lists.{greatest}
-use Rattle.split.specs.Value.{entryIn, blockOf}
+use Rattle.split.specs.Value.{entryIn, blockOf, running}
 use Rattle.split.proofs.GrowLaws.{startOf, depthOf, depth-low, half-step, half-value, half-kept}
 use Rattle.split.proofs.half_node.Statement.{statement}
 use Rattle.split.proofs.half_node.Tie as tie
@@ -36,6 +36,7 @@ lower-entries-requires c κs =
 deepest : (c : tie.After-lower-entries) → c .lower-entries .result .largest
     ≡ depthOf (c .before .before .before .before .args .node .depth) (entryIn (c .before .before .before .before .args .node))
     (c .before .before .before .before .args .upper)
+unfolding running
 deepest c =
     c .lower-entries .ensures .1
     ∙ ap₂ (λ n s. greatest n (λ j. pred (getD (c .before .before .before .before .args .node .h) (s + j) 0))) (size (c .before .before))
@@ -63,7 +64,7 @@ thinned-requires-2 : tie.Need-thinned-requires-2
 thinned-requires-2 c κs = step (c .before .before .before)
 
 returns : tie.Need-returns
-unfolding blockOf
+unfolding blockOf running
 returns c =
     let u = c .before .before .before .before in
     let l = u .before in
