@@ -1,4 +1,4 @@
--- The sample of document 01, "The counter program".
+-- The sample of document 01, "The counter program"; M-104: "The summary in document 01's listing becomes 684,496."
 --   request   == its input
 --   response  == its output
 --   Sampled   == the program writes the one on the other
@@ -18,7 +18,7 @@ unfoldable pub response : List ℕ
 response =
     bytes " 0 0        68         0         0         0\n" ++ bytes " 1 02147483648         1         1         1\n"
     ++ bytes " 1 03221225472         2         3         2\n" ++ bytes " 1 01073741824         2         3         3\n"
-    ++ bytes " 2 03221225472     90000         0         0\n" ++ bytes " 5 0         3              6844621073741824\n"
+    ++ bytes " 2 03221225472     90000         0         0\n" ++ bytes " 5 0         3              6844961073741824\n"
 
 abbrev pub Sampled : Type 0
 Sampled = transcript request ≡ response

@@ -137,15 +137,15 @@ pub fn lawful(record: Record) -> bool {
     record.lease < 36526 && record.last < 100000
 }
 
-// The days of a lease that are left.
+// The days of a lease that are left; the last day counts.
 fn days_left(record: Record, today: u32) -> u32 {
-    if record.last <= today {
+    if record.last < today {
         return 0;
     }
-    if record.last - today > record.lease {
+    if record.last - today >= record.lease {
         return record.lease;
     }
-    record.last - today
+    record.last - today + 1
 }
 
 // Price × days left / lease days, 0 if perpetual.

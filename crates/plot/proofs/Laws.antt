@@ -87,13 +87,16 @@ lawful-term r e =
 pub divisor-fits : (lease last : ℕ) → lawfulTerm lease last ≡ true → max lease 1 < 2 ^ 16
 divisor-fits lease last e = elim (term-facts lease last e) [ inl a ↦ omega (arith, a .0) | inr a ↦ omega (arith, a .1) ]
 
--- Days left: at most the lease days, and 0 from the last day on.
+pub last-fits : (lease last : ℕ) → lawfulTerm lease last ≡ true → last ≤ 99999
+last-fits lease last e = elim (term-facts lease last e) [ inl a ↦ omega (arith, a .1) | inr a ↦ omega (arith, a .2) ]
+
+-- Days left: at most the lease days, and 0 past the last day.
 module _ (lease last today : ℕ) where
   pub days-within : daysLeft lease last today ≤ lease
   unfolding daysLeft
   days-within = omega arith
 
-  pub days-ended : last ≤ today → daysLeft lease last today ≡ 0
+  pub days-ended : last < today → daysLeft lease last today ≡ 0
   unfolding daysLeft
   days-ended h = omega arith
 

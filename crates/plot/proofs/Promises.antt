@@ -9,8 +9,9 @@ use native.Mathlib.Omega.{arith}
 use lib.Dec.{eqb}
 use borrow.Author.Tests.{ltb-true, eqb-false, not-true}
 use Rattle.plot.specs.Plot.{isWord, lawful, lawfulTerm}
+use Rattle.plot.specs.Money.{daysLeft}
 use Rattle.plot.specs.Label.{LabelReply, pack, sectionOf, rowOf, placeOf, letterOf, oldPlaceOf}
-use Rattle.plot.specs.Promises.{TermLimits, DaysWithinLease, NoneLeftAtTheEnd, BalanceWithinPrice, BalanceExact, LabelKeyLabel}
+use Rattle.plot.specs.Promises.{TermLimits, DaysWithinLease, NoneLeftAfterTheEnd, OneLeftAtTheEnd, BalanceWithinPrice, BalanceExact, LabelKeyLabel}
 use Rattle.plot.specs.Promises.{KeyLabelKey, Limits, Before, LabelOrder, Converted, ConvertedInOrder, LawfulRecord}
 use Rattle.plot.proofs.Laws.{term-facts, facts-term, days-within, days-ended, amount-quotient, amount-exact, amount-within}
 use Rattle.plot.proofs.Laws.{label-limits, limits-label, key-limits, limits-key, label-given, key-lawful, key-packed}
@@ -22,8 +23,12 @@ term-limits lease last = (term-facts lease last, facts-term lease last)
 pub days-within-lease : DaysWithinLease
 days-within-lease = days-within
 
-pub none-left-at-the-end : NoneLeftAtTheEnd
-none-left-at-the-end price lease last today h =
+pub one-left-at-the-end : OneLeftAtTheEnd
+unfolding daysLeft
+one-left-at-the-end lease last h = omega arith
+
+pub none-left-after-the-end : NoneLeftAfterTheEnd
+none-left-after-the-end price lease last today h =
     let ended = days-ended lease last today h in
     (ended, rw (amount-quotient, ended, mul-zero price, zero-div lease))
 

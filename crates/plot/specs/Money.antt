@@ -5,16 +5,16 @@
 --   reply b                             == document 01's number and value for each case of a `BalanceAnswer`
 --   balanceReply price lease last today == what the call `balance` is to reply
 use mathlib.Core.Bool.{true, false, _&&_}
-use Prim.Native.Nat.{ℕ, _-_, _*_, _/_, min}
+use Prim.Native.Nat.{ℕ, _+_, _-_, _*_, _/_, min}
 use lib.Dec.{eqb}
 use Rattle.plot.specs.declared.BalanceAnswer.{BalanceAnswer}
 use Rattle.plot.specs.declared.BalanceAnswer.the-variants.{Pence, OutsideLimits}
 use Rattle.plot.specs.Plot.{lawfulDay, lawfulTerm}
 
--- "Days left: 0 if today is at or past the last day, else last day − today, but never more than the lease days."
--- (A difference of natural numbers is 0 where today is at or past the last day.)
+-- M-104: "Days left become last day − today + 1 when today is at or before the last day, 0 after it, still capped at the lease days."
+-- (A difference of natural numbers is 0 where today is past the last day.)
 unfoldable pub daysLeft : ℕ → ℕ → ℕ → ℕ
-daysLeft lease last today = min (last - today) lease
+daysLeft lease last today = min (last + 1 - today) lease
 
 -- "Balance = price × days left / lease days, rounded down; 0 if perpetual."
 unfoldable pub amount : ℕ → ℕ → ℕ → ℕ → ℕ

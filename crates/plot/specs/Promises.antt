@@ -4,7 +4,8 @@
 --   TermLimits         == `lawfulTerm` tests just these
 --   Limits s r p l     == section, row, place and letter within their limits, said with numbers
 --   DaysWithinLease    == days left are at most the lease days
---   NoneLeftAtTheEnd   == at or past the last day no days and no money are left
+--   NoneLeftAfterTheEnd == past the last day no days and no money are left
+--   OneLeftAtTheEnd    == on the last day one day is left
 --   BalanceWithinPrice == a balance is at most the price
 --   BalanceExact       == a balance is price × days left / lease days, rounded down
 --   LabelKeyLabel      == a label's key has that label again
@@ -44,12 +45,16 @@ pub record Limits (s r p l : ℕ) : Type 0 where
 abbrev pub DaysWithinLease : Type 0
 DaysWithinLease = (lease last today : ℕ) → daysLeft lease last today ≤ lease
 
--- "Days left: 0 if today is at or past the last day", and then the balance is 0, whatever the price.
-abbrev pub NoneLeftAtTheEnd : Type 0
-NoneLeftAtTheEnd =
+-- M-104: "0 after it", and then the balance is 0, whatever the price.
+abbrev pub NoneLeftAfterTheEnd : Type 0
+NoneLeftAfterTheEnd =
     (price lease last today : ℕ) →
-    last ≤ today →
+    last < today →
     (daysLeft lease last today ≡ 0) × (amount price lease last today ≡ 0)
+
+-- M-104: "Our offices' new lease form includes the last day."
+abbrev pub OneLeftAtTheEnd : Type 0
+OneLeftAtTheEnd = (lease last : ℕ) → 1 ≤ lease → daysLeft lease last last ≡ 1
 
 -- "Balance = price × days left / lease days, rounded down; 0 if perpetual." So it is at most the price.
 abbrev pub BalanceWithinPrice : Type 0

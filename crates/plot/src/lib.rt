@@ -60,13 +60,14 @@ pub fn lawful_record(record: Record) -> bool
     (record.key != 0) & lawful_term(record.lease, record.last)
 }
 
-// The days of a lease that are left today.
+// The days of a lease that are left today; the last day counts.
 fn days_left(lease: u32, last: u32, today: u32) -> u32
+    requires { ⌜ last ≤ 99999 ⌝ }
     ensures { λ r. ⌜ r ≡ daysLeft lease last today ⌝ }
 {
     let mut left: u32 = 0;
-    if last > today {
-        left = last - today;
+    if last >= today {
+        left = last - today + 1;
     }
     if left > lease {
         return lease;

@@ -67,10 +67,10 @@ three = 1073741824 ∷ 2147483648 ∷ 3221225472 ∷ []
 
 unfoldable pub table : List Check
 table =
-    -- "Price 1,250,000, lease 36,525, 20,000 days left: 684,462."
-    money 1250000 36525 66000 46000 0 684462
-    -- "Today = last day: balance 0."
-    ∷ money 1250000 36525 66000 66000 0 0
+    -- "Price 1,250,000, lease 36,525, 20,000 days left: 684,462." M-104: it "stands with today one day later"
+    money 1250000 36525 66000 46001 0 684462
+    -- M-104: "the "today = last day" case becomes one day's share."
+    ∷ money 1250000 36525 66000 66000 0 34
     -- "Last day − today above the lease days: the full price."
     ∷ money 60000 9131 45999 0 0 60000
     -- "Label 1, 0, 0: 16,777,216."

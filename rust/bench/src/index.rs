@@ -159,7 +159,7 @@ impl Index for Map {
         for (&key, record) in self.0.range(low..=high) {
             sheet.count += 1;
             if record.lease > 0 {
-                let left = record.last.saturating_sub(today).min(record.lease);
+                let left = (record.last + 1).saturating_sub(today).min(record.lease);
                 sheet.total += u64::from(record.price) * u64::from(left) / u64::from(record.lease);
                 let ended = (record.last, Reverse(record.price));
                 if ended < earliest {

@@ -155,7 +155,7 @@ impl Sqlite {
             // The bare column is that of the row with the minimum, which the scan in key order meets first.
             summary: database.prepare(
                 c"SELECT count(*),
-                         sum(CASE WHEN lease > 0 AND last > ?3 THEN price * min(last - ?3, lease) / lease ELSE 0 END),
+                         sum(CASE WHEN lease > 0 AND last >= ?3 THEN price * min(last - ?3 + 1, lease) / lease ELSE 0 END),
                          iif(min(CASE WHEN lease > 0 THEN last << 32 | (4294967295 - price) END) IS NULL, 0, key)
                   FROM plots WHERE key BETWEEN ?1 AND ?2",
             ),

@@ -59,13 +59,13 @@ pub fn day_ok(day: u32) -> bool {
     day <= DAY_MOST
 }
 
-/// What is left of a price today, of a lawful term. A perpetual lease has no days left.
+/// What is left of a price today, of a lawful term. The last day counts; a perpetual lease has no days left.
 ///
 /// The product is below 2^48 and the quotient below 2^32, so both are exact enough in an f64: a quotient that is no whole
 /// number is at least 1 / 36,525 below the next one, and rounding moves it by less than 2^-20.
 #[inline]
 pub fn amount(price: u32, lease: u32, last: u32, today: u32) -> u64 {
-    let days = last.saturating_sub(today).min(lease);
+    let days = (last + 1).saturating_sub(today).min(lease);
     let product = i64::from(price) * i64::from(days);
     (product as f64 / f64::from(lease.max(1) as i32)) as i64 as u64
 }

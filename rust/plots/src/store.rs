@@ -182,7 +182,7 @@ impl<W: AsRef<[u32]>> Store<W> {
     ///
     /// let mut store = Store::new(Sizes { theta: 1, capacity: 2, nodes: 4, pages: 4 })?;
     /// store.enter(Record { key: 9, price: 1_250_000, lease: 36_525, last: 66_000 })?;
-    /// assert_eq!(store.summary(1, 9, 46_000)?, Summary { count: 1, total: 684_462, earliest: Some(9) });
+    /// assert_eq!(store.summary(1, 9, 46_000)?, Summary { count: 1, total: 684_496, earliest: Some(9) });
     /// assert_eq!(store.summary(1, 8, 46_000)?, Summary { count: 0, total: 0, earliest: None });
     /// assert_eq!(store.summary(1, 9, 100_000), Err(Refusal::RecordOutside));
     /// # Ok::<(), Refusal>(())

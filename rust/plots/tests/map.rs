@@ -17,7 +17,7 @@ fn sheet(records: &[Record], today: u32) -> Summary {
     let balance = |record: &Record| match record.lease {
         0 => 0,
         lease => {
-            let left = record.last.saturating_sub(today).min(lease);
+            let left = (record.last + 1).saturating_sub(today).min(lease);
             u64::from(record.price) * u64::from(left) / u64::from(lease)
         }
     };

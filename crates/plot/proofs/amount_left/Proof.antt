@@ -3,7 +3,7 @@
 use borrow.Author.Needs.{needs}
 use mathlib.Core.Path.{sym}
 use native.Mathlib.Omega.{arith}
-use Rattle.plot.proofs.Laws.{share-fits, divisor-fits, days-within, amount-share}
+use Rattle.plot.proofs.Laws.{share-fits, divisor-fits, last-fits, days-within, amount-share}
 use Rattle.plot.proofs.amount_left.Statement.{statement}
 use Rattle.plot.proofs.amount_left.Tie as tie
 
@@ -24,4 +24,5 @@ returns c =
 
 pub amount-left-spec : {M : Type 1} → statement M
 amount-left-spec =
-    tie.close (tie.spec (λ c κs. search needs) (λ c κs. search needs) (λ c κs. search needs) quotient-requires returns)
+    tie.close
+    (tie.spec (λ c κs. last-fits _ _ (c .pre)) (λ c κs. search needs) (λ c κs. search needs) quotient-requires returns)

@@ -511,8 +511,8 @@ fn bits(key: u32, from: u32, count: u32) -> usize {
 pub fn sheet(records: &[Record], today: u32) -> (u64, u32) {
     let mut total = 0;
     for record in records {
-        if record.lease > 0 && today < record.last {
-            let days = (record.last - today).min(record.lease);
+        if record.lease > 0 && today <= record.last {
+            let days = (record.last - today + 1).min(record.lease);
             total += u64::from(record.price) * u64::from(days) / u64::from(record.lease);
         }
     }
