@@ -25,7 +25,7 @@
 extern "C" {
 #endif
 
-/* Clears a store and heads it: theta 1 to 6, page capacity 1 to 64, node blocks and page blocks 1 to 4,096 each. Words beyond the size,
+/* Clears a store and heads it: theta 1 to 6, page capacity 1 to 24, node blocks and page blocks 1 to 4,096 each. Words beyond the size,
  * 16 + nodes * (4 + 2 * 2^theta) + pages * (1 + 4 * capacity), stay.
  * Reply: the size. Returns 0, 4 or 5. */
 uint32_t plots_set_up(uint32_t *store, size_t store_words, uint32_t theta, uint32_t capacity, uint32_t nodes, uint32_t pages,

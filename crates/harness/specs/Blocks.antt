@@ -1,4 +1,4 @@
--- Where the blocks of any words stand: θ above 6 counts as 6, the capacity is taken modulo 65, products have 32 bits.
+-- Where the blocks of any words stand: θ above 6 counts as 6, the capacity is taken modulo 25, products have 32 bits.
 --   nodeSize θ     == the words of a node block
 --   nodeBlock s n  == the first word of node block n
 --   pageSize s     == the words of a page block
@@ -17,7 +17,7 @@ unfoldable pub nodeBlock : List ℕ → ℕ → ℕ
 nodeBlock s n = 16 + (n - 1) * nodeSize (word s 0) % 2 ^ 32
 
 unfoldable pub pageSize : List ℕ → ℕ
-pageSize s = 1 + 4 * (word s 1 % 65)
+pageSize s = 1 + 4 * (word s 1 % 25)
 
 unfoldable pub pageBlock : List ℕ → ℕ → ℕ
 pageBlock s p = 16 + word s 2 * nodeSize (word s 0) % 2 ^ 32 + (p - 1) * pageSize s % 2 ^ 32

@@ -37,9 +37,9 @@ pub fn node_at(store: &[u32], n: u32) -> usize
 
 // The words of a page block.
 pub fn page_words(store: &[u32]) -> u32
-    ensures { λ r. ⌜ (r ≡ pageSize (now (store .entry))) × (r ≤ 257) ⌝ }
+    ensures { λ r. ⌜ (r ≡ pageSize (now (store .entry))) × (r ≤ 97) ⌝ }
 {
-    1 + 4 * (word(store, 1) % 65)
+    1 + 4 * (word(store, 1) % 25)
 }
 
 // The first word of a page block.

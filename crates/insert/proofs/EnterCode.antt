@@ -23,7 +23,7 @@ use Rattle.store.specs.declared.Format.{Format}
 use Rattle.store.specs.declared.Head.{Head}
 use Rattle.store.specs.declared.Item.{Item}
 use Rattle.store.specs.Format.{width}
-use Rattle.store.specs.Head.{headOf, headRule, pageAt, nodesLeft, pagesLeft}
+use Rattle.store.specs.Head.{largestCapacity, headOf, headRule, pageAt, nodesLeft, pagesLeft}
 use Rattle.store.proofs.HeadLaws.{head-facts, width-within, levels-within}
 use Rattle.page.specs.Page.{count, itemAt, lawfulItem, pageRule, agrees}
 use Rattle.page.specs.Schema.{keyOf}
@@ -209,11 +209,11 @@ pub record Begun (f : Format) (s : List ℕ) (it : Item) (h : Head) (d : Descent
   pub used : d .used ≤ width f
 
 module _ {f : Format} {s : List ℕ} {it : Item} {h : Head} {d : Descent} (b : Begun f s it h d) where
-  pub begun-limits : (1 ≤ h .theta) × (h .theta ≤ 6) × (1 ≤ h .capacity) × (h .capacity ≤ 64) × (h .levels ≤ 32)
+  pub begun-limits : (1 ≤ h .theta) × (h .theta ≤ 6) × (1 ≤ h .capacity) × (h .capacity ≤ largestCapacity) × (h .levels ≤ 32)
   begun-limits =
       let t = head-facts f s (b .rule) in
       let l = levels-within f (headOf s .theta) (headOf s .capacity) (t .limits .theta-low) in
-      subst (λ x. (1 ≤ x .theta) × (x .theta ≤ 6) × (1 ≤ x .capacity) × (x .capacity ≤ 64) × (x .levels ≤ 32)) (sym (b .own))
+      subst (λ x. (1 ≤ x .theta) × (x .theta ≤ 6) × (1 ≤ x .capacity) × (x .capacity ≤ largestCapacity) × (x .levels ≤ 32)) (sym (b .own))
       (t .limits .theta-low, t .limits .theta, t .limits .capacity-low, t .limits .capacity, omega (arith, t .counts .levels))
 
   pub begun-narrow : it .key < 2 ^ width f

@@ -18,7 +18,7 @@ use Rattle.store.specs.declared.Format.{Format}
 use Rattle.store.specs.declared.Head.{Head}
 use Rattle.store.specs.declared.Item.{Item}
 use Rattle.store.specs.Format.{width, words}
-use Rattle.store.specs.Head.{word, headOf, pageWords, pageStart, pageAt}
+use Rattle.store.specs.Head.{largestCapacity, word, headOf, pageWords, pageStart, pageAt}
 use Rattle.store.proofs.HeadLaws.{Limits, sizes-limits}
 use Rattle.page.specs.Page.{count, lawfulItem}
 use Rattle.page.specs.Schema.{keyOf}
@@ -206,9 +206,9 @@ module _ (f : Format) (s : List ℕ) (p b : ℕ) (y : Partable f s p b) where
 
 -- the same where the code has its own head and words
 module _ (f : Format) (s : List ℕ) (h : Head) (p b : ℕ) (is : h ≡ headOf s) (y : Partable f s p b) where
-  pub part-limits : (8 ≤ length s) × (h .theta ≤ 6) × (h .capacity ≤ 64) × (h .pagesTaken < 4096)
+  pub part-limits : (8 ≤ length s) × (h .theta ≤ 6) × (h .capacity ≤ largestCapacity) × (h .pagesTaken < 4096)
   part-limits =
-      subst (λ (h : Head). (8 ≤ length s) × (h .theta ≤ 6) × (h .capacity ≤ 64) × (h .pagesTaken < 4096)) (sym is) (
+      subst (λ (h : Head). (8 ≤ length s) × (h .theta ≤ 6) × (h .capacity ≤ largestCapacity) × (h .pagesTaken < 4096)) (sym is) (
         omega (arith, sized-long f s (y .sized)),
         limits f s p b y .theta,
         limits f s p b y .capacity,
@@ -223,11 +223,11 @@ module _ (f : Format) (s : List ℕ) (h : Head) (p b : ℕ) (is : h ≡ headOf s
   )
 
   -- the head with the page taken
-  pub part-next : (t : List ℕ) (g : Head) → t ≡ putPagesTaken s (suc (h .pagesTaken)) → g ≡ headOf t → (g .theta ≤ 6) × (g .capacity ≤ 64)
+  pub part-next : (t : List ℕ) (g : Head) → t ≡ putPagesTaken s (suc (h .pagesTaken)) → g ≡ headOf t → (g .theta ≤ 6) × (g .capacity ≤ largestCapacity)
   part-next t g taken head-is =
       let k : SameSizes (headOf s) (headOf t) =
       subst (λ t. SameSizes (headOf s) (headOf t)) (sym taken) (putPagesTaken-sizes s (suc (h .pagesTaken))) in
-      subst (λ (g : Head). (g .theta ≤ 6) × (g .capacity ≤ 64)) (sym head-is)
+      subst (λ (g : Head). (g .theta ≤ 6) × (g .capacity ≤ largestCapacity)) (sym head-is)
       (omega (arith, k .theta, limits f s p b y .theta), omega (arith, k .capacity, limits f s p b y .capacity))
 
   abbrev rs : Head → List Item

@@ -17,7 +17,7 @@ use Rattle.store.specs.declared.Format.{Format}
 use Rattle.store.specs.declared.Head.{Head}
 use Rattle.store.specs.declared.Item.{Item}
 use Rattle.store.specs.Format.{width}
-use Rattle.store.specs.Head.{headOf, nodeStart, nodeWords, pageWords, pageStart, pageAt, nodeAt}
+use Rattle.store.specs.Head.{largestCapacity, headOf, nodeStart, nodeWords, pageWords, pageStart, pageAt, nodeAt}
 use Rattle.store.proofs.HeadLaws.{Limits, sizes-limits, page-given}
 use Rattle.page.specs.Page.{count, lawfulItem, Filled}
 use Rattle.page.specs.Schema.{keyOf}
@@ -83,9 +83,9 @@ module _ (f : Format) (s : List ℕ) (h : Head) (it : Item) (d : Descent) (carri
   full : headOf s .capacity ≡ C
   full = ap (λ (h : Head). h .capacity) (sym head-is)
 
-  pub place-limits : (8 ≤ length s) × (h .theta ≤ 6) × (h .capacity ≤ 64)
+  pub place-limits : (8 ≤ length s) × (h .theta ≤ 6) × (h .capacity ≤ largestCapacity)
   place-limits =
-      subst (λ (h : Head). (8 ≤ length s) × (h .theta ≤ 6) × (h .capacity ≤ 64)) (sym head-is)
+      subst (λ (h : Head). (8 ≤ length s) × (h .theta ≤ 6) × (h .capacity ≤ largestCapacity)) (sym head-is)
       (omega (arith, sized-long f s sized), limits .theta, limits .capacity)
 
   -- the key has a page
@@ -201,7 +201,7 @@ module _ (f : Format) (s : List ℕ) (h : Head) (it : Item) (d : Descent) (carri
       number-is : g .pagesTaken ≡ m
       number-is = ap (λ (h : Head). h .pagesTaken) g-is ∙ next-is
 
-      pub next-limits : (g .theta ≤ 6) × (g .capacity ≤ 64)
+      pub next-limits : (g .theta ≤ 6) × (g .capacity ≤ largestCapacity)
       next-limits = (omega (arith, theta-is, place-limits .1), omega (arith, capacity-is, place-limits .2))
 
       module _ (a w : ℕ) (start : a ≡ pageStart f g (g .pagesTaken)) (words : w ≡ pageWords f (g .capacity)) where

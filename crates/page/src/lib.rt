@@ -9,6 +9,7 @@ ghost use Prim.Native.Nat.{_+_, _*_, _/_, _%_, _^_, _≤_, _<_};
 ghost use lib.ListN.{length, getD, drop};
 ghost use Rattle.store.specs.Format.{width, words};
 ghost use Rattle.page.specs.Page.{count, itemAt, itemWords, lawfulItem, begun, goesOn, inTurn, checkedOf};
+ghost use Rattle.store.specs.Head.{largestCapacity};
 ghost use Rattle.page.specs.Page.{ordered, pageRule, agrees, above, firstAbove, Lent, Filled};
 
 // A reader stands at a record of a page.
@@ -185,7 +186,7 @@ fn in_order(page: &[u32], f: Format, n: usize) -> bool
 
 // Whether a page keeps the rule of a visited one.
 pub fn page_ok(page: &[u32], f: Format, capacity: u32) -> bool
-    requires { ⌜ (capacity ≤ 64) × (Lent f capacity (now page)) ⌝ }
+    requires { ⌜ (capacity ≤ largestCapacity) × (Lent f capacity (now page)) ⌝ }
     ensures { λ r. ⌜ r ≡ pageRule f capacity (now (page .entry)) ⌝ }
 {
     let n = count_of(page);

@@ -8,10 +8,10 @@ use Prim.Native.Nat.{ℕ, _+_, _-_, _*_, _≤_}
 use lib.ListN.{length, take, drop, replicate}
 use Rattle.store.specs.declared.Format.{Format}
 use Rattle.store.specs.Format.{words}
-use Rattle.store.specs.Head.{word, pageWords}
+use Rattle.store.specs.Head.{largestCapacity, word, pageWords}
 
 pub record Halvable (f : Format) (s : List ℕ) (C from to i : ℕ) : Type 0 where
-  pub small : C ≤ 64
+  pub small : C ≤ largestCapacity
   pub from-in : from + pageWords f C ≤ length s
   pub to-in : to + pageWords f C ≤ length s
   pub apart : (from + pageWords f C ≤ to) ⊎ (to + pageWords f C ≤ from)

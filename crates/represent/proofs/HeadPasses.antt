@@ -72,7 +72,7 @@ module _ (f : Format) (s : List ℕ) (S : List Item) (w : Holds f s S) where
       ∙ ap length (r .directory .levels-are)
       ∙ ap (levels (h .theta)) shape-is
 
-  -- 2^f ≤ C ≤ 64
+  -- 2^f ≤ C, which is at most the largest capacity
   log-low : log2 (h .capacity) < width f
   log-low =
       elim (decLt (log2 (h .capacity)) 7) [

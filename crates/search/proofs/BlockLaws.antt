@@ -11,7 +11,7 @@ use lib.Pow.{pow-mono}
 use Rattle.store.specs.declared.Format.{Format}
 use Rattle.store.specs.declared.Head.{Head}
 use Rattle.store.specs.Format.{width}
-use Rattle.store.specs.Head.{nodeWords, nodeStart, nodeAt, InUse, Under}
+use Rattle.store.specs.Head.{largestCapacity, nodeWords, nodeStart, nodeAt, InUse, Under}
 use Rattle.store.proofs.HeadLaws.{levels-within}
 use Rattle.store.proofs.Places.{under-limits, under-counts, node-length}
 use Rattle.node.specs.Node.{depthWord, nodeRule, entryNumber}
@@ -28,7 +28,7 @@ under-node u =
     (l .theta, omega (arith, l .nodes, c .taken), omega (arith, l .pages, c .filled))
 
 -- the limits that a page asks
-pub under-page : {f : Format} {s : List ℕ} {h : Head} → Under f s h → (h .theta ≤ 6) × (h .capacity ≤ 64)
+pub under-page : {f : Format} {s : List ℕ} {h : Head} → Under f s h → (h .theta ≤ 6) × (h .capacity ≤ largestCapacity)
 under-page u = let l = under-limits u in (l .theta, l .capacity)
 
 -- at most 32 levels

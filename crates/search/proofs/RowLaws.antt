@@ -13,7 +13,7 @@ use Rattle.store.specs.declared.Format.{Format}
 use Rattle.store.specs.declared.Head.{Head}
 use Rattle.store.specs.declared.Item.{Item}
 use Rattle.store.specs.Format.{width, words}
-use Rattle.store.specs.Head.{pageAt, Under}
+use Rattle.store.specs.Head.{largestCapacity, pageAt, Under}
 use Rattle.store.proofs.Places.{under-limits}
 use Rattle.page.specs.Page.{count, itemAt, keyAt, Lent, Filled, pageRule, agrees, above, firstAbove}
 use Rattle.page.proofs.Laws.{rule-facts}
@@ -81,7 +81,7 @@ module _ (f : Format) (h : Head) (pg : List ℕ) (strict : Bool) (k used : ℕ) 
 -- what is asked of a page that is lent, pg
 module _ {f : Format} {s : List ℕ} {h : Head} (u : Under f s h) (p : ℕ) {pg : List ℕ} (e : pg ≡ pageAt f s h p) where
   pub page-asked : (b : Bool) → (b ≡ false → pageRule f (h .capacity) pg ≡ true)
-      → (h .capacity ≤ 64) × Lent f (h .capacity) pg × (b ≡ false → pageRule f (h .capacity) pg ≡ true)
+      → (h .capacity ≤ largestCapacity) × Lent f (h .capacity) pg × (b ≡ false → pageRule f (h .capacity) pg ≡ true)
   page-asked b t = (under-limits u .capacity, rw e (page-lent f s h p), t)
 
   pub page-filled : pageRule f (h .capacity) pg ≡ true → Filled f pg

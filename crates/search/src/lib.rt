@@ -8,7 +8,7 @@ ghost use mathlib.Core.Bool.{true, false};
 ghost use Prim.Native.Nat.{_+_, _-_, _*_, _^_, _≤_, _<_};
 ghost use lib.ListN.{length};
 ghost use Rattle.store.specs.Format.{width, words};
-ghost use Rattle.store.specs.Head.{nodeWords, nodeStart, pageAt, InUse, Under};
+ghost use Rattle.store.specs.Head.{largestCapacity, nodeWords, nodeStart, pageAt, InUse, Under};
 ghost use Rattle.node.specs.Node.{depthWord, nodeRule};
 ghost use Rattle.page.specs.Page.{pageRule, Lent, Filled};
 ghost use Rattle.search.specs.Descent.{soundNode, TerminalNode, stepOf, lost, descent, terminal, ownVisit};
@@ -256,7 +256,7 @@ pub fn terminal_of(store: &[u32], f: Format, head: Head, key: u64, checked: bool
 
 // Whether a page keeps the rule of a visited one.
 fn page_passes(page: &[u32], f: Format, capacity: u32, checked: bool) -> bool
-    requires { ⌜ (capacity ≤ 64) × (Lent f capacity (now page)) × (checked ≡ false → pageRule f capacity (now page) ≡ true) ⌝ }
+    requires { ⌜ (capacity ≤ largestCapacity) × (Lent f capacity (now page)) × (checked ≡ false → pageRule f capacity (now page) ≡ true) ⌝ }
     ensures { λ r. ⌜ r ≡ pageRule f capacity (now (page .entry)) ⌝ }
 {
     if checked {
@@ -267,7 +267,7 @@ fn page_passes(page: &[u32], f: Format, capacity: u32, checked: bool) -> bool
 
 // Whether the sought key's own page is sound.
 pub fn page_sound(page: &[u32], f: Format, head: Head, key: u64, used: u32, checked: bool) -> bool
-    requires { ⌜ (head .capacity ≤ 64) × (used ≤ width f) × (Lent f (head .capacity) (now page))
+    requires { ⌜ (head .capacity ≤ largestCapacity) × (used ≤ width f) × (Lent f (head .capacity) (now page))
         × (checked ≡ false → pageRule f (head .capacity) (now page) ≡ true) ⌝ }
     ensures { λ r. ⌜ r ≡ soundPage f head (now (page .entry)) key used ⌝ }
 {
@@ -552,7 +552,7 @@ fn own_place(
     after: usize,
     checked: bool,
 ) -> Place
-    requires { ⌜ (head .capacity ≤ 64) × (used ≤ width f) × (Lent f (head .capacity) (now page))
+    requires { ⌜ (head .capacity ≤ largestCapacity) × (used ≤ width f) × (Lent f (head .capacity) (now page))
         × («at_key» ≡ true → AtKey f (head .capacity) (now page) strict key after)
         × (checked ≡ false → pageRule f (head .capacity) (now page) ≡ true) ⌝ }
     ensures { λ r. ⌜ r ≡ placeOf f head (now (page .entry)) strict key used ⌝ }

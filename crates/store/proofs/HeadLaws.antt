@@ -15,7 +15,7 @@ use Rattle.store.specs.declared.Format.{Format}
 use Rattle.store.specs.declared.Format.the-variants.{Plots}
 use Rattle.store.specs.declared.Head.{Head}
 use Rattle.store.specs.Format.{width, words}
-use Rattle.store.specs.Head.{word, zeros, headOf, nodeWords, pageWords, size, nodeStart, pageStart, pageAt}
+use Rattle.store.specs.Head.{largestCapacity, word, zeros, headOf, nodeWords, pageWords, size, nodeStart, pageStart, pageAt}
 use Rattle.store.specs.Head.{lawfulSizes, lawfulCounts, headRule}
 
 -- what the code computes is what the definitions name
@@ -69,7 +69,7 @@ pub record Limits (θ C N P : ℕ) : Type 0 where
   pub theta-low : 1 ≤ θ
   pub theta : θ ≤ 6
   pub capacity-low : 1 ≤ C
-  pub capacity : C ≤ 64
+  pub capacity : C ≤ largestCapacity
   pub nodes-low : 1 ≤ N
   pub nodes : N ≤ 4096
   pub pages-low : 1 ≤ P
@@ -97,7 +97,7 @@ sizes-limits θ C N P e =
     }
 
 -- where all tests but the last hold, the last decides
-pub sizes-last : (θ C N P : ℕ) → (1 ≤ θ) × (θ ≤ 6) × (1 ≤ C) × (C ≤ 64) × (1 ≤ N) × (N ≤ 4096) × (1 ≤ P)
+pub sizes-last : (θ C N P : ℕ) → (1 ≤ θ) × (θ ≤ 6) × (1 ≤ C) × (C ≤ largestCapacity) × (1 ≤ N) × (N ≤ 4096) × (1 ≤ P)
     → leb P 4096 ≡ lawfulSizes θ C N P
 unfolding lawfulSizes
 sizes-last θ C N P l =

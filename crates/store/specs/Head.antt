@@ -77,13 +77,14 @@ pageAt f s h p = part s (pageStart f h p) (pageWords f (h .capacity))
 abbrev pub largestTheta : ℕ
 largestTheta = 6
 
+-- M-105: "The largest page capacity in any office is 24 .. That becomes the limit for C"
 abbrev pub largestCapacity : ℕ
-largestCapacity = 64
+largestCapacity = 24
 
 abbrev pub largestBlocks : ℕ
 largestBlocks = 4096
 
--- "θ (1 to 6), page capacity C (1 to 64), node blocks N and page blocks P (1 to 4,096 each)"
+-- "θ (1 to 6), page capacity C (1 to 64), node blocks N and page blocks P (1 to 4,096 each)"; of C 1 to 24 by M-105
 unfoldable pub lawfulSizes : ℕ → ℕ → ℕ → ℕ → Bool
 lawfulSizes θ C N P =
     leb 1 θ && leb θ largestTheta && leb 1 C && leb C largestCapacity && leb 1 N && leb N largestBlocks && leb 1 P && leb P largestBlocks

@@ -6,7 +6,7 @@ ghost use lib.ListN.{length, getD, replicate};
 ghost use Rattle.lists.specs.Lists.{part};
 ghost use Rattle.tree.specs.Book.{log2, levelBound};
 ghost use Rattle.store.specs.Format.{width, words};
-ghost use Rattle.store.specs.Head.{zeros, headOf, nodeWords, pageWords, size, nodeStart, nodeAt, pageStart, pageAt};
+ghost use Rattle.store.specs.Head.{largestCapacity, zeros, headOf, nodeWords, pageWords, size, nodeStart, nodeAt, pageStart, pageAt};
 ghost use Rattle.store.specs.Head.{lawfulSizes, lawfulCounts, InUse, headRule, Under};
 ghost use Rattle.store.specs.SetUp.{marked, setUp, reply};
 
@@ -120,6 +120,9 @@ pub fn head_of(store: &[u32]) -> Head
     }
 }
 
+// The most records that a page may have room for.
+const LARGEST_CAPACITY: u32 = 24;
+
 // Whether θ, C, N and P are within their limits.
 fn sizes_ok(theta: u32, capacity: u32, nodes: u32, pages: u32) -> bool
     ensures { λ r. ⌜ r ≡ lawfulSizes theta capacity nodes pages ⌝ }
@@ -133,7 +136,7 @@ fn sizes_ok(theta: u32, capacity: u32, nodes: u32, pages: u32) -> bool
     if capacity < 1 {
         return false;
     }
-    if capacity > 64 {
+    if capacity > LARGEST_CAPACITY {
         return false;
     }
     if nodes < 1 {
@@ -158,15 +161,15 @@ pub fn node_words(theta: u32) -> usize
 
 // The words of a page block.
 pub fn page_words(f: Format, capacity: u32) -> usize
-    requires { ⌜ capacity ≤ 64 ⌝ }
-    ensures { λ r. ⌜ (r ≡ pageWords f capacity) × (r ≤ 257) ⌝ }
+    requires { ⌜ capacity ≤ largestCapacity ⌝ }
+    ensures { λ r. ⌜ (r ≡ pageWords f capacity) × (r ≤ 1 + 4 * largestCapacity) ⌝ }
 {
     1 + words_of(f) * to_index(capacity)
 }
 
 // The words of a store.
 fn size_of(f: Format, theta: u32, capacity: u32, nodes: u32, pages: u32) -> usize
-    requires { ⌜ (theta ≤ 6) × (capacity ≤ 64) × (nodes ≤ 4096) × (pages ≤ 4096) ⌝ }
+    requires { ⌜ (theta ≤ 6) × (capacity ≤ largestCapacity) × (nodes ≤ 4096) × (pages ≤ 4096) ⌝ }
     ensures { λ r. ⌜ (r ≡ size f theta capacity nodes pages) × (r < 2 ^ 21) ⌝ }
 {
     16 + to_index(nodes) * node_words(theta) + to_index(pages) * page_words(f, capacity)
@@ -174,15 +177,9 @@ fn size_of(f: Format, theta: u32, capacity: u32, nodes: u32, pages: u32) -> usiz
 
 // The largest f with 2^f ≤ c.
 fn floor_log2(c: u32) -> u32
-    requires { ⌜ (1 ≤ c) × (c ≤ 64) ⌝ }
-    ensures { λ r. ⌜ (r ≡ log2 c) × (r ≤ 6) ⌝ }
+    requires { ⌜ (1 ≤ c) × (c ≤ largestCapacity) ⌝ }
+    ensures { λ r. ⌜ (r ≡ log2 c) × (r ≤ 4) ⌝ }
 {
-    if c >= 64 {
-        return 6;
-    }
-    if c >= 32 {
-        return 5;
-    }
     if c >= 16 {
         return 4;
     }
@@ -200,7 +197,7 @@ fn floor_log2(c: u32) -> u32
 
 // The bound on the levels, document 01's L.
 fn level_bound(f: Format, theta: u32, capacity: u32) -> u32
-    requires { ⌜ (1 ≤ theta) × (theta ≤ 6) × (1 ≤ capacity) × (capacity ≤ 64) ⌝ }
+    requires { ⌜ (1 ≤ theta) × (theta ≤ 6) × (1 ≤ capacity) × (capacity ≤ largestCapacity) ⌝ }
     ensures { λ r. ⌜ r ≡ levelBound (width f) theta capacity ⌝ }
 {
     (width_of(f) - floor_log2(capacity) + (theta - 1)) / theta
@@ -208,7 +205,7 @@ fn level_bound(f: Format, theta: u32, capacity: u32) -> u32
 
 // Whether the counts, the root and the levels of a head are within their limits.
 fn counts_ok(f: Format, head: Head) -> bool
-    requires { ⌜ (1 ≤ head .theta) × (head .theta ≤ 6) × (1 ≤ head .capacity) × (head .capacity ≤ 64) ⌝ }
+    requires { ⌜ (1 ≤ head .theta) × (head .theta ≤ 6) × (1 ≤ head .capacity) × (head .capacity ≤ largestCapacity) ⌝ }
     ensures { λ r. ⌜ r ≡ lawfulCounts f head ⌝ }
 {
     if head.nodesTaken < 1 {
@@ -277,7 +274,7 @@ pub fn node_start(head: Head, n: u32) -> usize
 
 // The first word of a page block.
 pub fn page_start(f: Format, head: Head, p: u32) -> usize
-    requires { ⌜ (head .theta ≤ 6) × (head .capacity ≤ 64) ⌝ }
+    requires { ⌜ (head .theta ≤ 6) × (head .capacity ≤ largestCapacity) ⌝ }
     ensures { λ r. ⌜ (r ≡ pageStart f head p) × (r < 2 ^ 42) ⌝ }
 {
     16
@@ -297,7 +294,7 @@ pub fn node_at(store: &[u32], f: Format, head: Head, n: u32) -> &[u32]
 
 // The words of a page block, in place.
 pub fn page_at(store: &[u32], f: Format, head: Head, p: u32) -> &[u32]
-    requires { ⌜ (head .theta ≤ 6) × (head .capacity ≤ 64) ⌝ }
+    requires { ⌜ (head .theta ≤ 6) × (head .capacity ≤ largestCapacity) ⌝ }
     ensures { λ r. ⌜ now r ≡ pageAt f (now (store .entry)) head p ⌝ }
 {
     let start = page_start(f, head, p);

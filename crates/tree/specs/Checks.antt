@@ -90,6 +90,6 @@ table =
     ∷ replies (sizes 6 1 76 2) topTwo (reply 0 4294967295 6 76 2)
     -- "The same two, θ = 1: 32 levels, 528 nodes."
     ∷ figures 32 1 1 topTwo 32 528 2
-    -- "L for θ = 6, C = 64 is 5."
-    ∷ bound 32 6 64 5
+    -- "L for θ = 6, C = 64 is 5." M-105: "takes C = 24, still 5"
+    ∷ bound 32 6 24 5
     ∷ []

@@ -30,6 +30,8 @@ fn open_sqlite() -> Option<Sqlite> {
     None
 }
 
+/// Records a page: the most that there may be.
+const CAPACITY: u32 = 24;
 const OPERATIONS: [&str; 6] = ["enter", "find held", "find absent", "next", "range", "summary"];
 const COLUMNS: [&str; 4] = ["proved", "plain", "BTreeMap", "SQLite"];
 
@@ -238,7 +240,7 @@ fn profile(name: &str) {
         process::exit(2);
     };
     let work = Work::new(Pattern::Random, 10_000);
-    let mut proved = Proved::new(24);
+    let mut proved = Proved::new(CAPACITY);
     assert!(fill(&mut proved, &work));
     let mut out = vec![0; 4 * work.records.len()];
     for _ in 0..20 {
@@ -272,13 +274,11 @@ fn main() {
 
     let mut rows = Vec::new();
     for pattern in [Pattern::Random, Pattern::Bursts] {
-        for capacity in [24, 64] {
-            let first = rows.len();
-            for &count in sizes {
-                rows.push(run(pattern, capacity, count, rounds));
-            }
-            print_tables(&rows[first..]);
+        let first = rows.len();
+        for &count in sizes {
+            rows.push(run(pattern, CAPACITY, count, rounds));
         }
+        print_tables(&rows[first..]);
     }
     if let Some(file) = file {
         fs::write(&file, csv(&rows)).unwrap_or_else(|error| {

@@ -1,6 +1,8 @@
 //! A plain checker of whole stores, written apart from the operations: rules by the words, the tree of a set from its
 //! records, and two stores compared block numbers apart.
 
+use crate::head::CAPACITY_MOST;
+
 /// A stretch: all keys with one prefix.
 #[derive(Clone, Copy, Debug, PartialEq, Eq)]
 pub struct Stretch {
@@ -137,7 +139,7 @@ fn head_rule(words: &[u32]) -> Result<(), String> {
     ensure!(words.len() >= 16, "no head");
     let [theta, capacity, nodes, pages, nodes_taken, pages_taken, root, levels] = *words.first_chunk().unwrap();
     ensure!((1..=6).contains(&theta), "theta {theta}");
-    ensure!((1..=64).contains(&capacity), "capacity {capacity}");
+    ensure!((1..=CAPACITY_MOST).contains(&capacity), "capacity {capacity}");
     ensure!((1..=4096).contains(&nodes) && (1..=4096).contains(&pages), "blocks {nodes}, {pages}");
     let size = 16 + nodes as usize * (4 + 2 * 2usize.pow(theta)) + pages as usize * (1 + 4 * capacity as usize);
     ensure!(words.len() >= size, "{} words of {size}", words.len());

@@ -4,6 +4,9 @@ use crate::answer;
 
 pub const HEAD_WORDS: usize = 16;
 
+/// The most records that a page may have room for.
+pub const CAPACITY_MOST: u32 = 24;
+
 /// The head's eight words in use. One that `read` gives keeps the head rule, so its taken blocks are inside the slice.
 #[derive(Clone, Copy)]
 pub struct Head {
@@ -57,7 +60,7 @@ impl Head {
 
     fn sizes_ok(&self) -> bool {
         (1..=6).contains(&self.theta)
-            && (1..=64).contains(&self.capacity)
+            && (1..=CAPACITY_MOST).contains(&self.capacity)
             && (1..=4096).contains(&self.nodes)
             && (1..=4096).contains(&self.pages)
     }

@@ -102,7 +102,7 @@ fn setting_up() {
         assert_eq!((answer.number, answer.size), (4, 0));
         assert_eq!(store, [5; 100]);
     }
-    for (theta, capacity, nodes, pages) in [(1, 1, 1, 1), (6, 64, 4096, 4096), (3, 5, 7, 9)] {
+    for (theta, capacity, nodes, pages) in [(1, 1, 1, 1), (6, 24, 4096, 4096), (3, 5, 7, 9)] {
         let size = size(theta, capacity, nodes, pages);
         let mut store = vec![5; size + 3];
         let answer = set_up(&mut store[..size - 1], theta, capacity, nodes, pages);
@@ -216,14 +216,14 @@ fn top_keys() {
 
 #[test]
 fn most_levels() {
-    // L for theta 6, C 64 is 5: levels 6 break the head rule, 5 do not.
-    let mut store = new_store(6, 64, 1, 1);
+    // L for theta 6, C 24 is 5: levels 6 break the head rule, 5 do not.
+    let mut store = new_store(6, 24, 1, 1);
     store[7] = 5;
     assert_eq!(find(&store, 1).number, 9);
     store[7] = 6;
     assert_eq!(find(&store, 1).number, 3);
     for theta in 1..=6 {
-        for capacity in 1..=64u32 {
+        for capacity in 1..=24u32 {
             let f = capacity.ilog2();
             let mut store = new_store(theta, capacity, 1, 1);
             store[7] = (32 - f).div_ceil(theta);

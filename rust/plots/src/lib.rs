@@ -68,7 +68,7 @@ impl From<Record> for [u32; 4] {
 pub struct Sizes {
     /// The largest depth of a node: 1 to 6. A node has room for 2^theta entries.
     pub theta: u32,
-    /// How many records a page holds: 1 to 64.
+    /// How many records a page holds: 1 to 24.
     pub capacity: u32,
     /// Node blocks: 1 to 4,096.
     pub nodes: u32,

@@ -344,10 +344,10 @@ fn storeless(rng: &mut Rng) -> Call {
 
 /// A set-up of some words of no store, with sizes inside and outside their limits, and slices too short.
 fn set_up_somewhere(rng: &mut Rng, counts: &mut Counts) {
-    let mut sizes = [1 + rng.below(6), 1 + rng.below(64), 1 + rng.below(12), 1 + rng.below(12)];
+    let mut sizes = [1 + rng.below(6), 1 + rng.below(24), 1 + rng.below(12), 1 + rng.below(12)];
     if rng.chance(30) {
         let (at, any) = (rng.below(4) as usize, rng.word());
-        let most = [6, 64, 4_096, 4_096][at];
+        let most = [6, 24, 4_096, 4_096][at];
         sizes[at] = rng.one_of(&[0, most, most + 1, u32::MAX, any]);
     }
     let [theta, capacity, nodes, pages] = sizes;
@@ -373,7 +373,7 @@ fn start(rng: &mut Rng, theta: u32, capacity: u32, nodes: u32, pages: u32, count
 /// Sizes of stores, some of them too small for what is entered.
 fn some_sizes(rng: &mut Rng) -> [u32; 4] {
     let theta = 1 + rng.below(6);
-    let capacity = rng.one_of(&[1, 1, 2, 3, 4, 7, 8, 16, 24, 64]);
+    let capacity = rng.one_of(&[1, 1, 2, 3, 4, 7, 8, 16, 24]);
     let (nodes, pages) = rng.one_of(&[(1, 1), (3, 2), (8, 12), (40, 30), (100, 60), (600, 60)]);
     [theta, capacity, nodes, pages]
 }
@@ -404,7 +404,7 @@ fn sound_stores() {
         }
     }
     // Large stores, entered through both sides and compared now and then, then called on.
-    for (seed, sizes) in [[6, 64, 4_096, 4_096], [6, 24, 4_096, 4_096], [1, 1, 4_096, 4_096], [3, 8, 2_000, 4_096]]
+    for (seed, sizes) in [[6, 24, 4_096, 4_096], [4, 12, 4_096, 4_096], [1, 1, 4_096, 4_096], [3, 8, 2_000, 4_096]]
         .into_iter()
         .enumerate()
     {

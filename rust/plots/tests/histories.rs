@@ -36,7 +36,7 @@ fn expected(book: &Book, record: &Record, sizes: Sizes) -> Result<Entered, Refus
 fn history(seed: u64) -> usize {
     let rng = &mut Rng(seed ^ 0x815_0000_0000);
     let theta = 1 + rng.below(6);
-    let capacity = rng.one_of(&[1, 1, 2, 3, 4, 7, 8, 16, 24, 64]);
+    let capacity = rng.one_of(&[1, 1, 2, 3, 4, 7, 8, 16, 24]);
     let (nodes, pages) = if rng.chance(50) { (600, 200) } else { (1 + rng.below(80), 1 + rng.below(40)) };
     let sizes = Sizes { theta, capacity, nodes, pages };
     let length = sizes.words();

@@ -125,7 +125,7 @@ fn many_stores() {
     for seed in 0..1_000 {
         let rng = &mut Rng(seed ^ 0x3a9_0000_0000);
         let theta = 1 + rng.below(6);
-        let capacity = rng.one_of(&[1, 2, 3, 4, 8, 24, 64]);
+        let capacity = rng.one_of(&[1, 2, 3, 4, 8, 24]);
         let (nodes, pages) = rng.one_of(&[(1, 1), (10, 10), (100, 40), (600, 200)]);
         let sizes = Sizes { theta, capacity, nodes, pages };
         assert_eq!(sizes.words(), size(theta, capacity, nodes, pages));
@@ -142,7 +142,7 @@ fn many_stores() {
 fn large_stores() {
     let (mut records, mut readings) = (0, 0);
     for (seed, theta, capacity, kind, entries) in
-        [(1, 6, 24, 0, 50_000), (2, 6, 64, 6, 60_000), (3, 3, 16, 1, 20_000), (4, 1, 8, 0, 6_000), (5, 2, 1, 0, 2_000)]
+        [(1, 6, 24, 0, 50_000), (2, 6, 24, 6, 40_000), (3, 3, 16, 1, 20_000), (4, 1, 8, 0, 6_000), (5, 2, 1, 0, 2_000)]
     {
         let rng = &mut Rng(seed);
         let mut store = Store::new(Sizes { theta, capacity, nodes: 4_096, pages: 4_096 }).unwrap();

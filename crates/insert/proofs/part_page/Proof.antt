@@ -5,11 +5,12 @@ use Prim.Native.Nat.{_≤_, _<_}
 use lib.ListN.{length}
 use Rattle.insert.proofs.PageCode.{part-limits, part-asks, part-next, part-low, part-high, part-ready, part-both}
 use Rattle.insert.proofs.part_page.Statement.{statement}
+use Rattle.store.specs.Head.{largestCapacity}
 use Rattle.insert.proofs.part_page.Tie as tie
 
 limits : (c : tie.Start)
     → let a = c .args in
-    (8 ≤ length (a .store .now)) × (a .head .theta ≤ 6) × (a .head .capacity ≤ 64) × (a .head .pagesTaken < 4096)
+    (8 ≤ length (a .store .now)) × (a .head .theta ≤ 6) × (a .head .capacity ≤ largestCapacity) × (a .head .pagesTaken < 4096)
 limits c = part-limits (c .args .f) _ _ (c .args .page) (c .args .bit) (c .pre .0) (c .pre .1)
 
 page-at-requires : tie.Need-page-at-requires
@@ -44,7 +45,7 @@ take-page-requires c κs =
     (limits s .0, s .pre .0, limits s .3)
 
 -- the head with the page taken
-next : (c : tie.After-take-page) → (c .take-page .result .theta ≤ 6) × (c .take-page .result .capacity ≤ 64)
+next : (c : tie.After-take-page) → (c .take-page .result .theta ≤ 6) × (c .take-page .result .capacity ≤ largestCapacity)
 next c =
     let s = c .before .before .before .before .before .before .before .before .before in
     part-next _ _ _ _ _ (s .pre .0) (s .pre .1) _ _ (c .take-page .ensures .0) (c .take-page .ensures .1)

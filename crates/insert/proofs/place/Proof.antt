@@ -6,6 +6,7 @@ use Rattle.search.specs.Descent.{noStep}
 use Rattle.insert.proofs.PlaceCode.{place-limits, put-inside, put-asks, put-done, take-asks, next-limits, first-inside, first-asks}
 use Rattle.insert.proofs.PlaceCode.{aim-asks, aim-done}
 use Rattle.insert.proofs.place.Statement.{statement}
+use Rattle.store.specs.Head.{largestCapacity}
 use Rattle.insert.proofs.place.Tie as tie
 
 take-page-requires : tie.Need-take-page-requires
@@ -14,7 +15,7 @@ take-page-requires c κs =
     take-asks _ _ _ (s .args .item) _ (s .pre .0) (s .pre .2) (c .before .if1 .taken)
 
 -- the head with the page taken
-next : (c : tie.After-take-page) → (c .take-page .result .theta ≤ 6) × (c .take-page .result .capacity ≤ 64)
+next : (c : tie.After-take-page) → (c .take-page .result .theta ≤ 6) × (c .take-page .result .capacity ≤ largestCapacity)
 next c =
     let n = c .before .before in
     let s = n .before .before .before in

@@ -1,17 +1,18 @@
 -- Two products of bounded numbers.
 use borrow.Author.Needs.{needs}
-use Prim.Native.Nat.{_*_, _^_, _≤_}
+use Prim.Native.Nat.{_+_, _*_, _^_, _≤_}
 use native.Mathlib.Omega.{arith}
 use Rattle.store.proofs.Sizes.{times-lt}
 use Rattle.store.proofs.HeadLaws.{page-start-is}
 use Rattle.store.proofs.page_start.Statement.{statement}
+use Rattle.store.specs.Head.{largestCapacity}
 use Rattle.store.proofs.page_start.Tie as tie
 
 nodes : (c : tie.After-node-words) → c .before .to-index .result * c .node-words .result ≤ 2 ^ 32 * 132
 nodes c = times-lt _ _ (2 ^ 32) 132 (c .before .to-index .ensures .1) (c .node-words .ensures .2)
 
-pages : (c : tie.After-page-words) → c .before .from-zero .result * c .page-words .result ≤ 2 ^ 32 * 257
-pages c = times-lt _ _ (2 ^ 32) 257 (c .before .from-zero .ensures .1) (c .page-words .ensures .1)
+pages : (c : tie.After-page-words) → c .before .from-zero .result * c .page-words .result ≤ 2 ^ 32 * (1 + 4 * largestCapacity)
+pages c = times-lt _ _ (2 ^ 32) (1 + 4 * largestCapacity) (c .before .from-zero .ensures .1) (c .page-words .ensures .1)
 
 mul-result : tie.Need-mul-result
 mul-result c = omega (arith, nodes c)

@@ -1,14 +1,15 @@
--- At most four words for each of 64 records.
+-- At most four words for each record of the largest capacity.
 use borrow.Author.Needs.{needs}
 use Prim.Native.Nat.{_*_, _≤_}
 use native.Mathlib.Omega.{arith}
+use Rattle.store.specs.Head.{largestCapacity}
 use Rattle.store.proofs.Sizes.{times-le}
 use Rattle.store.proofs.HeadLaws.{page-words-is}
 use Rattle.store.proofs.page_words.Statement.{statement}
 use Rattle.store.proofs.page_words.Tie as tie
 
-within : (c : tie.After-to-index) → c .before .words-of .result * c .to-index .result ≤ 4 * 64
-within c = times-le _ _ 4 64 (c .before .words-of .ensures .2) (omega arith)
+within : (c : tie.After-to-index) → c .before .words-of .result * c .to-index .result ≤ 4 * largestCapacity
+within c = times-le _ _ 4 largestCapacity (c .before .words-of .ensures .2) (omega arith)
 
 mul-result : tie.Need-mul-result
 mul-result c = omega (arith, within c)

@@ -1,17 +1,18 @@
 -- Two products of bounded numbers.
 use borrow.Author.Needs.{needs}
-use Prim.Native.Nat.{_*_, _≤_}
+use Prim.Native.Nat.{_+_, _*_, _≤_}
 use native.Mathlib.Omega.{arith}
 use Rattle.store.proofs.Sizes.{times-le}
 use Rattle.store.proofs.HeadLaws.{size-is}
 use Rattle.store.proofs.size_of.Statement.{statement}
+use Rattle.store.specs.Head.{largestCapacity}
 use Rattle.store.proofs.size_of.Tie as tie
 
 nodes : (c : tie.After-node-words) → c .before .to-index .result * c .node-words .result ≤ 4096 * 132
 nodes c = times-le _ _ 4096 132 (omega arith) (c .node-words .ensures .2)
 
-pages : (c : tie.After-page-words) → c .before .to-index2 .result * c .page-words .result ≤ 4096 * 257
-pages c = times-le _ _ 4096 257 (omega arith) (c .page-words .ensures .1)
+pages : (c : tie.After-page-words) → c .before .to-index2 .result * c .page-words .result ≤ 4096 * (1 + 4 * largestCapacity)
+pages c = times-le _ _ 4096 (1 + 4 * largestCapacity) (omega arith) (c .page-words .ensures .1)
 
 mul-result : tie.Need-mul-result
 mul-result c = omega (arith, nodes c)

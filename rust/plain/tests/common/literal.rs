@@ -52,7 +52,7 @@ impl Literal {
         }
         let [theta, capacity, nodes, pages, nodes_taken, pages_taken, root, levels] =
             *self.words.first_chunk().unwrap();
-        if !(1..=6).contains(&theta) || !(1..=64).contains(&capacity) {
+        if !(1..=6).contains(&theta) || !(1..=24).contains(&capacity) {
             return false;
         }
         if !(1..=4096).contains(&nodes) || !(1..=4096).contains(&pages) {

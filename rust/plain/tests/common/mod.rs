@@ -129,7 +129,7 @@ pub fn other(word: u32, store: &[u32], rng: &mut Rng) -> u32 {
 pub fn damage(store: &mut [u32], rng: &mut Rng) {
     let [theta, capacity, nodes, _, nodes_taken, pages_taken, ..] = *store else { unreachable!() };
     let node_words = 4 + (2usize << theta.min(6));
-    let capacity = capacity.clamp(1, 64);
+    let capacity = capacity.clamp(1, 24);
     let page_words = 1 + 4 * capacity as usize;
     let node = 16 + rng.below(nodes_taken.clamp(1, nodes.max(1))) as usize * node_words;
     let page = 16 + nodes as usize * node_words + rng.below(pages_taken.clamp(1, 1 << 20)) as usize * page_words;
