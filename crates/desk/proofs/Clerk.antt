@@ -1,20 +1,20 @@
 -- The transcript is the clerk's: the store is all zero until a set-up is done, and from then on it holds the register.
 --   Stands s r == the words s are those of the register r
 use mathlib.Core.Path.{_≡_, refl, sym, ap, ap₂, _∙_, subst}
-use mathlib.Core.Bool.{Bool, true, false}
+use mathlib.Core.Bool.{true, false}
 use mathlib.Core.List.{List, [], _∷_, _++_}
-use Prim.Native.Nat.{ℕ, _^_, _≤_, _<_}
+use Prim.Native.Nat.{ℕ, _^_, _<_}
 use native.Mathlib.Decide.{decLe}
 use native.Mathlib.Omega.{arith}
-use lib.Dec.{leb, ltb, eqb}
+use lib.Dec.{leb, eqb}
 use lib.ListN.{length, replicate, length-replicate}
 use borrow.Author.Tests.{leb-true, le-ltb, lt-ltb, ne-eqb}
 use Rattle.lists.specs.Lists.{All}
 use Rattle.lists.proofs.Cases.{by-cases}
-use Rattle.tree.specs.Book.{Reply, Sizes, refused, entered}
+use Rattle.tree.specs.Book.{Reply, Sizes, refused}
 use Rattle.lines.specs.declared.Request.{Request}
 use Rattle.lines.specs.declared.Request.the-variants.{SetUp, Enter, Find, Next, Range, Summary, Dump, Wrong}
-use Rattle.lines.specs.declared.Reply.the-variants.{Refused, SetUpLine}
+use Rattle.lines.specs.declared.Reply.the-variants.{SetUpLine}
 use Rattle.lines.specs.Request.{fieldsOf, parsed}
 use Rattle.lines.specs.Reply.{lineFeed, replyLine}
 use Rattle.lines.proofs.Promises.{fields-fit}
@@ -27,16 +27,16 @@ use Rattle.store.specs.Tests.{failing}
 use Rattle.search.specs.declared.Sought.{Sought}
 use Rattle.search.specs.Find.{noItem, findReply, checked}
 use Rattle.search.specs.Next.{nextReply}
-use Rattle.scan.specs.Summary.{SummaryReply, summaryRefused, summaryOf}
-use Rattle.scan.specs.Range.{RangeReply, rangeRefused, rangeOf}
+use Rattle.scan.specs.Summary.{summaryRefused, summaryOf}
+use Rattle.scan.specs.Range.{rangeRefused, rangeOf}
 use Rattle.insert.specs.Enter.{enterTests, unchanged, enterOf}
 use Rattle.index.specs.Calls.{Answer, counts}
 use Rattle.index.specs.Model.{Model, listOf, fresh, enterIn}
 use Rattle.index.proofs.CallLaws.{Holding, set-up-holding, enter-step}
 use Rattle.readings.proofs.Promises.{find-reads, next-reads, summary-reads}
 use Rattle.desk.specs.Replies.{told, setUpTold, enterTold, findTold, nextTold, summaryTold, listedLines}
-use Rattle.desk.specs.Listing.{partOf, surveyed}
-use Rattle.desk.specs.Transcript.{answered, opened, largestKey, dumped, outcomeBytes, Served, ending, served, transcript}
+use Rattle.desk.specs.Listing.{partOf}
+use Rattle.desk.specs.Transcript.{answered, opened, largestKey, dumped, outcomeBytes, served, transcript}
 use Rattle.desk.specs.Clerk.{Register, unset, holding, setUpReply, afterSetUp, rangeLines, dumpLines, reckoned, reckonings}
 use Rattle.desk.specs.Clerk.{reckoning, Clerk}
 use Rattle.desk.proofs.ListingLaws.{first-refused, dump-refused}

@@ -1,22 +1,19 @@
 -- Calls of serve, one after another, put the transcript: each puts the front of what is still to be written.
 use mathlib.Core.Path.{_≡_, refl, sym, ap, _∙_}
-use mathlib.Core.Bool.{Bool, true, false}
-use mathlib.Core.List.{List, [], _∷_, _++_, append-nil}
-use Prim.Native.Nat.{ℕ, zero, suc, _≤_}
+use mathlib.Core.List.{List, [], _∷_}
+use Prim.Native.Nat.{ℕ, _≤_}
 use native.Mathlib.Decide.{ℕ-discrete}
 use native.Mathlib.Omega.{arith}
 use lib.ListN.{length, take, drop, replicate, length-take}
 use lib.Seq.{take-at}
 use borrow.Author.Tests.{eq-eqb, ne-eqb}
 use Rattle.lines.specs.declared.Reply.the-variants.{WrongLine}
-use Rattle.lines.specs.Reply.{After, replyLine, written}
+use Rattle.lines.specs.Reply.{replyLine}
 use Rattle.lines.proofs.Promises.{reply-fits}
 use Rattle.desk.specs.declared.Desk.{Desk}
 use Rattle.desk.specs.declared.Listing.{Listing}
-use Rattle.desk.specs.Listing.{carried}
 use Rattle.desk.specs.Transcript.{Served, before, ending, served, transcript}
 use Rattle.desk.specs.Serving.{lineOf, restOf, Run, over, call, finished, Delivered, EndPut}
-use Rattle.desk.proofs.ListingLaws.{none-carried}
 use Rattle.desk.proofs.LineLaws.{written-long}
 use Rattle.desk.proofs.ServeLaws.{before-twice, rest-quiet}
 

@@ -4,14 +4,13 @@
 --   surveyRest s high n p  == what the survey gives after n records, the last part among them having replied p
 use mathlib.Core.Path.{_≡_, refl, sym, ap, _∙_, subst}
 use mathlib.Core.Bool.{Bool, true, false, false≢true}
-use mathlib.Core.List.{List, [], _++_, append-nil}
+use mathlib.Core.List.{List, [], _++_}
 use Prim.Native.Nat.{ℕ, zero, suc, _+_, _-_, _*_, _/_, _≤_, _<_}
 use native.Mathlib.Decide.{ℕ-discrete}
 use native.Mathlib.Omega.{arith}
-use native.Mathlib.Nat.{add-assoc}
 use lib.Dec.{eqb}
-use lib.ListN.{length, drop, replicate, length-replicate}
-use borrow.Author.Tests.{eq-eqb, ne-eqb, eqb-true, eqb-false}
+use lib.ListN.{length, replicate}
+use borrow.Author.Tests.{eq-eqb, ne-eqb, eqb-false}
 use Rattle.lists.proofs.Cases.{by-cases}
 use Rattle.lines.specs.declared.Reply.{Reply}
 use Rattle.lines.specs.declared.Reply.the-variants.{Refused, SetUpLine}
@@ -19,12 +18,11 @@ use Rattle.store.specs.declared.Format.the-variants.{Plots}
 use Rattle.store.specs.declared.Head.{Head}
 use Rattle.store.specs.Format.{words}
 use Rattle.store.specs.Head.{headOf}
-use Rattle.page.specs.Page.{flat}
-use Rattle.scan.specs.Range.{RangeReply, After, ranged, rangeRefused, rangeOf}
+use Rattle.scan.specs.Range.{RangeReply, rangeRefused, rangeOf}
 use Rattle.scan.proofs.Promises.{range-rule, range-more, range-onward}
 use Rattle.desk.specs.declared.Survey.{Survey}
 use Rattle.desk.specs.declared.Listing.{Listing}
-use Rattle.desk.specs.Listing.{partRecords, partOf, partItems, counted, surveyOf, surveyFrom, surveyed, noListing, listingAfter}
+use Rattle.desk.specs.Listing.{partRecords, partOf, counted, surveyOf, surveyFrom, surveyed, noListing, listingAfter}
 use Rattle.desk.specs.declared.Outcome.the-variants.{Line, Parts, Register}
 use Rattle.desk.specs.Listing.{partLines, carriedFrom, carried}
 use Rattle.desk.specs.Transcript.{listing, opened, largestKey, dumped}

@@ -2,15 +2,14 @@
 use mathlib.Core.Path.{_≡_, refl, sym, ap, _∙_, subst}
 use mathlib.Core.Bool.{Bool, true, false, _&&_}
 use mathlib.Core.List.{List, [], _∷_, _++_, append-assoc, append-nil}
-use Prim.Native.Nat.{ℕ, zero, suc, _+_, _-_, _*_, _/_, _^_, _≤_, _<_}
-use native.Mathlib.Decide.{decLe}
+use Prim.Native.Nat.{ℕ, zero, suc, _+_, _-_, _*_, _^_, _≤_, _<_}
 use native.Mathlib.Omega.{arith}
-use lib.Dec.{leb, ltb}
+use lib.Dec.{leb}
 use lib.ListN.{length, take, drop, replicate, length-append, length-take, length-drop}
 use lib.ListN.{take-append-drop}
 use lib.Seq.{take-all}
 use borrow.Author.Tests.{le-leb, lt-leb, leb-true, le-ltb, lt-ltb}
-use Rattle.lists.specs.Lists.{All, filter}
+use Rattle.lists.specs.Lists.{All}
 use Rattle.lists.specs.Keyed.{Sorted}
 use Rattle.lists.proofs.Cases.{by-cases}
 use Rattle.lists.proofs.ListLaws.{length-filter, all-map, all-filter-to, filter-true, filter-false}
@@ -18,15 +17,15 @@ use Rattle.lists.proofs.AppendLaws.{filter-every, filter-same}
 use Rattle.lists.proofs.Tests.{and-true}
 use Rattle.store.specs.declared.Format.the-variants.{Plots}
 use Rattle.store.specs.declared.Item.{Item}
-use Rattle.store.specs.Format.{width, words}
+use Rattle.store.specs.Format.{width}
 use Rattle.store.specs.Head.{headOf}
 use Rattle.page.specs.Page.{lawfulItem}
 use Rattle.page.specs.Schema.{keyOf}
 use Rattle.page.proofs.Laws.{lawful-key}
 use Rattle.represent.specs.Rep.{Holds}
-use Rattle.scan.specs.Range.{RangeReply, rangeRefused, Ranged, After, ranged, listed, rangeOf}
+use Rattle.scan.specs.Range.{RangeReply, rangeRefused, Ranged, After, ranged, listed}
 use Rattle.readings.specs.Listing.{firstKey, within, rangedIn, rangeIn}
-use Rattle.readings.proofs.ListingLaws.{within-sorted, within-all}
+use Rattle.readings.proofs.ListingLaws.{within-all}
 use Rattle.readings.proofs.Promises.{range-reads, ranged-reads}
 use Rattle.lines.specs.declared.Reply.the-variants.{RangeEnd, Refused, SetUpLine}
 use Rattle.lines.specs.Reply.{replyLine}

@@ -1,12 +1,12 @@
 -- One part of a listing: the words that range wrote are its records, and the lines are theirs.
-use mathlib.Core.Path.{_≡_, refl, sym, ap, _∙_, subst}
+use mathlib.Core.Path.{_≡_, refl, sym, ap, _∙_}
 use mathlib.Core.Bool.{Bool, true}
 use mathlib.Core.List.{List, [], _∷_, _++_, append-nil}
-use Prim.Native.Nat.{ℕ, zero, suc, _+_, _*_, _/_, _%_, _^_, _≤_, _<_}
+use Prim.Native.Nat.{ℕ, suc, _+_, _*_, _/_, _^_, _≤_, _<_}
 use native.Mathlib.Nat.{mod-eq-of-lt}
 use native.Mathlib.Decide.{ℕ-discrete}
 use native.Mathlib.Omega.{arith}
-use lib.ListN.{length, getD, drop, replicate, length-append}
+use lib.ListN.{length, getD, replicate, length-append}
 use borrow.Author.Tests.{eq-eqb, ne-eqb}
 use Rattle.lists.specs.Lists.{All, tab}
 use Rattle.lists.proofs.ListLaws.{all-map}
@@ -24,7 +24,7 @@ use Rattle.desk.specs.declared.Listing.{Listing}
 use Rattle.desk.specs.Replies.{listedLines}
 use Rattle.desk.specs.Listing.{partRecords, partOf, partItems, itemFrom, itemsOf, noListing, kindListed, lastLine, partEnd}
 use Rattle.desk.specs.Listing.{partLines, listingAfter}
-use Rattle.desk.proofs.ListingLaws.{PartFacts, part-room, part-facts, piece-facts, after-last, after-more}
+use Rattle.desk.proofs.ListingLaws.{part-room, part-facts, piece-facts, after-last, after-more}
 use Rattle.desk.proofs.LineLaws.{lines-bounds}
 
 -- the words of records, read as records

@@ -5,23 +5,20 @@
 --   Kept z S t        == the store t holds S and has the sizes z
 --   Gives z replies S a == what was served is the replies, and the words after it are such a store
 use mathlib.Core.Path.{_≡_, refl, sym, ap, _∙_, subst}
-use mathlib.Core.Bool.{true, not, _&&_}
+use mathlib.Core.Bool.{true}
 use mathlib.Core.List.{List, [], _∷_, _++_, append-assoc, append-nil}
 use mathlib.Core.List.{Sublistᴰ·cons-cons, Sublistᴰ·refl, Sublistᴰ·nil-sublist, Sublistᴰ·append}
 use mathlib.Core.Logic.{inl, inr}
 use Prim.Native.Nat.{ℕ, _^_, _≤_, _<_}
 use native.Mathlib.Omega.{arith}
-use lib.Dec.{eqb}
 use lib.ListN.{length, replicate, length-replicate}
-use borrow.Author.Tests.{ne-eqb, le-leb, ltb-true}
+use borrow.Author.Tests.{ne-eqb, le-leb}
 use Rattle.lists.specs.Lists.{All}
 use Rattle.lists.specs.Keyed.{Sorted, insert}
 use Rattle.lists.proofs.ListLaws.{all-map}
 use Rattle.lists.proofs.AppendLaws.{pairwise-before}
 use Rattle.lists.proofs.KeyedLaws.{insert-ge, lacks-contains}
-use Rattle.lists.proofs.Tests.{and-true}
-use Rattle.plot.specs.Plot.{isWord, lawfulTerm, lawful}
-use Rattle.plot.proofs.Promises.{term-limits}
+use Rattle.plot.proofs.Promises.{lawful-record}
 use Rattle.tree.specs.Book.{Schema, Sizes, levelsOf, nodesOf, pagesOf, fits, entered}
 use Rattle.tree.proofs.BookLaws.{fits-sublist, accepted-by, entered-yes}
 use Rattle.store.specs.declared.Format.the-variants.{Plots}
@@ -29,7 +26,7 @@ use Rattle.store.specs.declared.Item.{Item}
 use Rattle.store.specs.Head.{headOf, lawfulSizes, size}
 use Rattle.store.specs.SetUp.{setUp}
 use Rattle.store.proofs.HeadLaws.{sizes-limits}
-use Rattle.page.specs.Page.{lawfulItem}
+use Rattle.page.specs.Page.{plotOf, lawfulItem}
 use Rattle.page.specs.Schema.{keyOf, schemaOf}
 use Rattle.represent.specs.Rep.{Holds}
 use Rattle.represent.proofs.HeadPasses.{counts-are-the-trees}
@@ -74,17 +71,12 @@ served-request s line rest r f e =
 -- a lawful record is four 32-bit numbers
 item-words : (it : Item) → lawfulItem Plots it ≡ true
     → All (λ n. n < 2 ^ 32) (fieldsOf (Enter (it .key) (it .price) (it .lease) (it .last)))
-unfolding lawfulItem lawful isWord
+unfolding lawfulItem
 item-words it e =
-    let term = lawfulTerm (it .lease) (it .last) in
-    let a = and-true (isWord (it .key)) (not (eqb (it .key) 0) && (isWord (it .price) && term)) e in
-    let b = and-true (not (eqb (it .key) 0)) (isWord (it .price) && term) (a .1) in
-    let c = and-true (isWord (it .price)) term (b .1) in
-    let k = ltb-true (it .key) (2 ^ 32) (a .0) in
-    let p = ltb-true (it .price) (2 ^ 32) (c .0) in
-    elim (term-limits (it .lease) (it .last) .0 (c .1)) [
-      | inl t ↦ (k, (p, (omega (arith, t .0), (omega (arith, t .1), tt))))
-      | inr t ↦ (k, (p, (omega (arith, t .1), (omega (arith, t .2), tt))))
+    let l = lawful-record (plotOf it) .0 e in
+    elim (l .3) [
+      | inl t ↦ (l .0, (l .2, (omega (arith, t .0), (omega (arith, t .1), tt))))
+      | inr t ↦ (l .0, (l .2, (omega (arith, t .1), (omega (arith, t .2), tt))))
     ]
 
 -- a record above all others comes last

@@ -20,18 +20,16 @@ use Rattle.tree.specs.Book.{entered}
 use Rattle.lines.specs.declared.Request.{Request}
 use Rattle.lines.specs.declared.Request.the-variants.{SetUp, Enter, Find, Next, Range, Summary, Dump, Wrong}
 use Rattle.lines.specs.declared.Reply.the-variants.{RangeEnd, Refused, SetUpLine, WrongLine}
-use Rattle.lines.specs.Request.{parsed, kindOf}
+use Rattle.lines.specs.Request.{parsed}
 use Rattle.lines.specs.Reply.{lineFeed, replyLine}
 use Rattle.store.specs.declared.Format.the-variants.{Plots}
 use Rattle.store.specs.declared.Item.{Item}
 use Rattle.store.specs.Head.{headOf, lawfulSizes, size}
-use Rattle.store.specs.SetUp.{}
 use Rattle.page.specs.Schema.{schemaOf}
 use Rattle.represent.specs.Rep.{Holds}
 use Rattle.scan.specs.Range.{ranged}
 use Rattle.readings.specs.Listing.{within, findIn, nextIn, summaryIn}
 use Rattle.index.specs.Model.{Model, listOf, fresh, enterIn}
-use Rattle.desk.specs.declared.Outcome.the-variants.{Parts}
 use Rattle.desk.specs.Replies.{setUpTold, enterTold, findTold, nextTold, summaryTold, listedLines}
 use Rattle.desk.specs.Transcript.{opened, outcomeBytes, ending, transcript}
 

@@ -18,7 +18,7 @@ use Rattle.store.specs.Head.{size}
 use Rattle.page.specs.Schema.{schemaOf}
 use Rattle.represent.specs.Rep.{Holds}
 use Rattle.insert.specs.Promises.{sizesIn}
-use Rattle.desk.specs.Transcript.{answered, outcomeBytes, Served, served}
+use Rattle.desk.specs.Transcript.{answered, outcomeBytes, served}
 
 abbrev pub dump : List ℕ → List ℕ
 dump s = outcomeBytes s (answered s Dump .outcome)

@@ -7,11 +7,11 @@ use Rattle.lists.proofs.Cases.{by-cases}
 use Rattle.plot.specs.declared.Label.{Label}
 use Rattle.plot.specs.Plot.{lawfulDay, lawfulTerm}
 use Rattle.plot.specs.Money.{Reply, amount, balanceReply}
-use Rattle.plot.specs.Label.{pack, sectionOf, rowOf, placeOf, letterOf, hasLabel, keyOfReply, LabelReply, labelOfReply, convertReply}
+use Rattle.plot.specs.Label.{pack, sectionOf, rowOf, placeOf, letterOf, hasLabel, keyOfReply, LabelReply, labelOfReply}
 use Rattle.plot.specs.Promises.{InTerm}
 use Rattle.plot.proofs.Laws.{day-limit, limit-day, amount-perpetual}
 use Rattle.plot.proofs.Laws.{term-refused, today-refused, balance-given, label-limits, key-refused, key-given, key-limits, label-given}
-use Rattle.plot.proofs.Laws.{key-lawful, convert-limits, convert-refused, convert-given}
+use Rattle.plot.proofs.Laws.{key-lawful, convert-refused, convert-given}
 use Rattle.plot.proofs.Promises.{term-limits, balance-exact, label-key-label, key-label-key, label-order, converted, converted-in-order}
 use Rattle.index.specs.Demands.{BalanceAnswered, KeyAnswered, LabelAnswered, BothWays, ConvertAnswered, Demand4}
 
@@ -82,7 +82,7 @@ converted-answered : (k : ℕ) → ConvertAnswered k
 converted-answered k =
     record {
       refused = λ h. sym (convert-refused k h);
-      done = λ h. sym (convert-given k (h .0) (h .1) (h .2) refl);
+      done = λ h. sym (convert-given k h refl);
     }
 
 pub demand-4 : Demand4

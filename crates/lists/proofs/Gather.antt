@@ -1,10 +1,10 @@
 -- Bits gathered by "or": what the gathered bits say of each number. And "exclusive or": it is 0 just where two numbers are equal.
-use mathlib.Core.Path.{_≡_, refl, sym, ap, _∙_}
-use mathlib.Core.Bool.{true, _&&_}
-use Prim.Native.Nat.{ℕ, _+_, _*_, _^_, _≤_, _<_}
+use mathlib.Core.Path.{_≡_}
+use mathlib.Core.Bool.{_&&_}
+use Prim.Native.Nat.{ℕ, _^_, _≤_, _<_}
 use native.Mathlib.Omega.{arith}
 use lib.Dec.{ltb, eqb}
-use lib.Bits.{bitAnd, bitOr, bitXor, and-le-l, and-le-r, or-lt, or-add-and, xor-add-and}
+use lib.Bits.{bitOr, bitXor, and-le-l, and-le-r, or-lt, or-add-and, xor-add-and}
 use borrow.Author.Tests.{eqb-true, eq-eqb, ltb-true, lt-ltb}
 use Rattle.lists.proofs.Tests.{and-true, same-test}
 

@@ -1,9 +1,9 @@
 -- Powers of two and division by them.
 use mathlib.Core.Path.{_≡_, sym, ap, _∙_}
 use Prim.Native.Nat.{ℕ, suc, _+_, _-_, _*_, _/_, _%_, _^_, _≤_, _<_}
-use native.Mathlib.Nat.{pow-suc, div-div-eq-div-mul, add-sub-of-le, sub-add-cancel, mul-add-div-right, add-mod-right}
+use native.Mathlib.Nat.{pow-suc, div-div-eq-div-mul, add-sub-of-le, sub-add-cancel, mul-add-div-right}
 use native.Mathlib.Omega.{arith}
-use lib.Pow.{pow-add, pow-pos, split, low, shr-lt, ones-lt}
+use lib.Pow.{pow-add, pow-pos, split, shr-lt}
 use lib.Arith.{digits-lt}
 
 -- 2^h entries of 2^(H−h) each

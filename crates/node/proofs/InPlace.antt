@@ -12,7 +12,7 @@ use Rattle.store.specs.declared.Format.{Format}
 use Rattle.store.specs.declared.Head.{Head}
 use Rattle.store.specs.Head.{word, zeros, nodeWords, nodeStart, nodeAt, Under, InUse}
 use Rattle.store.proofs.Places.{node-word}
-use Rattle.node.specs.Node.{depthWord, levelWord, backWord, forwardWord, entryDepth, entryPointer, entryOf, linkRule}
+use Rattle.node.specs.Node.{depthWord, backWord, forwardWord, entryDepth, entryPointer, entryOf, linkRule}
 use Rattle.node.specs.Node.{pointerLow, pointerHigh, goodRuns, nodeRule}
 use Rattle.node.proofs.RunWalk.{good-ext}
 use Rattle.node.proofs.NodeLaws.{node-facts, facts-node}

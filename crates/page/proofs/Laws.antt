@@ -15,8 +15,7 @@ use Rattle.lists.specs.Lists.{every}
 use Rattle.lists.proofs.Cases.{by-cases}
 use Rattle.lists.proofs.Tests.{and-true, same-test, untrue, every-at, every-of, rising, rising-test}
 use Rattle.plot.specs.Plot.{lawfulTerm}
-use Rattle.plot.proofs.Laws.{lawful-term}
-use Rattle.plot.proofs.Promises.{lawful-record}
+use Rattle.plot.proofs.Promises.{lawful-record, term-limits}
 use Rattle.store.specs.declared.Format.{Format}
 use Rattle.store.specs.declared.Format.the-variants.{Plots}
 use Rattle.store.specs.declared.Item.{Item}
@@ -47,11 +46,11 @@ ends-agree n g r k q p first last i l =
 
 pub lawful-key : (f : Format) (it : Item) → lawfulItem f it ≡ true → (1 ≤ it .key) × (it .key < 2 ^ width f)
 unfolding lawfulItem width
-lawful-key Plots it e = let p = lawful-record (plotOf it) e in (omega (arith, p .1), p .0)
+lawful-key Plots it e = let p = lawful-record (plotOf it) .0 e in (omega (arith, p .1), p .0)
 
 pub item-term : (f : Format) (it : Item) → lawfulItem f it ≡ true → lawfulTerm (it .lease) (it .last) ≡ true
 unfolding lawfulItem
-item-term Plots it e = lawful-term (plotOf it) e
+item-term Plots it e = term-limits (it .lease) (it .last) .1 (lawful-record (plotOf it) .0 e .3)
 
 pub record Ordered (f : Format) (pg : List ℕ) (n : ℕ) : Type 0 where
   pub lawful : (i : ℕ) → i < n → lawfulItem f (itemAt f pg i) ≡ true

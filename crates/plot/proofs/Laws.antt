@@ -1,6 +1,6 @@
 -- What the functions' proofs and the promises share: bounds on products and quotients, days left and balances, and the limits of labels
 -- and keys.
-use mathlib.Core.Bool.{Bool, true, false, not, _&&_, and-false, and-eq-true-iff, not-eq-not}
+use mathlib.Core.Bool.{Bool, true, false, and-false, and-eq-true-iff, not-eq-not}
 use mathlib.Core.Path.{_≡_, sym, ap, subst⁻¹, _∙_}
 use mathlib.Core.Logic.{inl, inr}
 use Prim.Native.Nat.{ℕ, _+_, _*_, _/_, _%_, _^_, _≤_, _<_, max}
@@ -8,17 +8,16 @@ use native.Mathlib.Nat.{le-of-lt, lt-of-le-of-lt, mul-le-mul-left, mul-lt-mul-of
 use native.Mathlib.Nat.{div-le-of-le-mul, div-zero, div-mul-le-self, lt-div-mul-add, mul-add-div, mod-add-div, div-lt-iff-lt-mul}
 use native.Mathlib.Decide.{ℕ-discrete}
 use native.Mathlib.Omega.{arith}
-use lib.Dec.{leb, ltb, eqb}
+use lib.Dec.{leb, ltb}
 use lib.Pow.{pow-pos, pow-add}
 use borrow.Author.Tests.{leb-true, ltb-true, eqb-true, le-leb, lt-ltb, eq-eqb, ne-eqb}
 use Rattle.lists.proofs.Cases.{bool-cases}
-use Rattle.plot.specs.declared.Record.{Record}
 use Rattle.plot.specs.declared.Label.{Label}
-use Rattle.plot.specs.Plot.{isWord, lawfulDay, lawfulTerm, lawful}
+use Rattle.plot.specs.Plot.{lawfulDay, lawfulTerm}
 use Rattle.plot.specs.Money.{daysLeft, amount, balanceReply}
 use Rattle.plot.specs.Label.{lawfulLabel, pack, sectionOf, rowOf, placeOf, letterOf, hasLabel, keyOfReply, labelOfReply}
-use Rattle.plot.specs.Label.{oldPlaceOf, converts, convertReply}
-use Rattle.plot.specs.Promises.{InTerm, Limits}
+use Rattle.plot.specs.Label.{largestPlace, oldPlaceOf, converts, convertReply}
+use Rattle.plot.specs.Promises.{InTerm, Limits, Convertible}
 
 -- The product of two numbers of k bits has at most k + k.
 pub product-below : (k : ℕ) {a b : ℕ} → a < 2 ^ k → b < 2 ^ k → a * b < 2 ^ (k + k)
@@ -30,7 +29,7 @@ product-below k {a} {b} ha hb =
 pub share-le : (x d l : ℕ) → d ≤ l → x * d / l ≤ x
 share-le x d l h = div-le-of-le-mul l (rw (mul-comm l x) (mul-le-mul-left x h))
 
--- Below l × 2^32, where it is a number of 32 bits times at most l, and then the quotient by l has 32 bits.
+-- A number of 32 bits times at most l is below l × 2^32.
 pub share-fits : {x d l : ℕ} → x < 2 ^ 32 → d ≤ l → 1 ≤ l → x * d < l * 2 ^ 32
 share-fits {x} {d} {l} h w p =
     rw (mul-comm l (2 ^ 32)) (lt-of-le-of-lt (mul-le-mul-left x w) (mul-lt-mul-of-pos-right h p))
@@ -75,13 +74,6 @@ module _ (lease last : ℕ) where
   unfolding lawfulTerm
   facts-term (inl a) = rw (eq-eqb lease 0 (a .0), eq-eqb last 0 (a .1), lawfulTerm)
   facts-term (inr a) = rw (ne-eqb lease 0 (λ z. omega arith), le-leb lease 36525 (a .1), limit-day last (a .2), lawfulTerm)
-
-pub lawful-term : (r : Record) → lawful r ≡ true → lawfulTerm (r .lease) (r .last) ≡ true
-unfolding lawful
-lawful-term r e =
-    let a = and-eq-true-iff (isWord (r .key)) _ .0 e in
-    let b = and-eq-true-iff (not (eqb (r .key) 0)) _ .0 (a .1) in
-    and-eq-true-iff (isWord (r .price)) _ .0 (b .1) .1
 
 -- Lease days of a lawful term, with 1 for none, as a divisor of 16 binary digits.
 pub divisor-fits : (lease last : ℕ) → lawfulTerm lease last ≡ true → max lease 1 < 2 ^ 16
@@ -232,26 +224,24 @@ module _ {k : ℕ} where
 
 -- What `convert` is to reply: a refusal below 2^24 or of a place above 255, else the key with letter 0.
 module _ (k : ℕ) where
-  pub convert-limits : converts k ≡ true → (2 ^ 24 ≤ k) × (k < 2 ^ 32) × (oldPlaceOf k ≤ 255)
+  pub convert-limits : converts k ≡ true → Convertible k
   unfolding converts
   convert-limits h =
-      let a = and-eq-true-iff (hasLabel k) (leb (oldPlaceOf k) 255) .0 h in
+      let a = and-eq-true-iff (hasLabel k) (leb (oldPlaceOf k) largestPlace) .0 h in
       let b = key-limits k (a .0) in
-      (b .0, b .1, leb-true (oldPlaceOf k) 255 (a .1))
+      (b .0, b .1, leb-true (oldPlaceOf k) largestPlace (a .1))
 
-  pub convert-refused : ((2 ^ 24 ≤ k) × (k < 2 ^ 32) × (oldPlaceOf k ≤ 255) → ⊥) → record { number = 11; key = 0 } ≡ convertReply k
+  pub convert-refused : (Convertible k → ⊥) → record { number = 11; key = 0 } ≡ convertReply k
   unfolding convertReply
   convert-refused h = rw (not-eq-not {a = converts k} {b = false} .0 (λ e. h (convert-limits e)), convertReply)
 
   pub convert-given :
       {n : ℕ} →
-      2 ^ 24 ≤ k →
-      k < 2 ^ 32 →
-      oldPlaceOf k ≤ 255 →
+      Convertible k →
       n ≡ pack (sectionOf k) (rowOf k) (oldPlaceOf k) 0 →
       record { number = 0; key = n } ≡ convertReply k
   unfolding converts convertReply
-  convert-given h l p e = rw (limits-key k h l, le-leb (oldPlaceOf k) 255 p, convertReply) (rw e)
+  convert-given h e = rw (limits-key k (h .0) (h .1), le-leb (oldPlaceOf k) largestPlace (h .2), convertReply) (rw e)
 
   pub convert-key : converts k ≡ true → convertReply k .key ≡ pack (sectionOf k) (rowOf k) (oldPlaceOf k) 0
   unfolding convertReply

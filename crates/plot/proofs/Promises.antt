@@ -1,5 +1,5 @@
 -- The promises hold, by the laws on money and labels.
-use mathlib.Core.Bool.{not, _&&_, and-eq-true-iff}
+use mathlib.Core.Bool.{not, and-eq-true-iff}
 use mathlib.Core.Path.{_≡_, sym, _∙_}
 use mathlib.Core.Logic.{inl, inr}
 use Prim.Native.Nat.{ℕ, _^_, _<_}
@@ -7,8 +7,8 @@ use native.Mathlib.Decide.{decLt}
 use native.Mathlib.Nat.{mul-zero, zero-div}
 use native.Mathlib.Omega.{arith}
 use lib.Dec.{eqb}
-use borrow.Author.Tests.{ltb-true, eqb-false, not-true}
-use Rattle.plot.specs.Plot.{isWord, lawful, lawfulTerm}
+use borrow.Author.Tests.{ltb-true, lt-ltb, eqb-false, ne-eqb, not-true}
+use Rattle.plot.specs.Plot.{isWord, lawful}
 use Rattle.plot.specs.Money.{daysLeft}
 use Rattle.plot.specs.Label.{LabelReply, pack, sectionOf, rowOf, placeOf, letterOf, oldPlaceOf}
 use Rattle.plot.specs.Promises.{TermLimits, DaysWithinLease, NoneLeftAfterTheEnd, OneLeftAtTheEnd, BalanceWithinPrice, BalanceExact, LabelKeyLabel}
@@ -111,8 +111,15 @@ converted-in-order j k h i l =
 
 pub lawful-record : LawfulRecord
 unfolding lawful isWord
-lawful-record r h =
-    let rest = isWord (r .price) && lawfulTerm (r .lease) (r .last) in
-    let a = and-eq-true-iff (isWord (r .key)) (not (eqb (r .key) 0) && rest) .0 h in
-    let b = and-eq-true-iff (not (eqb (r .key) 0)) rest .0 (a .1) in
-    (ltb-true (r .key) (2 ^ 32) (a .0), eqb-false (r .key) 0 (not-true (eqb (r .key) 0) (b .0)))
+lawful-record r = (
+  λ h. let a = and-eq-true-iff (isWord (r .key)) _ .0 h in
+      let b = and-eq-true-iff (not (eqb (r .key) 0)) _ .0 (a .1) in
+      let d = and-eq-true-iff (isWord (r .price)) _ .0 (b .1) in (
+        ltb-true (r .key) (2 ^ 32) (a .0),
+        eqb-false (r .key) 0 (not-true (eqb (r .key) 0) (b .0)),
+        ltb-true (r .price) (2 ^ 32) (d .0),
+        term-facts (r .lease) (r .last) (d .1),
+      ),
+  λ h. rw
+      (lt-ltb (r .key) (2 ^ 32) (h .0), ne-eqb (r .key) 0 (h .1), lt-ltb (r .price) (2 ^ 32) (h .2), facts-term (r .lease) (r .last) (h .3)),
+)

@@ -1,4 +1,5 @@
 -- Plot labels and their keys. Document 02, M-102, for document 01's packing.
+--   largestPlace      == the largest place of a label
 --   lawfulLabel s r p l == section, row, place and letter within their limits
 --   pack s r p l      == the key of a label
 --   sectionOf, rowOf, placeOf, letterOf == the parts of a key
@@ -17,11 +18,14 @@ use Rattle.plot.specs.declared.KeyAnswer.the-variants.{Key, NoKey}
 use Rattle.plot.specs.declared.LabelAnswer.{LabelAnswer}
 use Rattle.plot.specs.declared.LabelAnswer.the-variants.{Labelled, NoLabel}
 
+abbrev pub largestPlace : ℕ
+largestPlace = 255
+
 -- "A label is section 1 to 255, row 0 to 4,095"; M-102: "A label becomes section, row, place 0 to 255, letter 0 for none or 1 to 15 for A to
 -- O"
 unfoldable pub lawfulLabel : ℕ → ℕ → ℕ → ℕ → Bool
 lawfulLabel section row place letter =
-    leb 1 section && (leb section 255 && (leb row 4095 && (leb place 255 && leb letter 15)))
+    leb 1 section && (leb section 255 && (leb row 4095 && (leb place largestPlace && leb letter 15)))
 
 -- M-102: "and its key section × 2^24 + row × 2^12 + place × 16 + letter."
 unfoldable pub pack : ℕ → ℕ → ℕ → ℕ → ℕ
@@ -84,7 +88,7 @@ oldPlaceOf k = k % 2 ^ 12
 -- M-102: "a conversion gives the new key of an old one whose place is at most 255, as letter 0, and refuses others, those below 2^24
 -- included, with 11."
 unfoldable pub converts : ℕ → Bool
-converts k = hasLabel k && leb (oldPlaceOf k) 255
+converts k = hasLabel k && leb (oldPlaceOf k) largestPlace
 
 unfoldable pub convertReply : ℕ → KeyReply
 convertReply k =

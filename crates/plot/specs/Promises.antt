@@ -12,9 +12,11 @@
 --   KeyLabelKey        == the label of a key has that key again
 --   Before x y         == the label x comes before the label y: by section, then row, then place, then letter
 --   LabelOrder         == the order of labels is the order of their keys
+--   Convertible k      == what a key of the old packing needs to convert, said with numbers
 --   Converted          == a key that converts has the old section, row and place, and no letter
 --   ConvertedInOrder   == of two keys that convert, the lower converts to the lower
---   LawfulRecord       == the key of a record that may be held is a 32-bit number and not 0
+--   InLimits r         == a record within its limits, said with numbers
+--   LawfulRecord       == `lawful` tests just these
 use mathlib.Core.Bool.{true}
 use mathlib.Core.Path.{_≡_}
 use mathlib.Core.Logic.{_⊎_}
@@ -98,6 +100,10 @@ LabelOrder =
     keyOfReply y .number ≡ 0 →
     (Before x y → keyOfReply x .key < keyOfReply y .key) × (keyOfReply x .key < keyOfReply y .key → Before x y)
 
+-- M-102: "an old one whose place is at most 255"; "those below 2^24" are refused
+abbrev pub Convertible : ℕ → Type 0
+Convertible k = (2 ^ 24 ≤ k) × (k < 2 ^ 32) × (oldPlaceOf k ≤ 255)
+
 -- M-102: "gives the new key of an old one whose place is at most 255, as letter 0"
 abbrev pub Converted : Type 0
 Converted =
@@ -110,5 +116,8 @@ abbrev pub ConvertedInOrder : Type 0
 ConvertedInOrder = (j k : ℕ) → converts j ≡ true → converts k ≡ true → j < k → convertReply j .key < convertReply k .key
 
 -- "A record is four 32-bit unsigned words", "Key 0 is never held."
+abbrev pub InLimits : Record → Type 0
+InLimits r = (r .key < 2 ^ 32) × (r .key ≡ 0 → ⊥) × (r .price < 2 ^ 32) × InTerm (r .lease) (r .last)
+
 abbrev pub LawfulRecord : Type 0
-LawfulRecord = (r : Record) → lawful r ≡ true → (r .key < 2 ^ 32) × (r .key ≡ 0 → ⊥)
+LawfulRecord = (r : Record) → (lawful r ≡ true → InLimits r) × (InLimits r → lawful r ≡ true)

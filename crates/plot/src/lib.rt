@@ -4,7 +4,7 @@ ghost use Prim.Native.Nat.{_*_, _/_, _<_, _≤_, _^_, max};
 ghost use mathlib.Core.Bool.{true};
 ghost use Rattle.plot.specs.Plot.{lawfulDay, lawfulTerm, lawful};
 ghost use Rattle.plot.specs.Money.{daysLeft, amount, reply, balanceReply};
-ghost use Rattle.plot.specs.Label.{lawfulLabel, keyReply, keyOfReply, labelReply, labelOfReply, convertReply};
+ghost use Rattle.plot.specs.Label.{keyReply, keyOfReply, labelReply, labelOfReply, convertReply};
 
 // What is held of a plot: its key, the price in pence, the lease days (0: perpetual) and the last day.
 pub struct Record {
@@ -76,7 +76,7 @@ fn days_left(lease: u32, last: u32, today: u32) -> u32
 }
 
 // The product of two 32-bit numbers, with nothing lost.
-fn wide_product(a: u32, b: u32) -> u64
+pub fn wide_product(a: u32, b: u32) -> u64
     ensures { λ r. ⌜ r ≡ a * b ⌝ }
 {
     (a as u64) * (b as u64)

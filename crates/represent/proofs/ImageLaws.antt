@@ -7,13 +7,12 @@ use Prim.Native.Nat.{ℕ, zero, suc, _+_, _-_, _*_, _^_, _≤_, _<_}
 use native.Mathlib.Omega.{arith}
 use lib.Dec.{eqb}
 use lib.Pow.{pow-mono}
-use lib.ListN.{length, getD, drop, replicate}
-use lib.Seq.{getD-take, getD-drop}
+use lib.ListN.{length, getD, replicate}
 use borrow.Author.Tests.{eq-eqb}
 use Rattle.lists.specs.Lists.{part}
 use Rattle.lists.specs.Bits.{bits}
 use Rattle.lists.proofs.BitLaws.{index-own}
-use Rattle.lists.proofs.Parts.{part-in, getD-past}
+use Rattle.lists.proofs.Parts.{getD-past}
 use Rattle.lists.proofs.Tests.{every-of}
 use Rattle.tree.specs.Trie.{Trie, height}
 use Rattle.tree.specs.Node.{Entry, flatten}

@@ -2,7 +2,7 @@
 use store::Item;
 ghost use mathlib.Core.Path.{_≡_};
 ghost use mathlib.Core.Bool.{true};
-ghost use Prim.Native.Nat.{_+_, _<_, _≤_, _^_};
+ghost use Prim.Native.Nat.{_+_, _<_, _^_};
 ghost use Rattle.plot.specs.Plot.{lawfulDay, lawfulTerm};
 ghost use Rattle.totals.specs.Totals.{Room, noTotals, worth, ahead, earlier, updatedOf};
 

@@ -1,7 +1,7 @@
 -- The book's records stay ascending, and they are those accepted, in whatever order they came. A set that fits is accepted in every order:
 -- what the book holds on the way is a sublist of what it holds at the end, and a tree never shrinks.
 use mathlib.Core.Path.{_≡_, refl, sym, ap, _∙_, subst}
-use mathlib.Core.Bool.{Bool, true, false, not, _&&_, _||_, true≢false}
+use mathlib.Core.Bool.{true, false, not, _&&_, true≢false}
 use mathlib.Core.List.{List, [], _∷_, Sublistᴰ, List·Permᴰ}
 use mathlib.Core.Logic.{inl, inr}
 use Prim.Native.Nat.{ℕ, _≤_}
@@ -11,17 +11,13 @@ use borrow.Author.Tests.{le-leb, leb-true, eq-eqb, not-true}
 use Rattle.lists.specs.Lists.{All}
 use Rattle.lists.specs.Keyed.{Sorted, Distinct, Lacks, contains, insert, ascending}
 use Rattle.lists.proofs.Cases.{bool-cases}
-use Rattle.lists.proofs.Tests.{and-true}
+use Rattle.lists.proofs.Tests.{and-true, or-holds}
 use Rattle.lists.proofs.ListLaws.{all-map, all-both, all-perm}
 use Rattle.lists.proofs.KeyedLaws.{all-insert, sorted-insert, contains-false, lacks-contains, contains-insert, insertAll}
 use Rattle.lists.proofs.KeyedLaws.{sublist-insertAll, insertAll-ascending, distinct-perm, ascending-perm}
 use Rattle.tree.specs.Trie.{shape}
 use Rattle.tree.specs.Book.{Schema, Sizes, Entered, tree, levelsOf, nodesOf, pagesOf, fits, entered, book, accepts, accepted}
 use Rattle.tree.proofs.Growth.{within-tower, within-build, sublist-pages}
-
-or-true : (a b : Bool) → b ≡ true → (a || b) ≡ true
-or-true true b e = refl
-or-true false b e = e
 
 module _ {R : Type 0} (F : Schema R) (p : Sizes) where
   -- a tree fits if it has no more nodes and pages than one that does
@@ -138,7 +134,7 @@ module _ {R : Type 0} (F : Schema R) (p : Sizes) where
             rw (book-yes S r rs e .1) (
               λ q. true≢false (sym c ∙ ap (λ (j : ℕ). contains (F .key) j S) (sym q) ∙ accepts-is S r e .new),
               accepted-lacks k (insert (F .key) r S) rs (contains-insert (F .key) k r S
-                  ∙ or-true (eqb (F .key r) k) (contains (F .key) k S) c),
+                  ∙ or-holds (eqb (F .key r) k) (contains (F .key) k S) (inr c)),
             )
         | inr e ↦ rw (book-no S r rs e .1) (accepted-lacks k S rs c)
       ]

@@ -99,4 +99,4 @@ module _ {R : Type 0} (F : Schema R) (p : Sizes) where
 
 -- lawful plots have 32-bit keys
 pub plot-narrow : Narrow plotSchema
-plot-narrow r e = lawful-record r e .0
+plot-narrow r e = lawful-record r .0 e .0

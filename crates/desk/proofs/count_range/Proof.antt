@@ -1,7 +1,7 @@
 -- After each call, the survey is the records counted so far with what the calls from the first key not written on give.
 use borrow.Author.Needs.{needs}
-use mathlib.Core.Path.{_≡_, sym, ap, _∙_, subst}
-use Prim.Native.Nat.{ℕ, _+_, _-_, _≤_, _<_}
+use mathlib.Core.Path.{_≡_, sym, ap, _∙_}
+use Prim.Native.Nat.{_-_, _≤_, _<_}
 use native.Mathlib.Omega.{arith}
 use Rattle.scan.specs.Range.{RangeReply}
 use Rattle.desk.specs.Listing.{pieceReply, surveyed}

@@ -1,5 +1,4 @@
 -- Nothing is held.
-use borrow.Author.Needs.{needs}
 use mathlib.Core.Path.{refl}
 use Rattle.desk.specs.Serving.{lineOf}
 use Rattle.desk.proofs.fresh.Statement.{statement}

@@ -1,5 +1,4 @@
 -- Each way out is one case of the test.
-use borrow.Author.Needs.{needs}
 use Rattle.desk.proofs.ServeLaws.{no-room, listing-goes, input-goes}
 use Rattle.desk.proofs.goes_on.Statement.{statement}
 use Rattle.desk.proofs.goes_on.Tie as tie

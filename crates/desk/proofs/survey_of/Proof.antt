@@ -1,6 +1,4 @@
 -- Refused or not.
-use borrow.Author.Needs.{needs}
-use mathlib.Core.Path.{refl}
 use borrow.Author.Tests.{ne-eqb, eq-eqb}
 use Rattle.desk.specs.Listing.{surveyOf}
 use Rattle.desk.proofs.survey_of.Statement.{statement}

@@ -1,6 +1,6 @@
 -- The line so far is gathered; it is answered where it ends.
 use borrow.Author.Needs.{needs}
-use mathlib.Core.Path.{_≡_, refl, sym, ap, _∙_}
+use mathlib.Core.Path.{sym}
 use native.Mathlib.Omega.{arith}
 use lib.Seq.{length-take-le}
 use Rattle.desk.proofs.ServeLaws.{serves-gathered, serves-answered, line-gets-on}

@@ -1,12 +1,12 @@
 -- The lines so far are those of the first records.
 use borrow.Author.Needs.{needs}
 use mathlib.Core.Path.{_≡_, refl, sym, ap, _∙_}
-use mathlib.Core.List.{List, [], _++_}
-use Prim.Native.Nat.{ℕ, _+_, _-_, _*_, _≤_, _<_}
+use mathlib.Core.List.{List, _++_}
+use Prim.Native.Nat.{ℕ, _+_, _-_, _*_, _≤_}
 use native.Mathlib.Omega.{arith}
-use lib.ListN.{length, take, drop}
+use lib.ListN.{length, drop}
 use Rattle.desk.specs.Replies.{listedLines}
-use Rattle.desk.specs.Listing.{itemFrom, itemsOf}
+use Rattle.desk.specs.Listing.{itemsOf}
 use Rattle.desk.proofs.LineLaws.{items-most, lines-more, lines-start, length-front, written-small}
 use Rattle.desk.proofs.write_records.Statement.{statement}
 use Rattle.desk.proofs.write_records.Tie as tie

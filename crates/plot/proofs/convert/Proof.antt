@@ -16,7 +16,7 @@ returns-2 c = convert-refused _ (λ h. omega (arith, h .2))
 
 returns-3 : tie.Need-returns-3
 unfolding pack sectionOf rowOf oldPlaceOf
-returns-3 c = convert-given _ (omega arith) (omega arith) (omega arith) (omega arith)
+returns-3 c = convert-given _ (omega arith, omega arith, omega arith) (omega arith)
 
 pub convert-spec : {M : Type 1} → statement M
 convert-spec = tie.close (tie.spec returns returns-2 (λ c. search needs) (λ c. search needs) (λ c. search needs) returns-3)

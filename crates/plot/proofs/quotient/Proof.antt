@@ -1,7 +1,7 @@
 -- `plot::quotient` meets its contract: what is left of the high digits is below the divisor, so with the low digits it has at most 32, and
 -- the two quotients together are the whole one.
 use borrow.Author.Needs.{needs}
-use Prim.Native.Nat.{_+_, _*_, _/_, _%_, _<_, _^_}
+use Prim.Native.Nat.{_/_, _%_, _<_, _^_}
 use native.Mathlib.Nat.{mod-lt}
 use native.Mathlib.Omega.{arith}
 use Rattle.plot.proofs.Laws.{two-steps, quotient-below}
