@@ -1,6 +1,5 @@
 // Groups of trials on sound stores: random sets against a plain sorted list, and orders of entry. With them the tree of a set counted by its
-// definition, and two stores compared as trees.
+// definition.
 pub mod orders; // group 3
 pub mod sets; // group 2
 pub mod stretches; // the tree of a set, counted by its definition
-pub mod walk; // two stores compared as trees

@@ -1,12 +1,12 @@
 // Group 3: a set entered in several orders gives the same listing and, block numbers apart, the same tree.
 use crate::sets;
 use crate::sets::Setting;
-use crate::walk;
 use harness::calls;
 use harness::model;
 use harness::report;
-use harness::words;
 use plot::Record;
+use raw::twins;
+use raw::words;
 use store::widen;
 
 // θ, C, N, P, pattern, records.
@@ -55,7 +55,7 @@ fn record_in(list: &[u32], drawn: &[u32], order: u32, i: u32) -> Record {
         0 => model::record_at(list, i),
         1 => model::record_at(list, words::difference(n, words::sum(i, 1))),
         2 => model::record_at(drawn, i),
-        _ => model::record_at(list, words::remainder(words::product(i, 7919), n)),
+        _ => model::record_at(list, words::remainder(plot::wide_product(i, 7919), n)),
     }
 }
 
@@ -99,7 +99,7 @@ fn compare(first: &[u32], store: &mut [u32], list: &[u32], tally: &mut [u64]) {
     sets::parts(store, list, 1023, tally);
     report::hold(
         tally,
-        walk::same_tree(first, store),
+        twins::same_tree(first, store),
         b"the trees are the same",
     );
 }

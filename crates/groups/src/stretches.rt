@@ -1,7 +1,7 @@
 // The tree of a set, counted as document 01 defines it. A row of stretches: the count, then for each its first key and its
 // prefix length; level 0 is made of the sorted list, each higher level of the one below.
-use harness::words;
-use harness::words::put;
+use raw::words;
+use raw::words::put;
 use store::to_index;
 use store::widen;
 use store::word;

@@ -1,6 +1,4 @@
 // A call of any public operation, and its reply, as plain numbers.
-use crate::blocks;
-use crate::words;
 use index::EnterAnswer;
 use index::FindAnswer;
 use index::RangeAnswer;
@@ -10,6 +8,8 @@ use plot::KeyAnswer;
 use plot::Label;
 use plot::LabelAnswer;
 use plot::Record;
+use raw::blocks;
+use raw::words;
 use store::SetUpAnswer;
 use store::widen;
 use store::word;

@@ -1,8 +1,6 @@
 // What trials of the plot index stand on: calls and replies as plain numbers, a plain sorted list to compare with, and printing.
-pub mod blocks; // where the blocks of a store stand
 pub mod calls; // a call of any operation, and its reply, as plain numbers
 pub mod model; // the plain sorted list
 pub mod random; // numbers that look random
 pub mod report; // counting and printing
 pub mod script; // tables of calls and replies
-pub mod words; // lent words, read and written at any place

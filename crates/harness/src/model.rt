@@ -2,9 +2,9 @@
 use crate::calls;
 use crate::calls::Call;
 use crate::calls::Reply;
-use crate::words;
-use crate::words::put;
 use plot::Record;
+use raw::words;
+use raw::words::put;
 use store::to_index;
 use store::widen;
 use store::word;
@@ -154,7 +154,7 @@ pub fn balance(record: Record, today: u32) -> u64 {
     if days == 0 {
         return 0;
     }
-    words::product(record.price, days_left(record, today)) / days
+    plot::wide_product(record.price, days_left(record, today)) / days
 }
 
 fn find(list: &[u32], key: u32) -> Reply {

@@ -3,7 +3,7 @@ use crate::calls;
 use crate::calls::Call;
 use crate::calls::Reply;
 use crate::report;
-use crate::words;
+use raw::words;
 use store::to_index;
 use store::widen;
 

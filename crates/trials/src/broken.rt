@@ -1,11 +1,11 @@
 // Group 5: a sound store broken in one rule at a time, and the answer of every operation.
-use harness::blocks;
 use harness::calls;
 use harness::calls::Call;
 use harness::calls::Reply;
 use harness::report;
 use harness::script;
-use harness::words;
+use raw::blocks;
+use raw::words;
 use store::to_index;
 
 const SIZE: usize = 184;
@@ -21,10 +21,9 @@ const BUILD: [[u32; 10]; 6] = [
     [1, 3221225472, 100, 10, 50, 0, 3221225472, 2, 3, 3],
 ];
 
-// A word (kind of block: 1 head, 2 node, 3 page; number; offset) and its value; a key, and the answers of find, next, range and summary
-// from the key on, and enter. A row with key 0 goes with the next one.
-const RULES: [[u32; 10]; 99] = [
-    // The head.
+// The tables of rules. A row has a word (kind of block: 1 head, 2 node, 3 page; number; offset) and its value; a key, and the answers of
+// find, next, range and summary from the key on, and enter. A row with key 0 goes with the next one.
+const HEAD: [[u32; 10]; 28] = [
     [1, 0, 0, 0, 1, 3, 3, 3, 3, 3],
     [1, 0, 0, 7, 1, 3, 3, 3, 3, 3],
     [1, 0, 1, 0, 1, 3, 3, 3, 3, 3],
@@ -54,6 +53,9 @@ const RULES: [[u32; 10]; 99] = [
     [1, 0, 0, 2, 1, 0, 0, 0, 0, 8],
     [1, 0, 0, 2, 536870912, 0, 0, 0, 0, 8],
     [1, 0, 0, 2, 3221225472, 0, 1, 0, 0, 8],
+];
+
+const NODES: [[u32; 10]; 35] = [
     // H above θ; level; links out of range.
     [2, 1, 0, 3, 1, 9, 9, 9, 9, 9],
     [2, 1, 1, 0, 1, 9, 9, 9, 9, 9],
@@ -96,6 +98,9 @@ const RULES: [[u32; 10]; 99] = [
     [1, 0, 7, 3, 0, 0, 0, 0, 0, 0],
     [2, 3, 1, 3, 1, 9, 9, 9, 9, 9],
     [1, 0, 6, 1, 1, 9, 9, 9, 9, 9],
+];
+
+const PAGES: [[u32; 10]; 18] = [
     // Count.
     [3, 1, 0, 0, 1, 9, 9, 9, 9, 9],
     [3, 1, 0, 3, 1, 9, 9, 9, 9, 9],
@@ -120,6 +125,10 @@ const RULES: [[u32; 10]; 99] = [
     [3, 3, 0, 0, 1, 0, 0, 9, 9, 8],
     [3, 3, 0, 0, 536870912, 0, 9, 9, 9, 8],
     [3, 1, 0, 0, 2147483648, 0, 0, 0, 0, 8],
+];
+
+// Links, and nodes that are all null.
+const LINKS: [[u32; 10]; 18] = [
     // Node 2 does not link back: met through the link, not by a descent.
     [2, 2, 2, 3, 536870912, 0, 9, 9, 9, 9],
     [2, 2, 2, 0, 536870912, 0, 9, 9, 9, 9],
@@ -208,8 +217,23 @@ fn break_rows(sound: &[u32], store: &mut [u32], rows: &[[u32; 10]], tally: &mut 
     }
 }
 
-fn break_rules(sound: &[u32], store: &mut [u32], tally: &mut [u64]) {
-    let rows = RULES;
+fn break_head(sound: &[u32], store: &mut [u32], tally: &mut [u64]) {
+    let rows = HEAD;
+    break_rows(sound, store, &rows, tally);
+}
+
+fn break_nodes(sound: &[u32], store: &mut [u32], tally: &mut [u64]) {
+    let rows = NODES;
+    break_rows(sound, store, &rows, tally);
+}
+
+fn break_pages(sound: &[u32], store: &mut [u32], tally: &mut [u64]) {
+    let rows = PAGES;
+    break_rows(sound, store, &rows, tally);
+}
+
+fn break_links(sound: &[u32], store: &mut [u32], tally: &mut [u64]) {
+    let rows = LINKS;
     break_rows(sound, store, &rows, tally);
 }
 
@@ -272,7 +296,10 @@ fn tables(sound: &mut [u32], store: &mut [u32], tally: &mut [u64]) {
     let build = BUILD;
     script::play(&build, store, tally);
     words::copy(store, sound, SIZE);
-    break_rules(sound, store, tally);
+    break_head(sound, store, tally);
+    break_nodes(sound, store, tally);
+    break_pages(sound, store, tally);
+    break_links(sound, store, tally);
 }
 
 fn tables_in(sound: &mut [u32], store: &mut [u32], tally: &mut [u64]) {

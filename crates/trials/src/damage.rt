@@ -9,7 +9,7 @@ use harness::calls::Reply;
 use harness::model;
 use harness::random;
 use harness::report;
-use harness::words;
+use raw::words;
 use store::to_index;
 use store::widen;
 use store::word;

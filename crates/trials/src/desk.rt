@@ -4,7 +4,7 @@ use harness::calls::Call;
 use harness::calls::Reply;
 use harness::report;
 use harness::script;
-use harness::words;
+use raw::words;
 use store::to_index;
 
 // On a store of 68 words: limits of set-up, a lease of 36,526 days, key 0, low = high, outputs of 0, 3, 4, 11 and 12 words.

@@ -1,10 +1,10 @@
 // Group 4: every number of the operations, with all words compared, and of two breaches the earlier one.
 use harness::report;
 use harness::script;
-use harness::words;
+use raw::words;
 
-// On 68 words. Rows of kind 9 write a word.
-const CALLS: [[u32; 10]; 69] = [
+// On 68 words: without a head, and a store set up.
+const FRESH: [[u32; 10]; 18] = [
     // No head: 3, before 7 and 6.
     [1, 5, 1, 0, 0, 3, 0, 0, 0, 0],
     [2, 5, 0, 0, 0, 3, 0, 0, 0, 0],
@@ -25,6 +25,10 @@ const CALLS: [[u32; 10]; 69] = [
     [1, 2147483648, 1250000, 36525, 66000, 0, 2147483648, 1, 1, 1],
     [1, 3221225472, 90000, 0, 0, 0, 3221225472, 2, 3, 2],
     [1, 1073741824, 60000, 9131, 45999, 0, 1073741824, 2, 3, 3],
+];
+
+// On the store set up, with three records.
+const SOUND: [[u32; 10]; 33] = [
     // 7, and 7 before 6.
     [4, 9, 1, 64, 0, 7, 0, 0, 0, 0],
     [4, 4294967295, 4294967294, 64, 0, 7, 0, 0, 0, 0],
@@ -62,6 +66,10 @@ const CALLS: [[u32; 10]; 69] = [
     [10, 16777472, 0, 0, 0, 11, 0, 0, 0, 0],
     [10, 16777228, 0, 0, 0, 0, 16777408, 0, 0, 0],
     [10, 4294963455, 0, 0, 0, 0, 4294967280, 0, 0, 0],
+];
+
+// On the store broken. Rows of kind 9 write a word.
+const BROKEN: [[u32; 10]; 18] = [
     // Page 1 broken: 9, before 8 and 10; 7 and 6 before 9.
     [9, 48, 0, 0, 0, 0, 0, 0, 0, 0],
     [2, 2147483648, 0, 0, 0, 9, 0, 0, 0, 0],
@@ -93,16 +101,32 @@ const SHORTER: [[u32; 10]; 5] = [
     [5, 1, 9, 0, 0, 3, 0, 0, 0, 0],
 ];
 
-fn scripts(store: &mut [u32], tally: &mut [u64]) {
-    let rows = CALLS;
-    let shorter = SHORTER;
+fn fresh(store: &mut [u32], tally: &mut [u64]) {
+    let rows = FRESH;
     words::fill(store, 0);
     script::play_in(&rows, store, 68, tally);
-    script::play_in(&shorter, store, 67, tally);
+}
+
+fn sound(store: &mut [u32], tally: &mut [u64]) {
+    let rows = SOUND;
+    script::play_in(&rows, store, 68, tally);
+}
+
+fn broken(store: &mut [u32], tally: &mut [u64]) {
+    let rows = BROKEN;
+    script::play_in(&rows, store, 68, tally);
+}
+
+fn shorter(store: &mut [u32], tally: &mut [u64]) {
+    let rows = SHORTER;
+    script::play_in(&rows, store, 67, tally);
 }
 
 pub fn run(store: &mut [u32], tally: &mut [u64]) {
     report::start(tally, 4);
-    scripts(store, tally);
+    fresh(store, tally);
+    sound(store, tally);
+    broken(store, tally);
+    shorter(store, tally);
     report::finish(tally, b"refusals");
 }
