@@ -223,7 +223,8 @@ module _ (f : Format) (s : List ℕ) (h : Head) (p b : ℕ) (is : h ≡ headOf s
   )
 
   -- the head with the page taken
-  pub part-next : (t : List ℕ) (g : Head) → t ≡ putPagesTaken s (suc (h .pagesTaken)) → g ≡ headOf t → (g .theta ≤ 6) × (g .capacity ≤ largestCapacity)
+  pub part-next : (t : List ℕ) (g : Head) → t ≡ putPagesTaken s (suc (h .pagesTaken)) → g ≡ headOf t
+      → (g .theta ≤ 6) × (g .capacity ≤ largestCapacity)
   part-next t g taken head-is =
       let k : SameSizes (headOf s) (headOf t) =
       subst (λ t. SameSizes (headOf s) (headOf t)) (sym taken) (putPagesTaken-sizes s (suc (h .pagesTaken))) in

@@ -26,7 +26,9 @@ or-zero a b =
 pub or-below : (k a b : ℕ) → ltb (bitOr a b) (2 ^ k) ≡ (ltb a (2 ^ k) && ltb b (2 ^ k))
 or-below k a b =
     same-test _ _
-    (λ t. let l = or-above a b in let u : bitOr a b < 2 ^ k = ltb-true _ _ t in rw (lt-ltb a (2 ^ k) (omega (arith, l .0))) (lt-ltb b (2 ^ k) (omega (arith, l .1))))
+    (λ t. let l = or-above a b in
+    let u : bitOr a b < 2 ^ k = ltb-true _ _ t in
+    rw (lt-ltb a (2 ^ k) (omega (arith, l .0))) (lt-ltb b (2 ^ k) (omega (arith, l .1))))
     (λ t. let z = and-true _ _ t in lt-ltb _ _ (or-lt k a b (ltb-true _ _ (z .0)) (ltb-true _ _ (z .1))))
 
 pub xor-none : (a b : ℕ) → bitXor a b ≡ 0 → a ≡ b

@@ -11,8 +11,8 @@ use borrow.Author.Tests.{ltb-true, lt-ltb, eqb-false, ne-eqb, not-true}
 use Rattle.plot.specs.Plot.{isWord, lawful}
 use Rattle.plot.specs.Money.{daysLeft}
 use Rattle.plot.specs.Label.{LabelReply, pack, sectionOf, rowOf, placeOf, letterOf, oldPlaceOf}
-use Rattle.plot.specs.Promises.{TermLimits, DaysWithinLease, NoneLeftAfterTheEnd, OneLeftAtTheEnd, BalanceWithinPrice, BalanceExact, LabelKeyLabel}
-use Rattle.plot.specs.Promises.{KeyLabelKey, Limits, Before, LabelOrder, Converted, ConvertedInOrder, LawfulRecord}
+use Rattle.plot.specs.Promises.{TermLimits, DaysWithinLease, NoneLeftAfterTheEnd, OneLeftAtTheEnd, BalanceWithinPrice, BalanceExact}
+use Rattle.plot.specs.Promises.{LabelKeyLabel, KeyLabelKey, Limits, Before, LabelOrder, Converted, ConvertedInOrder, LawfulRecord}
 use Rattle.plot.proofs.Laws.{term-facts, facts-term, days-within, days-ended, amount-quotient, amount-exact, amount-within}
 use Rattle.plot.proofs.Laws.{label-limits, limits-label, key-limits, limits-key, label-given, key-lawful, key-packed}
 use Rattle.plot.proofs.Laws.{convert-limits, convert-key}
@@ -100,7 +100,9 @@ pub converted : Converted
 unfolding pack sectionOf rowOf placeOf letterOf oldPlaceOf
 converted k h =
     let i = convert-limits k h in
-    rw (convert-key k h) (sym (label-given (omega (arith, i .0)) (omega (arith, i .1, i .2))) ∙ same-label (omega arith) (omega arith) (omega (arith, i .2)) (omega arith))
+    rw (convert-key k h)
+    (sym (label-given (omega (arith, i .0)) (omega (arith, i .1, i .2)))
+    ∙ same-label (omega arith) (omega arith) (omega (arith, i .2)) (omega arith))
 
 pub converted-in-order : ConvertedInOrder
 unfolding pack sectionOf rowOf oldPlaceOf

@@ -108,7 +108,8 @@ module _ (f : Format) (s : List ℕ) (h : Head) where
 abbrev pub sizeOf : Format → List ℕ → ℕ
 sizeOf f s = size f (headOf s .theta) (headOf s .capacity) (headOf s .nodeBlocks) (headOf s .pageBlocks)
 
--- "θ (1 to 6), page capacity C (1 to 64; M-105: 1 to 24), node blocks N and page blocks P (1 to 4,096 each)", "eight zeros", "the slice has the size"
+-- "θ (1 to 6), page capacity C (1 to 64; M-105: 1 to 24), node blocks N and page blocks P (1 to 4,096 each)", "eight zeros", "the slice has
+-- the size"
 pub record Sized (f : Format) (s : List ℕ) : Type 0 where
   pub sizes : lawfulSizes (headOf s .theta) (headOf s .capacity) (headOf s .nodeBlocks) (headOf s .pageBlocks) ≡ true
   pub spare : spareOk s ≡ true
