@@ -40,7 +40,7 @@ fn serve_once(store: &mut [u32], d: Desk, input: &[u8], out: &mut [u8]) -> Step
         desk,
         taken: p.taken,
         ok: true,
-        left: out.len() - put < 2925,
+        left: out.len() - put < desk::PART_BYTES,
     }
 }
 

@@ -35,6 +35,7 @@ use Rattle.desk.specs.Replies.{listedLines}
 abbrev pub partRecords : ℕ
 partRecords = 64
 
+-- 64 records and the last line, 45 bytes each
 abbrev pub partBytes : ℕ
 partBytes = 2925
 

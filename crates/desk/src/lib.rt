@@ -24,6 +24,9 @@ ghost use Rattle.desk.specs.Transcript.{opened, dumped, answered};
 ghost use Rattle.desk.specs.Serving.{lineOf, keptLine, untilFeed, goesOn, GetsOn, Answers, Serves, Finishes};
 ghost use Rattle.desk.specs.Serving.{finished};
 
+// The bytes of a part of a listing at most: 64 records and the last line, 45 bytes each.
+pub const PART_BYTES: usize = 2925;
+
 // A range that is listed in parts, or, if dump, the register written out: the next key wanted, the high end, and how many records the
 // whole has.
 pub struct Listing {
@@ -516,7 +519,7 @@ pub fn serve(store: &mut [u32], d: Desk, input: &[u8], out: &mut [u8]) -> Progre
 fn goes_on(d: Desk, left: usize, room: usize) -> bool
     ensures { λ r. ⌜ r ≡ goesOn d left room ⌝ }
 {
-    if room < 2925 {
+    if room < PART_BYTES {
         return false;
     }
     let listing = d.listing;
