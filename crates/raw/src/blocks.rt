@@ -4,7 +4,8 @@ use plot::wide_product;
 use store::to_index;
 use store::word;
 ghost use mathlib.Core.Path.{_≡_};
-ghost use Prim.Native.Nat.{_*_, _%_, _^_, _≤_, _<_};
+ghost use Prim.Native.Nat.{_+_, _*_, _%_, _^_, _≤_, _<_};
+ghost use Rattle.store.specs.Head.{largestCapacity};
 ghost use Rattle.raw.specs.Blocks.{nodeSize, nodeBlock, pageSize, pageBlock, block};
 
 // The kinds of blocks; any other is a page.
@@ -38,9 +39,9 @@ pub fn node_at(store: &[u32], n: u32) -> usize
 
 // The words of a page block.
 pub fn page_words(store: &[u32]) -> u32
-    ensures { λ r. ⌜ (r ≡ pageSize (now (store .entry))) × (r ≤ 97) ⌝ }
+    ensures { λ r. ⌜ (r ≡ pageSize (now (store .entry))) × (r ≤ 1 + 4 * largestCapacity) ⌝ }
 {
-    1 + 4 * (word(store, 1) % 25)
+    1 + 4 * (word(store, 1) % (store::LARGEST_CAPACITY + 1))
 }
 
 // The first word of a page block.

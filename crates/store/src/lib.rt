@@ -120,7 +120,7 @@ pub fn head_of(store: &[u32]) -> Head
 }
 
 // The most records that a page may have room for.
-const LARGEST_CAPACITY: u32 = 24;
+pub const LARGEST_CAPACITY: u32 = 24;
 
 // Whether θ, C, N and P are within their limits.
 fn sizes_ok(theta: u32, capacity: u32, nodes: u32, pages: u32) -> bool

@@ -9,4 +9,6 @@ unfolding pageSize
 returns c = search needs
 
 pub page-words-spec : {M : Type 1} → statement M
-page-words-spec = tie.close (tie.spec (λ c κs. search needs) (λ c. search needs) (λ c. search needs) returns)
+page-words-spec =
+    tie.close
+    (tie.spec (λ c κs. search needs) (λ c. search needs) (λ c. search needs) (λ c. search needs) (λ c. search needs) returns)
