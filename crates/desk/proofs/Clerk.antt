@@ -65,8 +65,10 @@ set-up-same θ C N P s r t =
     let e : leb (size Plots θ C N P) (length s) ≡ leb (size Plots θ C N P) 8192 = ap (leb (size Plots θ C N P)) n in
     by-cases (leb (size Plots θ C N P) 8192)
     (λ b.
-    let h = set-up-holding Plots θ C N P s a (leb-true (size Plots θ C N P) (length s) (e ∙ b)) in
-    (rw (a, e ∙ b, b, setUp, setUpReply), rw (a, b, setUpReply, afterSetUp) (subst (λ i. Holding Plots i (fresh θ C N P) (setUp Plots θ C N P s .words)) n h)))
+    let h = set-up-holding Plots θ C N P s a (leb-true (size Plots θ C N P) (length s) (e ∙ b)) in (
+      rw (a, e ∙ b, b, setUp, setUpReply),
+      rw (a, b, setUpReply, afterSetUp) (subst (λ i. Holding Plots i (fresh θ C N P) (setUp Plots θ C N P s .words)) n h),
+    ))
     (λ b. (rw (a, e ∙ b, b, setUp, setUpReply), rw (a, e ∙ b, b, setUp, setUpReply, afterSetUp) t)))
     (λ a. (rw (a, setUp, setUpReply), rw (a, setUp, setUpReply, afterSetUp) t))
 

@@ -186,7 +186,8 @@ module _ (s : List ℕ) (S : List Item) (h : Holds Plots s S) (high : ℕ) (q : 
       ∙ ap (λ (k : ℕ). counted (partOf s low high .reply .count) (surveyed s k high)) more
       ∙ ap (counted (partOf s low high .reply .count)) (ih (x .key) (omega arith) (b .below))
       ∙ counted-done _ _ refl
-      ∙ ap (λ (i : ℕ). record { number = 0; count = i }) (ap (λ (c : ℕ). c + length (W (x .key))) (ap (λ (a : RangeReply). a .count) r) ∙ omega arith)
+      ∙ ap (λ (i : ℕ). record { number = 0; count = i })
+      (ap (λ (c : ℕ). c + length (W (x .key))) (ap (λ (a : RangeReply). a .count) r) ∙ omega arith)
 
   counts-list : (n low : ℕ) → length (W low) < n → low ≤ high → Counts low
   counts-list zero low l p = absurd (omega arith)

@@ -40,12 +40,12 @@ use Rattle.desk.specs.Sample.{request, response, Sampled}
 
 pub sampled : Sampled
 unfolding bytes request response transcript served bit replaced part tab every greatest contains insert isWord lawfulDay lawfulTerm
-    lawful daysLeft amount balanceReply logBelow levelBound rounds pagesAt bump bumpCost width words zeros headOf nodeWords pageWords size nodeStart
-    pageStart pageAt lawfulSizes lawfulCounts headRule setUpWords setUp failing runRule goodRuns linkRule pointerLow
+    lawful daysLeft amount balanceReply logBelow levelBound rounds pagesAt bump bumpCost width words zeros headOf nodeWords pageWords size
+    nodeStart pageStart pageAt lawfulSizes lawfulCounts headRule setUpWords setUp failing runRule goodRuns linkRule pointerLow
     pointerHigh nodeRule entryNumber itemAt itemWords flat lawfulItem inTurn goesOn checkedOf ordered pageRule agrees above firstFrom
     firstAbove unlawful noTotals worth ahead earlier updatedOf noSteps damagedNode entryVisit stepOf lost stepTaken descend descent soundPage
-    inPage findOf checked findReply firstPointer runAfter visitAfter linked onward hop reach visited behind afterOwn fromDescent nextOf damage sumFrom
-    summed summaryOf kept block overRun halves halveRun double grow half lower upper aim top blocks.linked putNode putPage putHead
+    inPage findOf checked findReply firstPointer runAfter visitAfter linked onward hop reach visited behind afterOwn fromDescent nextOf damage
+    sumFrom summed summaryOf kept block overRun halves halveRun double grow half lower upper aim top blocks.linked putNode putPage putHead
     putPagesTaken putBoth grown splitNode relink splitFirst newRoot climb round aimAt pageImage nodeImage nodeAt itemsIn ownItems ownPasses
     neighbourOk pathIn parted roundOf placed roundsFor planOf wayOf undamaged enteredWords done enterOf digit skipped plain value numberOf
     isNumber byteAt column requestLine fieldOf unused requestOf wellFormed parsed fourFields summaryFields replyLine told setUpTold

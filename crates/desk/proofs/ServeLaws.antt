@@ -241,7 +241,8 @@ module _ (s : List ℕ) (d next : Desk) (input : List ℕ) (n : ℕ) (quiet : d 
             rest-gathered more
             ∙ ap (λ (bs : List ℕ). served s (lineOf next) (bs ++ more)) feed
             ∙ served-feed s (lineOf next) (drop (n + 1) input ++ more)
-            ∙ ap (λ (w : List ℕ). before (outcomeBytes w (answered s (parsed (lineOf next)) .outcome)) (served w [] (drop (n + 1) input ++ more)))
+            ∙ ap
+            (λ (w : List ℕ). before (outcomeBytes w (answered s (parsed (lineOf next)) .outcome)) (served w [] (drop (n + 1) input ++ more)))
             (sym (a .words))
             ∙ ap (λ (bs : List ℕ). before bs (served t [] (drop (n + 1) input ++ more))) (a .says)
             ∙ before-twice (take (r .put) out') (carried t (r .desk .listing)) _
@@ -267,7 +268,8 @@ serves-part s d input out out' left put active e len same o =
       says = λ more.
           ap (λ (bs : List ℕ). before bs (served s (take (d .held) (d .line)) (input ++ more))) (carried-turn s (d .listing) active)
           ∙ before-twice X (carried s (listingAfter s (d .listing))) _
-          ∙ ap (λ (bs : List ℕ). before bs (before (carried s (listingAfter s (d .listing))) (served s (take (d .held) (d .line)) (input ++ more))))
+          ∙ ap
+          (λ (bs : List ℕ). before bs (before (carried s (listingAfter s (d .listing))) (served s (take (d .held) (d .line)) (input ++ more))))
           (sym front)
           ∙ ap (λ (x : Listing). before (take put out') (before (carried s x) (served s (take (d .held) (d .line)) (input ++ more)))) (sym e);
       long = same;
@@ -351,7 +353,8 @@ module _ (s : List ℕ) (d : Desk) (input out t o u part o' : List ℕ) (r q : P
       let partLong : length part ≡ length o - r .put = step .long ∙ ap length (part-from o (r .put)) ∙ length-drop (r .put) o in
       let last : drop (length o - r .put) (drop (r .put) o) ≡ [] =
       ap (λ (i : ℕ). drop i (drop (r .put) o)) (sym (length-drop (r .put) o)) ∙ drop-length (drop (r .put) o) in
-      let whole : o' ≡ take (r .put) o ++ part = put-back ∙ ap (λ (xs : List ℕ). take (r .put) o ++ (part ++ xs)) last ∙ ap (λ (xs : List ℕ). take (r .put) o ++ xs) (append-nil part) in
+      let whole : o' ≡ take (r .put) o ++ part =
+      put-back ∙ ap (λ (xs : List ℕ). take (r .put) o ++ (part ++ xs)) last ∙ ap (λ (xs : List ℕ). take (r .put) o ++ xs) (append-nil part) in
       let front : take (r .put + q .put) o' ≡ take (r .put) o ++ take (q .put) part =
       ap (take (r .put + q .put)) whole ∙ ap (λ (i : ℕ). take (i + q .put) (take (r .put) o ++ part)) (sym len)
       ∙ take-append-add (take (r .put) o) part (q .put) in

@@ -27,53 +27,47 @@ summary-told-requires c κs = narrow (c .summary .ensures) (summary-count _ _ _ 
 returns : tie.Need-returns
 unfolding answered
 returns c =
-    let s = c .before .before .before .before .before .before .before .before .before .args .store .now in
-    let e = c .before .before .before .set-up .ensures in
-    told-as s (c .before .before .before .before .before .before .request .given .1) (ap Line (c .set-up-told .ensures ∙ ap setUpTold (e .0))) (e .1) refl
+    let e = c .before .before .before in
+    told-as _ (e .before .before .before .request .given .1) (ap Line (c .set-up-told .ensures ∙ ap setUpTold (e .set-up .ensures .0)))
+    (e .set-up .ensures .1) refl
 
 returns-2 : tie.Need-returns-2
 unfolding answered
 returns-2 c =
-    let s = c .before .before .before .before .before .before .before .before .before .args .store .now in
-    let e = c .before .before .before .enter .ensures in
-    told-as s (c .before .before .before .before .before .before .request2 .given .1) (ap Line (c .enter-told .ensures ∙ ap enterTold (e .0))) (e .1) refl
+    let e = c .before .before .before in
+    told-as _ (e .before .before .before .request2 .given .1) (ap Line (c .enter-told .ensures ∙ ap enterTold (e .enter .ensures .0)))
+    (e .enter .ensures .1) refl
 
 returns-3 : tie.Need-returns-3
 unfolding answered
 returns-3 c =
-    let s = c .before .before .before .before .before .before .before .args .store .now in
-    told-as s (c .before .before .before .before .request3 .given .1) (ap Line (c .find-told .ensures ∙ ap findTold (c .before .find .ensures))) refl refl
+    let q = c .before .before .before .before in
+    told-as _ (q .request3 .given .1) (ap Line (c .find-told .ensures ∙ ap findTold (c .before .find .ensures))) refl refl
 
 returns-4 : tie.Need-returns-4
 unfolding answered
 returns-4 c =
-    let s = c .before .before .before .before .before .before .before .args .store .now in
-    told-as s (c .before .before .before .before .request4 .given .1) (ap Line (c .next-told .ensures ∙ ap nextTold (c .before .next .ensures))) refl refl
+    let q = c .before .before .before .before in
+    told-as _ (q .request4 .given .1) (ap Line (c .next-told .ensures ∙ ap nextTold (c .before .next .ensures))) refl refl
 
 returns-5 : tie.Need-returns-5
 unfolding answered
-returns-5 c =
-    let s = c .before .before .before .before .before .before .args .store .now in
-    told-as s (c .before .before .before .request5 .given .1) (c .open-range .ensures) refl refl
+returns-5 c = told-as _ (c .before .before .before .request5 .given .1) (c .open-range .ensures) refl refl
 
 returns-6 : tie.Need-returns-6
 unfolding answered
 returns-6 c =
-    let s = c .before .before .before .before .before .before .before .args .store .now in
-    told-as s (c .before .before .before .before .request6 .given .1) (ap Line (c .summary-told .ensures ∙ ap summaryTold (c .before .summary .ensures)))
+    let q = c .before .before .before .before in
+    told-as _ (q .request6 .given .1) (ap Line (c .summary-told .ensures ∙ ap summaryTold (c .before .summary .ensures)))
     refl refl
 
 returns-7 : tie.Need-returns-7
 unfolding answered
-returns-7 c =
-    let s = c .before .before .before .before .before .args .store .now in
-    told-as s (c .before .before .enum-told .given .1) (c .open-dump .ensures) refl refl
+returns-7 c = told-as _ (c .before .before .enum-told .given .1) (c .open-dump .ensures) refl refl
 
 returns-8 : tie.Need-returns-8
 unfolding answered
-returns-8 c =
-    let s = c .before .before .before .args .store .now in
-    told-as s (c .enum-told2 .given .1) refl refl refl
+returns-8 c = told-as _ (c .enum-told2 .given .1) refl refl refl
 
 pub answer-spec : {M : Type 1} → statement M
 answer-spec =

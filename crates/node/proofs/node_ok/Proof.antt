@@ -15,37 +15,31 @@ use Rattle.node.proofs.node_ok.Tie as tie
 wide : (c : tie.Start) → 6 ≤ length (c .args .node .now)
 wide c = block-words _ (c .pre .3)
 
--- from the test of the runs back to that of the depth, and from there to the entry
-abbrev tested : tie.After-runs-ok → tie.Else1
-tested c = c .before .before .before .before .before .before .before .before .before
+-- places: the entry, the tests of the depth, of the level and of the links passed
+abbrev entry : tie.Else1 → tie.Start
+entry c = c .before .before .before .before
 
-abbrev entered : tie.Else1 → tie.Start
-entered c = c .before .before .before .before
+abbrev depth : tie.Else2 → tie.Else1
+depth c = c .before .before
+
+abbrev level : tie.Else3 → tie.Else2
+level c = c .before .before .before .before
+
+abbrev links : tie.After-runs-ok → tie.Else3
+links c = c .before .before .before
 
 -- the runs, by what the calls say of the pointers
 runs-are : (c : tie.After-runs-ok)
-    → let a = entered (tested c) .args in
+    → let a = entry (depth (level (links c))) .args in
     let ws = a .node .now in
     c .runs-ok .result ≡ goodRuns (depthWord ws 0) (pointerLow (a .level)) (pointerHigh (a .head) (a .level)) (entryOf ws 0)
 runs-are c = rw (c .before .before .pointer-low .ensures, c .before .pointer-high .ensures) at (c .runs-ok .ensures)
 
 -- the entries end within the block
-ends : (c : tie.After-pow2) → 4 + 2 * c .pow2 .result ≤ length (entered (tested (c .before .before)) .args .node .now)
+ends : (c : tie.After-pow2) → 4 + 2 * c .pow2 .result ≤ length (entry (depth (level (links (c .before .before)))) .args .node .now)
 ends c =
-    let d = tested (c .before .before) in
-    rw (c .pow2 .ensures .0) (block-holds _ (entered d .pre .3) (d .if1 .left))
-
-shared-slice-read-depth : tie.Need-shared-slice-read-depth
-shared-slice-read-depth c = omega (arith, wide (c .before .before))
-
-shared-slice-read-if2 : tie.Need-shared-slice-read-if2
-shared-slice-read-if2 c = omega (arith, wide (c .before .before .before .before .before))
-
-shared-slice-read-links-ok : tie.Need-shared-slice-read-links-ok
-shared-slice-read-links-ok c = omega (arith, wide (c .before .before .before .before .before .before .before))
-
-shared-slice-read-links-ok-2 : tie.Need-shared-slice-read-links-ok-2
-shared-slice-read-links-ok-2 c = omega (arith, wide (c .before .before .before .before .before .before .before .before))
+    let d = depth (level (links (c .before .before))) in
+    rw (c .pow2 .ensures .0) (block-holds _ (entry d .pre .3) (d .if1 .left))
 
 returns : tie.Need-returns
 returns c = untrue (λ e. omega (arith, node-facts _ _ _ _ e .depth))
@@ -59,8 +53,8 @@ returns-3 c = untrue (λ e. false≢true (sym (failed (c .before .links-ok .ensu
 runs-ok-requires : tie.Need-runs-ok-requires
 runs-ok-requires c κs =
     let l = c .before .before in
-    let d = l .before .before .before .before .before .before in
-    let p = entered d .pre in
+    let d = depth (level l) in
+    let p = entry d .pre in
     let back = back-most _ _ _ _ (passed (l .before .links-ok .ensures) (l .if3 .left)) in (
       omega (arith, p .0),
       rw (c .before .pointer-low .ensures) (low-most _),
@@ -72,19 +66,13 @@ runs-ok-requires c κs =
 returns-4 : tie.Need-returns-4
 returns-4 c = untrue (λ e. false≢true (sym (failed (runs-are (c .before)) (c .if4 .taken)) ∙ node-facts _ _ _ _ e .runs))
 
-sub-is-zero : tie.Need-sub-is-zero
-sub-is-zero c = ends c
-
-part-is-zero-start : tie.Need-part-is-zero-start
-part-is-zero-start c = ends c
-
 returns-5 : tie.Need-returns-5
 returns-5 c =
     let g = c .before .before .before in
-    let l = g .before .before .before .before in
-    let v = l .before .before .before .before in
-    let d = v .before .before in
-    let p = entered d .pre in
+    let l = links (g .before) in
+    let v = level l in
+    let d = depth v in
+    let p = entry d .pre in
     node-rule-is _ _ _ _ _ true true true true _ refl (sym (le-leb _ _ (d .if1 .left))) (sym (eq-eqb _ _ (v .if2 .left)))
     (sym (passed (l .before .links-ok .ensures) (l .if3 .left))) (sym (passed (runs-are (g .before)) (g .if4 .left)))
     (block-rest _ _ (p .3) (d .if1 .left) (c .before .before .pow2 .ensures .0) (c .is-zero .ensures))
@@ -92,7 +80,8 @@ returns-5 c =
 pub node-ok-spec : {M : Type 1} → statement M
 node-ok-spec =
     tie.close
-    (tie.spec shared-slice-read-depth returns shared-slice-read-if2 returns-2 shared-slice-read-links-ok shared-slice-read-links-ok-2
+    (tie.spec (λ c. omega (arith, wide (c .before .before))) returns (λ c. omega (arith, wide (entry (c .before)))) returns-2
+    (λ c. omega (arith, wide (entry (depth (c .before))))) (λ c. omega (arith, wide (entry (depth (c .before .before)))))
     (λ c κs. search needs) returns-3 (λ c κs. search needs) (λ c κs. search needs) runs-ok-requires returns-4 (λ c κs. search needs)
-    (λ c. search needs) (λ c. search needs) (λ c. search needs) sub-is-zero part-is-zero-start (λ c. search needs) (λ c κs. search needs)
+    (λ c. search needs) (λ c. search needs) (λ c. search needs) (λ c. ends c) (λ c. ends c) (λ c. search needs) (λ c κs. search needs)
     returns-5)
