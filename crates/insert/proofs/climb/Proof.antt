@@ -8,6 +8,7 @@ use lib.ListN.{length, take, drop, getD}
 use Rattle.lists.proofs.BitLaws.{length-bits}
 use Rattle.store.specs.Format.{width}
 use Rattle.store.proofs.HeadLaws.{width-within}
+use Rattle.search.specs.declared.Step.{Step}
 use Rattle.search.specs.Descent.{noStep}
 use Rattle.insert.specs.Enter.{placeOf, places}
 use Rattle.insert.specs.Fine.{Ready, climbed}
@@ -24,32 +25,43 @@ Inv-loop store₀ f key a c n steps₀ h₀ left₀ right₀ i₀ store steps h 
 abbrev μ-loop : tie.MeasureT-loop
 μ-loop store₀ f key a c n steps₀ h₀ left₀ right₀ i₀ store steps h left right i = n - i
 
--- the node of the level where the loop stands
-ready : (c : tie.In-loop Inv-loop μ-loop)
-    → let a = c .before .before .before .before .args in
-    Ready (a .f) (c .before .loop .store) (placeOf (a .f) (a .key) (getD (c .before .loop .steps) (c .before .loop .i) noStep))
-ready c = climb-ready _ _ _ _ _ _ _ _ _ _ _ _ _ (c .before .loop .inv .1) (c .loop-test .taken)
+-- the places of a turn: the call, the level where the loop stands, its node with room and grown, its node full and halved
+abbrev call : tie.In-loop Inv-loop μ-loop → tie.Start Inv-loop μ-loop
+call p = p .before .before .before .before
 
-below : (c : tie.In-loop Inv-loop μ-loop) → c .before .loop .i < 32
-below c = omega (arith, c .before .loop .inv .1 .top, c .loop-test .taken)
+abbrev roomy : tie.Then1 Inv-loop μ-loop → tie.In-loop Inv-loop μ-loop
+roomy d = d .before .before .before .before
+
+abbrev grown : tie.After-deeper Inv-loop μ-loop → tie.Then1 Inv-loop μ-loop
+grown c = c .before .before .before .before .before
+
+abbrev full : tie.Else1 Inv-loop μ-loop → tie.In-loop Inv-loop μ-loop
+full d = d .before .before .before .before
+
+abbrev halved : tie.After-in-half Inv-loop μ-loop → tie.Else1 Inv-loop μ-loop
+halved c = c .before .before .before .before .before
+
+abbrev step : tie.In-loop Inv-loop μ-loop → Step
+step p = getD (p .before .loop .steps) (p .before .loop .i) noStep
+
+-- the node of the level where the loop stands
+ready : (p : tie.In-loop Inv-loop μ-loop)
+    → let a = call p .args in Ready (a .f) (p .before .loop .store) (placeOf (a .f) (a .key) (step p))
+ready p = climb-ready _ _ _ _ _ _ _ _ _ _ _ _ _ (p .before .loop .inv .1) (p .loop-test .taken)
+
+below : (p : tie.In-loop Inv-loop μ-loop) → p .before .loop .i < 32
+below p = omega (arith, p .before .loop .inv .1 .top, p .loop-test .taken)
 
 -- a bit is left
-left : (c : tie.In-loop Inv-loop μ-loop)
-    → let t = getD (c .before .loop .steps) (c .before .loop .i) noStep in
-    (t .used < width (c .before .before .before .before .args .f)) × (t .depth < 64)
-left c =
-    let a = c .before .before .before .before .args in
-    let l = length-bits (width (a .f) - getD (c .before .loop .steps) (c .before .loop .i) noStep .used) (a .key) in
-    (omega (arith, ready c .left, l), omega (arith, ready c .left, l, width-within (a .f)))
+left : (p : tie.In-loop Inv-loop μ-loop) → (step p .used < width (call p .args .f)) × (step p .depth < 64)
+left p =
+    let l = length-bits (width (call p .args .f) - step p .used) (call p .args .key) in
+    (omega (arith, ready p .left, l), omega (arith, ready p .left, l, width-within (call p .args .f)))
 
 loop-holds : tie.Need-loop-holds Inv-loop μ-loop
 loop-holds c =
     let s = c .before .before in
-    let a = s .args in (
-      refl,
-      climb-start (a .f) (a .key) (a .store .now) (a .head) (a .path) (a .a) (a .c) _ (s .pre .0) (c .to-index .ensures .0)
-          (s .pre .2),
-    )
+    (refl, climb-start _ _ _ _ _ _ _ _ (s .pre .0) (c .to-index .ensures .0) (s .pre .2))
 
 mul-t : tie.Need-mul-t Inv-loop μ-loop
 mul-t c = let b = below c in search needs
@@ -59,71 +71,56 @@ array-copy-out-t c = below c
 
 grow-block-requires : tie.Need-grow-block-requires Inv-loop μ-loop
 grow-block-requires c κs =
-    let p = c .before .before .before .before .before in
-    let s = p .before .before .before .before in
-    let l = p .before .loop in
-    grow-needs (s .args .f) (l .store) (s .args .key) (getD (l .steps) (l .i) noStep) (ready p) (s .pre .1) (l .h) (l .inv .1 .head-is)
-    (c .before .if1 .taken)
+    let p = roomy (c .before) in
+    grow-needs _ _ _ (step p) (ready p) (call p .pre .1) _ (p .before .loop .inv .1 .head-is) (c .before .if1 .taken)
 
 deeper-requires : tie.Need-deeper-requires Inv-loop μ-loop
-deeper-requires c κs =
-    left (c .before .before .before .before .before .before .before .before) .1
+deeper-requires c κs = left (roomy (c .before .before .before .before)) .1
 
 mul-steps : tie.Need-mul-steps Inv-loop μ-loop
-mul-steps c = let b = below (c .before .before .before .before .before .before .before .before .before) in search needs
+mul-steps c = let b = below (roomy (grown c)) in search needs
 
 array-set-from-steps : tie.Need-array-set-from-steps Inv-loop μ-loop
-array-set-from-steps c = below (c .before .before .before .before .before .before .before .before .before)
+array-set-from-steps c = below (roomy (grown c))
 
 returns : tie.Need-returns Inv-loop μ-loop
 returns c =
-    let g = c .before .before .before in
-    let d = g .before .before in
-    let p = d .before .before .before .before in
-    let s = p .before .before .before .before in
-    let l = p .before .loop in
-    climb-stops _ _ _ _ _ _ _ _ _ _ _ _ _ (l .inv .1) (p .loop-test .taken) (c .deeper .result) _ (d .if1 .taken)
-    (g .grow-block .ensures
-    ∙ grown-block (s .args .f) (l .store) (placeOf (s .args .f) (s .args .key) (getD (l .steps) (l .i) noStep)) (l .left) (l .right) (l .h)
-    (l .inv .1 .head-is))
-    (c .deeper .ensures (s .args .f) (s .args .key))
+    let d = grown c in
+    let p = roomy d in
+    let w = p .before .loop .inv .1 in
+    climb-stops _ _ _ _ _ _ _ _ _ _ _ _ _ w (p .loop-test .taken) (c .deeper .result) _ (d .if1 .taken)
+    (c .before .before .before .grow-block .ensures ∙ grown-block _ _ (placeOf _ _ (step p)) _ _ _ (w .head-is)) (c .deeper .ensures _ _)
 
 split-at-requires : tie.Need-split-at-requires Inv-loop μ-loop
 split-at-requires c κs =
-    let p = c .before .before .before .before .before in
-    let s = p .before .before .before .before in
-    let full = c .before .if1 .left in (
-      p .before .loop .inv .1 .head-is,
-      s .pre .1,
-      ready p,
-      full,
-      climb-more _ _ _ _ _ _ _ _ _ _ _ _ _ (p .before .loop .inv .1) (p .loop-test .taken) full,
-    )
+    let p = full (c .before) in
+    let w = p .before .loop .inv .1 in
+    let o = c .before .if1 .left in
+    (w .head-is, call p .pre .1, ready p, o, climb-more _ _ _ _ _ _ _ _ _ _ _ _ _ w (p .loop-test .taken) o)
 
 in-half-requires : tie.Need-in-half-requires Inv-loop μ-loop
-in-half-requires c κs = left (c .before .before .before .before .before .before .before .before) .0
+in-half-requires c κs = left (full (c .before .before .before .before)) .0
 
 mul-steps-2 : tie.Need-mul-steps-2 Inv-loop μ-loop
-mul-steps-2 c = let b = below (c .before .before .before .before .before .before .before .before .before) in search needs
+mul-steps-2 c = let b = below (full (halved c)) in search needs
 
 array-set-from-steps-2 : tie.Need-array-set-from-steps-2 Inv-loop μ-loop
-array-set-from-steps-2 c = below (c .before .before .before .before .before .before .before .before .before)
+array-set-from-steps-2 c = below (full (halved c))
 
 add-i : tie.Need-add-i Inv-loop μ-loop
-add-i c = let b = below (c .before .before .before .before .before .before .before .before .before) in search needs
+add-i c = let b = below (full (halved c)) in search needs
 
 loop-less : tie.Need-loop-less Inv-loop μ-loop
-loop-less c = let p = c .before .before .before .before .before .before .before .before .before in omega (arith, p .loop-test .taken)
+loop-less c = omega (arith, full (halved c) .loop-test .taken)
 
 loop-again : tie.Need-loop-again Inv-loop μ-loop
 loop-again c =
     let g = c .before .before .before in
-    let d = g .before .before in
-    let p = d .before .before .before .before in
+    let p = full (halved c) in
     let l = p .before .loop in (
       g .split-at .kept .0 ∙ l .inv .0,
-      climb-on _ _ _ _ _ _ _ _ _ _ _ _ _ (l .inv .1) (p .loop-test .taken) (c .in-half .result) _ _ (d .if1 .left) (g .split-at .ensures .0)
-          (g .split-at .ensures .1) (c .in-half .ensures),
+      climb-on _ _ _ _ _ _ _ _ _ _ _ _ _ (l .inv .1) (p .loop-test .taken) (c .in-half .result) _ _ (halved c .if1 .left)
+          (g .split-at .ensures .0) (g .split-at .ensures .1) (c .in-half .ensures),
     )
 
 -- the path has a place for a root

@@ -14,19 +14,33 @@ use Rattle.insert.proofs.EnterCode.{Roomy, room-fine, enters, refuses}
 use Rattle.insert.proofs.enter.Statement.{statement}
 use Rattle.insert.proofs.enter.Tie as tie
 
+-- the places: past the test of the head, the call, the way down, past its test, the plan
+abbrev headed : tie.After-descend → tie.Else1
+headed c = c .before .before .before .before .before .before
+
+abbrev call : tie.After-descend → tie.Start
+call c = headed c .before .before .before .before
+
+abbrev way : tie.Else3 → tie.After-descend
+way c = c .before .before .before
+
+abbrev whole : tie.Else4 → tie.Else3
+whole c = c .before .before .before
+
+abbrev planned : tie.Else5 → tie.After-plan-for
+planned c = c .before .before .before
+
 -- the head rule is kept
 ruled : (c : tie.Else1) → let a = c .before .before .before .before .args in headRule (a .f) (a .store .now) ≡ true
 ruled c = passed (c .before .head-ok .ensures) (c .if1 .left)
 
 -- and the record is lawful; with the way down
 begun : (c : tie.After-descend)
-    → let q = c .before .before .before .before .before .before in
-    let a = q .before .before .before .before .args in
-    Begun (a .f) (a .store .now) (a .item) (c .before .before .head-of .result) (c .descend .result)
+    → let a = call c .args in Begun (a .f) (a .store .now) (a .item) (c .before .before .head-of .result) (c .descend .result)
 begun c =
     let e = c .before .before .before .before in
     record {
-      rule = ruled (e .before .before);
+      rule = ruled (headed c);
       lawful = passed (e .before .lawful-item .ensures) (e .if2 .left);
       own = c .before .before .head-of .ensures;
       way = c .descend .ensures .0;
@@ -35,54 +49,39 @@ begun c =
 
 -- no damage is met
 sound : (c : tie.Else3)
-    → let d = c .before .before .before in
-    let q = d .before .before .before .before .before .before in
-    let a = q .before .before .before .before .args in
+    → let d = way c in
+    let a = call d .args in
     undamaged (a .f) (a .store .now) (d .before .before .head-of .result) (a .item .key) (d .descend .result) ≡ true
 sound c = passed (c .before .way-ok .ensures) (c .if3 .left)
 
 -- the key is new
 new : (c : tie.Else4)
-    → let d = c .before .before .before .before .before .before in
-    let q = d .before .before .before .before .before .before in
-    let a = q .before .before .before .before .args in
+    → let d = way (whole c) in
+    let a = call d .args in
     contains keyOf (a .item .key) (ownItems (a .f) (a .store .now) (d .before .before .head-of .result) (d .descend .result .page)) ≡ false
 new c = sym (c .before .held-at .ensures) ∙ c .if4 .left
 
 -- with the plan
 tested : (c : tie.After-plan-for)
-    → let d = c .before .before .before .before .before .before .before .before in
-    let q = d .before .before .before .before .before .before in
-    let a = q .before .before .before .before .args in
+    → let d = way (whole (c .before .before)) in
+    let a = call d .args in
     Tested (a .f) (a .store .now) (a .item) (d .before .before .head-of .result) (d .descend .result) (c .plan-for .result)
 tested c =
     let e = c .before .before in
-    let n = e .before .before .before in
-    record {
-      begun = begun (n .before .before .before);
-      sound = sound n;
-      new = new e;
-      plan = c .plan-for .ensures;
-    }
+    record { begun = begun (way (whole e)); sound = sound (whole e); new = new e; plan = c .plan-for .ensures }
 
 -- blocks remain, and room is made
 roomy : (c : tie.After-make-room)
-    → let p = c .before .before .before .before .before .before .before .before in
-    let d = p .before .before .before .before .before .before .before .before in
-    let q = d .before .before .before .before .before .before in
-    let a = q .before .before .before .before .args in
+    → let p = planned (c .before .before .before .before .before) in
+    let d = way (whole (p .before .before)) in
+    let a = call d .args in
     Roomy (a .f) (a .store .now) (a .item) (d .before .before .head-of .result) (d .descend .result) (p .plan-for .result)
     (c .make-room .last .0) (c .make-room .result .head) (c .make-room .result .down)
 roomy c =
     let e = c .before .before in
     let n = e .before .before .before in
-    record {
-      tested = tested (n .before .before .before);
-      nodes = n .if5 .left;
-      pages = e .if6 .left;
-      own = c .make-room .ensures .0 .head-is;
-      way = c .make-room .ensures .1;
-    }
+    let m = c .make-room .ensures in
+    record { tested = tested (planned n); nodes = n .if5 .left; pages = e .if6 .left; own = m .0 .head-is; way = m .1 }
 
 returns : tie.Need-returns
 returns c = refuses (enter-3 _ _ _ (failed (c .before .head-ok .ensures) (c .if1 .taken)))
@@ -104,19 +103,19 @@ returns-3 c = refuses (begun-damaged (begun (c .before .before .before)) (failed
 
 held-at-requires : tie.Need-held-at-requires
 held-at-requires c κs =
-    let b = begun (c .before .before .before .before) in
+    let b = begun (way (c .before)) in
     let l = begun-limits b in
     (l .1, l .3, begun-own b (sound (c .before)))
 
 returns-4 : tie.Need-returns-4
 returns-4 c =
     let n = c .before .before .before in
-    refuses (begun-held (begun (n .before .before .before)) (sound n) (c .before .held-at .ensures) (c .if4 .taken))
+    refuses (begun-held (begun (way n)) (sound n) (c .before .held-at .ensures) (c .if4 .taken))
 
 plan-for-requires : tie.Need-plan-for-requires
 plan-for-requires c κs =
-    let n = c .before .before .before .before in
-    let b = begun (n .before .before .before) in
+    let n = whole (c .before) in
+    let b = begun (way n) in
     let l = begun-limits b in
     (l .0, l .1, l .2, l .3, l .4, b .used, begun-long b, begun-own b (sound n))
 
@@ -127,18 +126,18 @@ returns-5 : tie.Need-returns-5
 returns-5 c = refuses (no-nodes (tested (c .before .before .before)) (c .if5 .taken))
 
 sub-if6 : tie.Need-sub-if6
-sub-if6 c = begun-counts (tested (c .before .before .before .before) .begun) .1
+sub-if6 c = begun-counts (tested (planned (c .before)) .begun) .1
 
 returns-6 : tie.Need-returns-6
 returns-6 c =
     let n = c .before .before .before in
-    refuses (no-pages (tested (n .before .before .before)) (n .if5 .left) (c .if6 .taken))
+    refuses (no-pages (tested (planned n)) (n .if5 .left) (c .if6 .taken))
 
 make-room-requires : tie.Need-make-room-requires
 make-room-requires c κs =
     let e = c .before in
     let n = e .before .before .before in
-    let t = tested (n .before .before .before) in
+    let t = tested (planned n) in
     (begun-carries (t .begun), begun-narrow (t .begun), tested-fine t (n .if5 .left) (e .if6 .left))
 
 place-requires : tie.Need-place-requires

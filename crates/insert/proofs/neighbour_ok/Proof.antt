@@ -10,33 +10,29 @@ use Rattle.insert.proofs.PlanLaws.{word-of, no-neighbour, neighbour-is}
 use Rattle.insert.proofs.neighbour_ok.Statement.{statement}
 use Rattle.insert.proofs.neighbour_ok.Tie as tie
 
+-- the places: the call, the link read
+abbrev call : tie.After-word → tie.Start
+call w = w .before .before .before
+
+abbrev read : tie.Else3 → tie.After-word
+read p = p .before .before .before .before
+
 -- the link behind the node
-link : (c : tie.After-word)
-    → let p = c .before .before .before in
-    c .word .result ≡ word (p .args .store .now) (nodeStart (p .args .head) (p .args .n) + 3)
-link c =
-    let p = c .before .before .before in
-    word-of (p .args .store .now) (p .args .head) (p .args .n) 3 (c .word .ensures) (c .before .node-start .ensures .0)
+link : (w : tie.After-word) → let a = call w .args in w .word .result ≡ word (a .store .now) (nodeStart (a .head) (a .n) + 3)
+link w = word-of (call w .args .store .now) _ _ 3 (w .word .ensures) (w .before .node-start .ensures .0)
 
 -- the level and the back link of the node behind it
 level-is : (c : tie.After-word2)
-    → let w = c .before .before .before .before .before .before in
-    let p = w .before .before .before in
-    c .word2 .result ≡ word (p .args .store .now) (nodeStart (p .args .head) (w .word .result) + 1)
-level-is c =
-    let w = c .before .before .before .before .before .before in
-    let p = w .before .before .before in
-    word-of (p .args .store .now) (p .args .head) (w .word .result) 1 (c .word2 .ensures) (c .before .node-start2 .ensures .0)
+    → let w = read (c .before .before) in
+    c .word2 .result ≡ word (call w .args .store .now) (nodeStart (call w .args .head) (w .word .result) + 1)
+level-is c = word-of (call (read (c .before .before)) .args .store .now) _ _ 1 (c .word2 .ensures) (c .before .node-start2 .ensures .0)
 
 back-is : (c : tie.After-word3)
-    → let w = c .before .before .before .before .before .before .before .before in
-    let p = w .before .before .before in
-    c .word3 .result ≡ word (p .args .store .now) (nodeStart (p .args .head) (w .word .result) + 2)
+    → let w = read (c .before .before .before .before) in
+    c .word3 .result ≡ word (call w .args .store .now) (nodeStart (call w .args .head) (w .word .result) + 2)
 back-is c =
-    let w = c .before .before .before .before .before .before .before .before in
-    let p = w .before .before .before in
-    word-of (p .args .store .now) (p .args .head) (w .word .result) 2 (c .word3 .ensures)
-    (c .before .before .before .node-start2 .ensures .0)
+    let w = c .before .before .before in
+    word-of (call (read (w .before)) .args .store .now) _ _ 2 (c .word3 .ensures) (w .node-start2 .ensures .0)
 
 returns : tie.Need-returns
 returns c = no-neighbour _ _ _ (link (c .before)) (c .if1 .taken)
@@ -56,7 +52,7 @@ returns-4 : tie.Need-returns-4
 returns-4 c =
     let p = c .before .before .before in
     let q = p .before .before .before in
-    neighbour-is _ _ _ (link (q .before)) true true false _ (q .if1 .left) (sym (le-leb _ _ (p .before .if2 .left)))
+    neighbour-is _ _ _ (link (read p)) true true false _ (q .if1 .left) (sym (le-leb _ _ (p .before .if2 .left)))
     (sym (ap not (ne-eqb _ _ (p .if3 .left))))
     (sym (ne-eqb _ _ (λ e. c .if4 .taken (level-is (c .before) ∙ e)))) refl
 
@@ -65,10 +61,10 @@ returns-5 c =
     let w = c .before .before in
     let p = w .before .before in
     let q = p .before .before .before in
-    neighbour-is _ _ _ (link (q .before)) true true true _ (q .if1 .left) (sym (le-leb _ _ (p .before .if2 .left)))
+    neighbour-is _ _ _ (link (read p)) true true true _ (q .if1 .left) (sym (le-leb _ _ (p .before .if2 .left)))
     (sym (ap not (ne-eqb _ _ (p .if3 .left))))
     (sym (eq-eqb _ _ (sym (level-is w) ∙ c .before .if4 .left)))
-    (ap (λ x. eqb x (q .before .before .before .before .args .n)) (back-is c))
+    (ap (λ x. eqb x (call (read p) .args .n)) (back-is c))
 
 pub neighbour-ok-spec : {M : Type 1} → statement M
 neighbour-ok-spec =

@@ -7,6 +7,7 @@ use lib.ListN.{getD}
 use Rattle.lists.proofs.BitLaws.{length-bits}
 use Rattle.store.specs.Format.{width}
 use Rattle.store.proofs.HeadLaws.{width-within}
+use Rattle.search.specs.declared.Step.{Step}
 use Rattle.search.specs.Descent.{noStep}
 use Rattle.insert.specs.Enter.{placeOf}
 use Rattle.insert.specs.Fine.{Ready}
@@ -15,29 +16,39 @@ use Rattle.insert.proofs.RoundCode.{round-ready, round-stops, round-mor
 use Rattle.insert.proofs.round.Statement.{statement}
 use Rattle.insert.proofs.round.Tie as tie
 
-ready : (c : tie.Start) → Ready (c .args .f) (c .args .store .now) (placeOf (c .args .f) (c .args .key) (getD (c .args .path) 0 noStep))
-ready c =
-    round-ready (c .args .f) (c .args .key) (c .args .store .now) (c .args .head) (c .args .path) (c .args .left) (c .args .right)
-    (c .pre .0) (c .pre .2) (c .pre .3)
+-- the places: the call where the node has room, and where it is full; the node halved
+abbrev roomy : tie.Then1 → tie.Start
+roomy d = d .before .before .before .before .before
+
+abbrev full : tie.Else1 → tie.Start
+full d = d .before .before .before .before .before
+
+abbrev halved : tie.After-in-half → tie.Else1
+halved i = i .before .before .before .before .before
+
+abbrev step : tie.Start → Step
+step s = getD (s .args .path) 0 noStep
+
+-- the node of level 1
+ready : (s : tie.Start) → let a = s .args in Ready (a .f) (a .store .now) (placeOf (a .f) (a .key) (step s))
+ready s = round-ready _ _ _ _ _ (s .args .left) (s .args .right) (s .pre .0) (s .pre .2) (s .pre .3)
 
 -- a bit is left
-left : (c : tie.Start) → (getD (c .args .path) 0 noStep .used < width (c .args .f)) × (getD (c .args .path) 0 noStep .depth < 64)
-left c =
-    let l = length-bits (width (c .args .f) - getD (c .args .path) 0 noStep .used) (c .args .key) in
-    (omega (arith, ready c .left, l), omega (arith, ready c .left, l, width-within (c .args .f)))
+left : (s : tie.Start) → (step s .used < width (s .args .f)) × (step s .depth < 64)
+left s =
+    let l = length-bits (width (s .args .f) - step s .used) (s .args .key) in
+    (omega (arith, ready s .left, l), omega (arith, ready s .left, l, width-within (s .args .f)))
 
 array-copy-out-t : tie.Need-array-copy-out-t
 array-copy-out-t c = omega arith
 
 grow-block-requires : tie.Need-grow-block-requires
 grow-block-requires c κs =
-    let s = c .before .before .before .before .before .before in
-    let a = s .args in
-    grow-needs (a .f) (a .store .now) (a .key) (getD (a .path) 0 noStep) (ready s) (s .pre .1) (a .head) (s .pre .0 .head-is)
-    (c .before .if1 .taken)
+    let s = roomy (c .before) in
+    grow-needs _ _ _ (step s) (ready s) (s .pre .1) _ (s .pre .0 .head-is) (c .before .if1 .taken)
 
 deeper-requires : tie.Need-deeper-requires
-deeper-requires c κs = left (c .before .before .before .before .before .before .before .before .before) .1
+deeper-requires c κs = left (roomy (c .before .before .before .before)) .1
 
 array-set-from-steps : tie.Need-array-set-from-steps
 array-set-from-steps c = omega arith
@@ -46,31 +57,24 @@ returns : tie.Need-returns
 returns c =
     let g = c .before .before .before in
     let d = g .before .before in
-    let s = d .before .before .before .before .before in
-    let a = s .args in
-    round-stops (a .f) (a .key) (a .store .now) (a .head) (a .path) (a .left) (a .right) (s .pre .0) (s .pre .2) (s .pre .3)
-    (c .deeper .result) _
-    (d .if1 .taken)
-    (g .grow-block .ensures
-    ∙ grown-block (a .f) (a .store .now) (placeOf (a .f) (a .key) (getD (a .path) 0 noStep)) (a .left) (a .right) (a .head)
-    (s .pre .0 .head-is))
-    (c .deeper .ensures (a .f) (a .key))
+    let s = roomy d in
+    round-stops _ _ _ _ _ _ _ (s .pre .0) (s .pre .2) (s .pre .3) (c .deeper .result) _ (d .if1 .taken)
+    (g .grow-block .ensures ∙ grown-block _ _ (placeOf _ _ (step s)) _ _ _ (s .pre .0 .head-is)) (c .deeper .ensures _ _)
 
 split-first-requires : tie.Need-split-first-requires
 split-first-requires c κs =
-    let s = c .before .before .before .before .before .before in
-    let a = s .args in
-    let full = c .before .if1 .left in (
+    let s = full (c .before) in
+    let o = c .before .if1 .left in (
       s .pre .0 .head-is,
       s .pre .1,
       ready s,
-      full,
-      round-more (a .f) (a .key) (a .store .now) (a .head) (a .path) (a .left) (a .right) (s .pre .0) (s .pre .2) (s .pre .3) full,
-      round-behind (a .f) (a .key) (a .store .now) (a .head) (a .path) (a .left) (a .right) (s .pre .0) (s .pre .2) (s .pre .3),
+      o,
+      round-more _ _ _ _ _ (s .args .left) (s .args .right) (s .pre .0) (s .pre .2) (s .pre .3) o,
+      round-behind _ _ _ _ _ (s .args .left) (s .args .right) (s .pre .0) (s .pre .2) (s .pre .3),
     )
 
 in-half-requires : tie.Need-in-half-requires
-in-half-requires c κs = left (c .before .before .before .before .before .before .before .before .before) .0
+in-half-requires c κs = left (full (c .before .before .before .before)) .0
 
 array-set-from-steps-2 : tie.Need-array-set-from-steps-2
 array-set-from-steps-2 c = omega arith
@@ -78,27 +82,22 @@ array-set-from-steps-2 c = omega arith
 climb-requires : tie.Need-climb-requires
 climb-requires c κs =
     let i = c .before in
-    let g = i .before .before .before in
-    let d = g .before .before in
-    let s = d .before .before .before .before .before in
-    let a = s .args in
-    let r = round-climbs (a .f) (a .key) (a .store .now) (a .head) (a .path) (a .left) (a .right) (s .pre .0) (s .pre .2) (s .pre .3)
-    (i .in-half .result) _ _ (d .if1 .left) (g .split-first .ensures .0) (g .split-first .ensures .1) (i .in-half .ensures) (s .pre .4) in
-    (r .0, s .pre .1, r .1, r .2)
+    let g = i .before .before .before .split-first .ensures in
+    let q = full (halved i) .pre in
+    let r = round-climbs _ _ _ _ _ _ _ (q .0) (q .2) (q .3) (i .in-half .result) _ _ (halved i .if1 .left) (g .0) (g .1)
+    (i .in-half .ensures) (q .4) in
+    (r .0, q .1, r .1, r .2)
 
 returns-2 : tie.Need-returns-2
 returns-2 c =
     let u = c .before .before in
     let i = u .before .before in
-    let g = i .before .before .before in
-    let d = g .before .before in
-    let s = d .before .before .before .before .before in
-    let a = s .args in
-    let r = round-ends (a .f) (a .key) (a .store .now) (a .head) (a .path) (a .left) (a .right) (s .pre .0) (s .pre .2) (s .pre .3)
-    (i .in-half .result) _ _ (u .climb .result .head) (u .climb .result .steps) _ (d .if1 .left) (g .split-first .ensures .0)
-    (g .split-first .ensures .1) (i .in-half .ensures)
-    (u .climb .ensures .1) (u .climb .ensures .2) in
-    (u .climb .ensures .0, r .0, r .1)
+    let g = i .before .before .before .split-first .ensures in
+    let q = full (halved i) .pre in
+    let e = u .climb .ensures in
+    let r = round-ends _ _ _ _ _ _ _ (q .0) (q .2) (q .3) (i .in-half .result) _ _ (u .climb .result .head) (u .climb .result .steps) _
+    (halved i .if1 .left) (g .0) (g .1) (i .in-half .ensures) (e .1) (e .2) in
+    (e .0, r .0, r .1)
 
 pub round-spec : {M : Type 1} → statement M
 round-spec =

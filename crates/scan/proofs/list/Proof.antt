@@ -2,12 +2,11 @@
 use borrow.Author.Needs.{needs}
 use mathlib.Core.Path.{_≡_, ap, _∙_}
 use mathlib.Core.Bool.{true, true≢false}
-use Prim.Native.Nat.{_+_, _-_, _^_, _≤_, _<_}
+use Prim.Native.Nat.{ℕ, _+_, _-_, _≤_, _<_}
 use native.Mathlib.Omega.{arith}
-use Rattle.page.specs.Page.{count, keyAt, Filled}
 use Rattle.page.proofs.Inside.{record-inside}
 use Rattle.search.proofs.BlockLaws.{under-page}
-use Rattle.scan.specs.Walk.{lastKey, endOf}
+use Rattle.scan.specs.Walk.{lastKey}
 use Rattle.scan.specs.Range.{listingOf}
 use Rattle.scan.proofs.WalkLaws.{stopOf}
 use Rattle.scan.proofs.StandLaws.{Listed, standing, walk-rows, end-asked, list-first, list-done, list-full, list-over, list-next}
@@ -21,6 +20,22 @@ Inv-loop store f head low high room count₀ w₀ count w = Listed f store head 
 abbrev μ-loop : tie.MeasureT-loop
 μ-loop store f head low high room count₀ w₀ count w = room - count
 
+-- the places of a turn: the call, the loop's top, its span with records, where those up to high end, the room for them
+abbrev call : tie.At-loop Inv-loop μ-loop → tie.Start Inv-loop μ-loop
+call l = l .before .before .before
+
+abbrev turn : tie.Then1 Inv-loop μ-loop → tie.At-loop Inv-loop μ-loop
+turn i = i .before .before
+
+abbrev held : tie.After-end-at Inv-loop μ-loop → tie.Then1 Inv-loop μ-loop
+held c = c .before .before .before
+
+abbrev ended : tie.Else2 Inv-loop μ-loop → tie.After-end-at Inv-loop μ-loop
+ended c = c .before .before
+
+abbrev fitting : tie.Else3 Inv-loop μ-loop → tie.Else2 Inv-loop μ-loop
+fitting c = c .before .before
+
 walk-from-requires : tie.Need-walk-from-requires Inv-loop μ-loop
 walk-from-requires c κs = (c .before .pre .0, λ z. absurd (true≢false z))
 
@@ -28,150 +43,127 @@ loop-holds : tie.Need-loop-holds Inv-loop μ-loop
 loop-holds c = list-first _ _ _ _ _ _ (c .before .before .pre .1) (c .walk-from .ensures)
 
 page-at-requires : tie.Need-page-at-requires Inv-loop μ-loop
-page-at-requires c κs = under-page (c .before .before .before .before .before .before .pre .0)
+page-at-requires c κs = under-page (call (turn (c .before)) .pre .0)
 
 -- there are records
-some : (c : tie.Then1 Inv-loop μ-loop) → c .before .before .loop .w .span .page ≡ 0 → ⊥
-some c = c .if1 .taken
+some : (i : tie.Then1 Inv-loop μ-loop) → turn i .loop .w .span .page ≡ 0 → ⊥
+some i = i .if1 .taken
 
 -- they lie in the page
-asked : (c : tie.After-page-at Inv-loop μ-loop)
-    → let l = c .before .before .before .before in
-    let r = l .loop .w .span in
-    let pg = c .page-at .result .now in
-    Filled (l .before .before .before .args .f) pg × (r .from < r .to) × (r .to ≤ count pg) × (r .to < 2 ^ 32)
-asked c =
-    let i = c .before .before in
-    let l = i .before .before in
-    end-asked (l .before .before .before .pre .0) (l .loop .inv .ahead .at) (some i) (c .page-at .ensures)
-
 end-at-requires : tie.Need-end-at-requires Inv-loop μ-loop
-end-at-requires c κs = asked c
+end-at-requires c κs =
+    let i = c .before .before in
+    end-asked (call (turn i) .pre .0) (turn i .loop .inv .ahead .at) (some i) (c .page-at .ensures)
 
 -- where those up to high end
-stops : (c : tie.After-end-at Inv-loop μ-loop)
-    → let l = c .before .before .before .before .before in
-    let a = l .before .before .before .args in
-    c .end-at .result ≡ stopOf (a .f) (a .store .now) (a .head) (l .loop .w .span) (a .high)
-stops c =
-    let a = c .before .before .before .before .before .before .before .before .args in
-    let r = c .before .before .before .before .before .loop .w .span in
-    c .end-at .ensures .0 ∙ ap (λ ws. endOf (a .f) ws (r .from) (r .to) (a .high)) (c .before .page-at .ensures)
+abbrev stop : tie.Then1 Inv-loop μ-loop → ℕ
+stop i = let a = call (turn i) .args in stopOf (a .f) (a .store .now) (a .head) (turn i .loop .w .span) (a .high)
+
+stops : (c : tie.After-end-at Inv-loop μ-loop) → c .end-at .result ≡ stop (held c)
+stops c = rw (c .before .page-at .ensures) at (c .end-at .ensures .0)
 
 sub-n : tie.Need-sub-n Inv-loop μ-loop
 sub-n c = c .before .end-at .ensures .1
 
 sub-if2 : tie.Need-sub-if2 Inv-loop μ-loop
-sub-if2 c = c .before .before .before .before .before .before .loop .inv .within
+sub-if2 c = turn (held (c .before)) .loop .inv .within
 
 sub-first : tie.Need-sub-first Inv-loop μ-loop
-sub-first c = c .before .before .before .before .before .before .before .loop .inv .within
+sub-first c = sub-if2 (c .before)
 
 -- the first record not written is one of them
-lies : (c : tie.After-struct-known3 Inv-loop μ-loop)
-    → let l = c .before .before .before .before .before .before .before .before in
-    let r = l .loop .w .span in
-    r .from + (l .before .before .before .args .room - l .loop .count) < r .to
-lies c = omega (arith, c .before .if2 .taken, c .before .before .before .end-at .ensures .2)
+lies : (c : tie.Then2 Inv-loop μ-loop)
+    → let l = turn (held (c .before .before)) in
+    l .loop .w .span .from + (call l .args .room - l .loop .count) < l .loop .w .span .to
+lies c = omega (arith, c .if2 .taken, c .before .before .end-at .ensures .2)
 
 add-first : tie.Need-add-first Inv-loop μ-loop
-add-first c = omega (arith, lies c, asked (c .before .before .before .before) .3)
+add-first c = let l = lies (c .before) in search needs
 
 read-one-requires : tie.Need-read-one-requires Inv-loop μ-loop
 read-one-requires c κs =
-    let e = asked (c .before .before .before .before) in
-    (omega (arith, lies c, e .3), record-inside (e .0) (omega (arith, lies c, e .2)))
+    let l = lies (c .before) in
+    let e = end-at-requires (c .before .before .before .before) κs in
+    (omega (arith, l, e .3), record-inside (e .0) (omega (arith, l, e .2)))
 
 returns : tie.Need-returns Inv-loop μ-loop
 returns c =
-    let i = c .before .before .before .before .before .before .before in
-    let l = i .before .before .loop in
-    let s = c .before .before .before .before .before .before .before .before .before .before .before .before in
-    let a = s .args in
-    let at = l .w .span .from + (a .room - l .count) in (
-      ap (λ k. record { ok = true; count = a .room; more = k })
-          (ap (λ x. x .key) (c .read-one .ensures) ∙ ap (λ ws. keyAt (a .f) ws at) (c .before .before .before .before .before .page-at .ensures))
-          ∙ list-full _ _ _ _ _ (s .pre .0) _ (l .inv) (some i)
-          (rw (stops (c .before .before .before .before)) at (c .before .before .if2 .taken)),
+    let e = c .before .before .before .before in
+    let l = turn (held e) in (
+      rw (ap (λ x. x .key) (c .read-one .ensures), e .before .page-at .ensures)
+          (list-full _ _ _ _ _ (call l .pre .0) _ (l .loop .inv) (some (held e)) (rw (stops e) at (c .before .before .if2 .taken))),
       omega arith,
     )
 
 -- there is room for them
 room : (c : tie.Else2 Inv-loop μ-loop)
-    → let l = c .before .before .before .before .before .before .before .loop in
-    let a = c .before .before .before .before .before .before .before .before .before .before .args in
-    stopOf (a .f) (a .store .now) (a .head) (l .w .span) (a .high) - l .w .span .from ≤ a .room - l .count
-room c = rw (stops (c .before .before)) at (c .if2 .left)
+    → let i = held (ended c) in
+    stop i - turn i .loop .w .span .from ≤ call (turn i) .args .room - turn i .loop .count
+room c = rw (stops (ended c)) at (c .if2 .left)
 
 add-count : tie.Need-add-count Inv-loop μ-loop
-add-count c = omega (arith, c .if2 .left, c .before .before .before .before .before .before .before .loop .inv .within)
+add-count c = omega (arith, c .if2 .left, sub-if2 (c .before))
 
 last-key-requires : tie.Need-last-key-requires Inv-loop μ-loop
 last-key-requires c κs =
-    let u = c .before .before .before .before .before .before .before .before .before .before .pre .0 in
-    let i = c .before .before .before .before .before in
-    (u, walk-rows u (i .before .before .loop .inv .ahead .at) (some i))
+    let i = held (ended c) in
+    let u = call (turn i) .pre .0 in
+    (u, walk-rows u (turn i .loop .inv .ahead .at) (some i))
 
 returns-2 : tie.Need-returns-2 Inv-loop μ-loop
 returns-2 c =
-    let i = c .before .before .before .before .before .before .before .before in
-    let l = i .before .before .loop in
-    let s = c .before .before .before .before .before .before .before .before .before .before .before .before .before in
-    let e = c .listing-of .ensures in (
-      e ∙ ap (λ n. listingOf true (l .count + (n - l .w .span .from))) (stops (c .before .before .before .before .before))
-          ∙ list-over _ _ _ _ _ (s .pre .0) _ (l .inv) (some i) (rw (c .before .before .last-key .ensures) at (c .before .if3 .taken))
-          (room (c .before .before .before)),
-      rw e
-          (omega (
-            arith,
-            listing-most true (l .count + (c .before .before .before .before .before .end-at .result - l .w .span .from)),
-            c .before .before .before .if2 .left,
-            l .inv .within,
-          )),
+    let r = c .before .before .before in
+    let i = held (ended r) in
+    let l = turn i .loop in
+    let e = c .listing-of .ensures in
+    let m = listing-most true (l .count + (ended r .end-at .result - l .w .span .from)) in (
+      e ∙ ap (λ n. listingOf true (l .count + (n - l .w .span .from))) (stops (ended r))
+          ∙ list-over _ _ _ _ _ (call (turn i) .pre .0) _ (l .inv) (some i)
+          (rw (c .before .before .last-key .ensures) at (c .before .if3 .taken)) (room r),
+      rw e (omega (arith, m, r .if2 .left, l .inv .within)),
     )
 
 advance-requires : tie.Need-advance-requires Inv-loop μ-loop
 advance-requires c κs =
-    let u = c .before .before .before .before .before .before .before .before .before .before .before .before .pre .0 in
-    let i = c .before .before .before .before .before .before .before in
-    (u, standing u (i .before .before .loop .inv .ahead .at) (some i), λ z. absurd (true≢false z))
+    let i = held (ended (fitting c)) in
+    let u = call (turn i) .pre .0 in
+    (u, standing u (turn i .loop .inv .ahead .at) (some i), λ z. absurd (true≢false z))
 
 -- the last key is below high
 below : (c : tie.Else3 Inv-loop μ-loop)
-    → let l = c .before .before .before .before .before .before .before .before .before in
-    let a = l .before .before .before .args in
+    → let l = turn (held (ended (fitting c))) in
+    let a = call l .args in
     lastKey (a .f) (a .store .now) (a .head) (l .loop .w .span) < a .high
 below c = rw (c .before .last-key .ensures) at (c .if3 .left)
 
 loop-less : tie.Need-loop-less Inv-loop μ-loop
 loop-less c =
-    let i = c .before .before .before .before .before .before .before .before in
-    let l = i .before .before .loop in
-    let u = c .before .before .before .before .before .before .before .before .before .before .before .before .before .pre .0 in
-    let top = c .before .before .before .before .before .before .before .before .before .before .before .before .before .args .high in
+    let r = fitting (c .before) in
+    let i = held (ended r) in
+    let u = call (turn i) .pre .0 in
+    let w = turn i .loop .inv in
     omega (
       arith,
-      stops (c .before .before .before .before .before),
-      taken-count u (l .inv .ahead .at) (some i) top (below (c .before)),
-      rows-some u (l .inv .ahead .at) (some i),
-      room (c .before .before .before),
-      l .inv .within,
+      stops (ended r),
+      taken-count u (w .ahead .at) (some i) (call (turn i) .args .high) (below (c .before)),
+      rows-some u (w .ahead .at) (some i),
+      room r,
+      w .within,
     )
 
 loop-again : tie.Need-loop-again Inv-loop μ-loop
 loop-again c =
-    let i = c .before .before .before .before .before .before .before .before in
-    let l = i .before .before .loop in
-    let s = c .before .before .before .before .before .before .before .before .before .before .before .before .before in
-    rw (stops (c .before .before .before .before .before))
-    (list-next _ _ _ _ _ (s .pre .0) _ (l .inv) (some i) (below (c .before)) (room (c .before .before .before)) (c .advance .ensures))
+    let r = fitting (c .before) in
+    let i = held (ended r) in
+    rw (stops (ended r))
+    (list-next _ _ _ _ _ (call (turn i) .pre .0) _ (turn i .loop .inv) (some i) (below (c .before)) (room r) (c .advance .ensures))
 
 returns-3 : tie.Need-returns-3 Inv-loop μ-loop
 returns-3 c =
-    let l = c .before .before .before .loop in
+    let l = c .before .before .before in
     let e = c .listing-of2 .ensures in (
-      e ∙ list-done _ _ _ _ _ (c .before .before .before .before .before .before .pre .0) _ (l .inv) (c .before .if1 .left),
-      rw e (omega (arith, listing-most (l .w .span .ok) (l .count), l .inv .within)),
+      e ∙ list-done _ _ _ _ _ (call l .pre .0) _ (l .loop .inv) (c .before .if1 .left),
+      rw e (omega (arith, listing-most (l .loop .w .span .ok) (l .loop .count), l .loop .inv .within)),
     )
 
 pub list-spec : {M : Type 1} → statement M

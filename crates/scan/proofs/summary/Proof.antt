@@ -13,29 +13,36 @@ use Rattle.scan.proofs.SummaryLaws.{summary-head, summary-order, summar
 use Rattle.scan.proofs.summary.Statement.{statement}
 use Rattle.scan.proofs.summary.Tie as tie
 
+-- the places: the call, past the first test, past all tests
+abbrev call : tie.Else1 → tie.Start
+call c = c .before .before .before
+
+abbrev ruled : tie.Else3 → tie.Else1
+ruled c = c .before .before .before
+
+abbrev tested : tie.After-sum → tie.Else3
+tested c = c .before .before .before .before
+
 -- the head rule is kept
-head-sound : (c : tie.Else1) → let a = c .before .before .before .args in headRule (a .f) (a .store .now) ≡ true
+head-sound : (c : tie.Else1) → let a = call c .args in headRule (a .f) (a .store .now) ≡ true
 head-sound c = passed (c .before .head-ok .ensures) (c .if1 .left)
 
 -- past all tests: low is not above high, and today is lawful
-in-order : (c : tie.Else3) → let a = c .before .before .before .before .before .before .args in a .low ≤ a .high
+in-order : (c : tie.Else3) → let a = call (ruled c) .args in a .low ≤ a .high
 in-order c = c .before .before .if2 .left
 
-day-lawful : (c : tie.Else3) → lawfulDay (c .before .before .before .before .before .before .args .today) ≡ true
+day-lawful : (c : tie.Else3) → lawfulDay (call (ruled c) .args .today) ≡ true
 day-lawful c = passed (c .before .lawful-day .ensures) (c .if3 .left)
 
 -- what `sum` gives is the summary
 sum-is : (c : tie.After-sum)
-    → let a = c .before .before .before .before .before .before .before .before .before .before .args in
+    → let a = call (ruled (tested c)) .args in
     summingReply (c .sum .result) ≡ summaryOf (a .f) (a .store .now) (a .low) (a .high) (a .today)
 sum-is c =
-    let t = c .before .before .before .before in
-    summary-is _ _ _ _ _ (head-sound (t .before .before .before)) (in-order t) (day-lawful t) _
+    let t = tested c in
+    summary-is _ _ _ _ _ (head-sound (ruled t)) (in-order t) (day-lawful t) _
     (rw (c .before .before .before .head-of .ensures, c .before .before .widen .ensures .0, c .before .widen2 .ensures .0) at
     (c .sum .ensures))
-
-head-ok-requires : tie.Need-head-ok-requires
-head-ok-requires c κs = search needs
 
 returns : tie.Need-returns
 returns c = summary-head _ _ _ _ _ (failed (c .before .head-ok .ensures) (c .if1 .taken))
@@ -51,18 +58,9 @@ returns-3 c =
     summary-day _ _ _ _ _ (head-sound (c .before .before .before)) (c .before .before .if2 .left)
     (failed (c .before .lawful-day .ensures) (c .if3 .taken))
 
-head-of-requires : tie.Need-head-of-requires
-head-of-requires c κs = search needs
-
-widen-requires : tie.Need-widen-requires
-widen-requires c κs = search needs
-
-widen-requires-2 : tie.Need-widen-requires-2
-widen-requires-2 c κs = search needs
-
 sum-requires : tie.Need-sum-requires
 sum-requires c κs = (
-  record { rule = head-sound (c .before .before .before .before .before .before); head = c .before .before .head-of .ensures },
+  record { rule = head-sound (ruled (c .before .before .before)); head = c .before .before .head-of .ensures },
   omega arith,
   omega arith,
   day-lawful (c .before .before .before),
@@ -79,14 +77,14 @@ pub summary-spec : {M : Type 1} → statement M
 summary-spec =
     tie.close
     (tie.spec
-    head-ok-requires
+    (λ c κs. search needs)
     returns
     returns-2
     lawful-day-requires
     returns-3
-    head-of-requires
-    widen-requires
-    widen-requires-2
+    (λ c κs. search needs)
+    (λ c κs. search needs)
+    (λ c κs. search needs)
     sum-requires
     returns-4
     returns-5)
