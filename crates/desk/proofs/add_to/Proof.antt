@@ -29,8 +29,10 @@ room : (c : tie.In-loop Inv-loop μ-loop)
     (held + l .k < length (l .line)) × (l .k < length (c .before .before .before .before .before .before .args .bytes .now))
 room c =
     let l = c .before .loop in
-    let m = c .before .before in
-    (omega (arith, l .inv .1, c .loop-test .taken, m .least2 .ensures, m .before .least .ensures), omega (arith, c .loop-test .taken, m .least2 .ensures))
+    let m = c .before .before in (
+      omega (arith, l .inv .1, c .loop-test .taken, m .least2 .ensures, m .before .least .ensures),
+      omega (arith, c .loop-test .taken, m .least2 .ensures),
+    )
 
 loop-again : tie.Need-loop-again Inv-loop μ-loop
 loop-again c =

@@ -31,4 +31,7 @@ unfolding told enterTold
 returns-6 c = sym (ap (λ a. enterTold (enterReply a)) (c .enum-told5 .given .1))
 
 pub enter-told-spec : {M : Type 1} → statement M
-enter-told-spec = tie.close (tie.spec (λ c. search needs) (λ c. search needs) (λ c. search needs) (λ c. search needs) (λ c. search needs) (λ c. search needs) returns returns-2 returns-3 returns-4 returns-5 returns-6)
+enter-told-spec =
+    tie.close
+    (tie.spec (λ c. search needs) (λ c. search needs) (λ c. search needs) (λ c. search needs) (λ c. search needs) (λ c. search needs)
+    returns returns-2 returns-3 returns-4 returns-5 returns-6)

@@ -23,4 +23,6 @@ unfolding told findTold
 returns-4 c = sym (ap (λ a. findTold (reply a)) (c .enum-told3 .given .1))
 
 pub find-told-spec : {M : Type 1} → statement M
-find-told-spec = tie.close (tie.spec (λ c. search needs) (λ c. search needs) (λ c. search needs) (λ c. search needs) returns returns-2 returns-3 returns-4)
+find-told-spec =
+    tie.close
+    (tie.spec (λ c. search needs) (λ c. search needs) (λ c. search needs) (λ c. search needs) returns returns-2 returns-3 returns-4)

@@ -25,7 +25,10 @@ returns : tie.Need-returns
 returns c = none (c .before .before .before .args .d) _ (c .if1 .taken)
 
 returns-2 : tie.Need-returns-2
-returns-2 c = some (c .before .before .before .before .before .before .before .args .d) _ _ _ (c .before .before .before .before .if1 .left) (c .before .before .write .ensures)
+returns-2 c =
+    let w = c .before .before in
+    let s = w .before .before in
+    some (s .before .before .before .args .d) _ _ _ (s .if1 .left) (w .write .ensures)
 
 pub finish-spec : {M : Type 1} → statement M
 finish-spec = tie.close (tie.spec returns (λ c κs. search needs) (λ c. search needs) returns-2)

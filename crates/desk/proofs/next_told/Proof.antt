@@ -23,4 +23,6 @@ unfolding told nextTold
 returns-4 c = sym (ap (λ a. nextTold (reply a)) (c .enum-told3 .given .1))
 
 pub next-told-spec : {M : Type 1} → statement M
-next-told-spec = tie.close (tie.spec (λ c. search needs) (λ c. search needs) (λ c. search needs) (λ c. search needs) returns returns-2 returns-3 returns-4)
+next-told-spec =
+    tie.close
+    (tie.spec (λ c. search needs) (λ c. search needs) (λ c. search needs) (λ c. search needs) returns returns-2 returns-3 returns-4)

@@ -9,9 +9,11 @@ returns c = let a = c .before .before .args in last-none (a .dump) (a .count) (a
 
 returns-2 : tie.Need-returns-2
 returns-2 c =
-    let a = c .before .before .before .before .before .before .args in
-    let w = c .before .before .write .ensures in
-    last-line (a .dump) (a .count) (a .out .now) _ _ (c .before .before .before .before .before .before .pre) (w .0) (w .1) (c .before .before .before .before .if1 .left)
+    let w = c .before .before in
+    let s = w .before .before in
+    let call = s .before .before in
+    let a = call .args in
+    last-line (a .dump) (a .count) (a .out .now) _ _ (call .pre) (w .write .ensures .0) (w .write .ensures .1) (s .if1 .left)
 
 pub put-last-spec : {M : Type 1} → statement M
 put-last-spec = tie.close (tie.spec returns (λ c κs. search needs) (λ c. search needs) returns-2)

@@ -33,4 +33,7 @@ unfolding told summaryTold
 returns-5 c = sym (ap (λ a. summaryTold (summaryReply a)) (c .enum-told4 .given .1))
 
 pub summary-told-spec : {M : Type 1} → statement M
-summary-told-spec = tie.close (tie.spec (λ c. search needs) cast-t6 (λ c. search needs) (λ c. search needs) (λ c. search needs) (λ c. search needs) returns returns-2 returns-3 returns-4 returns-5)
+summary-told-spec =
+    tie.close
+    (tie.spec (λ c. search needs) cast-t6 (λ c. search needs) (λ c. search needs) (λ c. search needs) (λ c. search needs) returns
+    returns-2 returns-3 returns-4 returns-5)

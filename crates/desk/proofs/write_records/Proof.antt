@@ -64,7 +64,8 @@ loop-again c =
       omega (arith, t .loop-test .taken),
       omega (arith, l .inv .1),
       e .0,
-      length-front _ (listedLines (a .dump) (itemsOf (l .i + 1) (a .words .now))) _ (a .out .now) (sym (e .0)) (omega (arith, start .pre .2, t .loop-test .taken, m, e .0)) (e .1),
+      length-front _ (listedLines (a .dump) (itemsOf (l .i + 1) (a .words .now))) _ (a .out .now) (sym (e .0))
+          (omega (arith, start .pre .2, t .loop-test .taken, m, e .0)) (e .1),
       e .1,
     )
 

@@ -52,7 +52,8 @@ loop-again c =
     let n : l .i + 1 - a .from ≡ l .i - a .from + 1 = omega (arith, l .inv .0) in
     let j : a .from + (l .i - a .from) ≡ l .i = omega (arith, l .inv .0) in (
       omega (arith, l .inv .0),
-      c .added .ensures ∙ ap₂ (λ t x. updatedOf t x (a .today)) (l .inv .1) (c .before .read-one .ensures ∙ ap (itemAt (a .f) (a .page .now)) (sym j))
+      c .added .ensures
+          ∙ ap₂ (λ t x. updatedOf t x (a .today)) (l .inv .1) (c .before .read-one .ensures ∙ ap (itemAt (a .f) (a .page .now)) (sym j))
           ∙ sym (totals-more (a .totals) (rows (a .f) (a .page .now) (a .from) (l .i - a .from)) _ (a .today))
           ∙ ap (λ ws. totalsOf (a .totals) ws (a .today))
           (sym (rows-more (a .f) (a .page .now) (a .from) (l .i - a .from)) ∙ ap (rows (a .f) (a .page .now) (a .from)) (sym n)),
