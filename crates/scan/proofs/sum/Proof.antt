@@ -21,7 +21,7 @@ Inv-loop store f head low high today t₀ w₀ t w = Summed f store head low hig
 abbrev μ-loop : tie.MeasureT-loop
 μ-loop store f head low high today t₀ w₀ t w = 2 ^ 32 + 1 - t .count
 
--- the places of a turn: the call, the loop's top, its span with records, where those up to high end, the last key below high
+-- the places of a turn: the call, the loop's top, its span with records, where those up to high end
 abbrev call : tie.At-loop Inv-loop μ-loop → tie.Start Inv-loop μ-loop
 call l = l .before .before .before .before
 
