@@ -1,5 +1,4 @@
 // Group 6: sound stores with one to three words changed at random, and what holds of every call all the same.
-use crate::broken;
 use groups::orders;
 use groups::sets;
 use groups::sets::Setting;
@@ -91,7 +90,7 @@ fn sensible(call: Call, reply: Reply) -> bool {
 
 // An accepted entry is found again.
 fn found_again(store: &mut [u32], call: Call, tally: &mut [u64]) {
-    let find = broken::call_at(call.a, 0);
+    let find = faults::call_at(call.a, 0);
     let outcome = calls::watched_in(store, 64, find);
     report::add(tally, report::ENTRIES);
     report::judge_outcome(tally, calls::held(calls::record_of(call)), outcome);
@@ -109,7 +108,7 @@ fn judge_done(store: &mut [u32], call: Call, reply: Reply, tally: &mut [u64]) {
 fn call_damaged(store: &mut [u32], call: Call, tally: &mut [u64]) {
     let outcome = calls::watched_in(store, 64, call);
     let reply = outcome.reply;
-    report::judge_outcome(tally, broken::numbered(reply.number, reply), outcome);
+    report::judge_outcome(tally, faults::numbered(reply.number, reply), outcome);
     if reply.number == 0 {
         judge_done(store, call, reply, tally);
     }
@@ -121,7 +120,7 @@ fn calls_damaged(store: &mut [u32], list: &[u32], seed: u32, tally: &mut [u64]) 
     while j < 5 {
         call_damaged(
             store,
-            broken::call_at(key_near(list, seed, j), to_index(j)),
+            faults::call_at(key_near(list, seed, j), to_index(j)),
             tally,
         );
         j += 1;

@@ -1,6 +1,5 @@
 // Trials of the plot index: the desk checks that are not proved, random sets against a plain sorted list, orders of entry,
-// refusals, stores broken in one rule, and stores damaged at random. A line for each group; a further one for each trial that fails.
-mod broken; // group 5
+// refusals, stores broken in one rule (group 5, crate faults), and stores damaged at random. A line for each group; a further one for each trial that fails.
 mod damage; // group 6
 mod desk; // group 1
 mod refusals; // group 4
@@ -18,6 +17,6 @@ fn main() {
     sets::run(&mut store, &mut list, &mut tally);
     orders::run(&mut other, &mut store, &mut list, &mut drawn, &mut tally);
     refusals::run(&mut store, &mut tally);
-    broken::run(&mut other, &mut store, &mut tally);
+    faults::run(&mut other, &mut store, &mut tally);
     damage::run(&mut other, &mut store, &mut list, &mut drawn, &mut tally);
 }

@@ -3,8 +3,8 @@ use borrow.Author.Needs.{needs}
 use mathlib.Core.Path.{_≡_}
 use Prim.Native.Nat.{_-_}
 use lib.ListN.{length}
-use Rattle.trials.proofs.broken.deep_paths.Statement.{statement}
-use Rattle.trials.proofs.broken.deep_paths.Tie as tie
+use Rattle.faults.proofs.deep_paths.Statement.{statement}
+use Rattle.faults.proofs.deep_paths.Tie as tie
 
 abbrev Inv-loop : tie.InvT-loop
 Inv-loop store₀ tally₀ rows i₀ store tally i = (length store ≡ length store₀) × (length tally ≡ length tally₀)

@@ -3,8 +3,8 @@ use borrow.Author.Needs.{needs}
 use mathlib.Core.Path.{_≡_}
 use Prim.Native.Nat.{_-_}
 use lib.ListN.{length}
-use Rattle.trials.proofs.broken.put_path.Statement.{statement}
-use Rattle.trials.proofs.broken.put_path.Tie as tie
+use Rattle.faults.proofs.put_path.Statement.{statement}
+use Rattle.faults.proofs.put_path.Tie as tie
 
 abbrev Inv-loop : tie.InvT-loop
 Inv-loop store₀ n₀ store n = length store ≡ length store₀

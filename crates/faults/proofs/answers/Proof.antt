@@ -3,8 +3,8 @@ use borrow.Author.Needs.{needs}
 use mathlib.Core.Path.{_≡_}
 use Prim.Native.Nat.{_-_}
 use lib.ListN.{length}
-use Rattle.trials.proofs.broken.answers.Statement.{statement}
-use Rattle.trials.proofs.broken.answers.Tie as tie
+use Rattle.faults.proofs.answers.Statement.{statement}
+use Rattle.faults.proofs.answers.Tie as tie
 
 abbrev Inv-loop : tie.InvT-loop
 Inv-loop store₀ rows i tally₀ key j₀ store tally j = (length store ≡ length store₀) × (length tally ≡ length tally₀)
