@@ -2,7 +2,6 @@
 use crate::sets;
 use crate::sets::Setting;
 use harness::calls;
-use harness::model;
 use harness::report;
 use plot::Record;
 use raw::twins;

@@ -3,7 +3,6 @@ use crate::stretches;
 use harness::calls;
 use harness::calls::Call;
 use harness::calls::Reply;
-use harness::model;
 use harness::random;
 use harness::report;
 use harness::script;

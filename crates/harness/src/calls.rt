@@ -1,18 +1,15 @@
 // A call of any public operation, and its reply, as plain numbers.
-use index::EnterAnswer;
-use index::FindAnswer;
-use index::RangeAnswer;
-use index::SummaryAnswer;
-use plot::BalanceAnswer;
-use plot::KeyAnswer;
-use plot::Label;
-use plot::LabelAnswer;
 use plot::Record;
 use raw::blocks;
 use raw::words;
-use store::SetUpAnswer;
-use store::widen;
+use store::to_index;
 use store::word;
+ghost use mathlib.Core.Path.{_≡_};
+ghost use Prim.Native.Nat.{min};
+ghost use lib.ListN.{length};
+ghost use Rattle.exports.specs.Reply.{filled};
+ghost use Rattle.harness.specs.Calls.{refused, given, heldReply, sameReply, recordOf, entryOf, ranOf, replyTo};
+ghost use Rattle.harness.specs.Calls.{marked, writtenOut, openWords, stays, outcome};
 
 // The kinds of calls.
 pub const SET_UP: u32 = 0;
@@ -62,7 +59,9 @@ pub struct Outcome {
 }
 
 // A reply with no values.
-pub fn refusal(number: u32) -> Reply {
+pub fn refusal(number: u32) -> Reply
+    ensures { λ r. ⌜ r ≡ refused number ⌝ }
+{
     Reply {
         number,
         a: 0,
@@ -73,7 +72,9 @@ pub fn refusal(number: u32) -> Reply {
 }
 
 // An answer 0 with its values.
-pub fn done(a: u64, b: u64, c: u64, d: u64) -> Reply {
+pub fn done(a: u64, b: u64, c: u64, d: u64) -> Reply
+    ensures { λ r. ⌜ r ≡ given a b c d ⌝ }
+{
     Reply {
         number: 0,
         a,
@@ -83,123 +84,52 @@ pub fn done(a: u64, b: u64, c: u64, d: u64) -> Reply {
     }
 }
 
-pub fn ask(kind: u32, a: u32, b: u32, c: u32, d: u32) -> Call {
+pub fn ask(kind: u32, a: u32, b: u32, c: u32, d: u32) -> Call
+    ensures { λ r. ⌜ r ≡ record { kind = kind; a = a; b = b; c = c; d = d } ⌝ }
+{
     Call { kind, a, b, c, d }
 }
 
 // A range's reply: the records written, and the first key not written.
-pub fn listing(count: u32, more: u32) -> Reply {
-    done(widen(count), widen(more), 0, 0)
+pub fn listing(count: u32, more: u32) -> Reply
+    ensures { λ r. ⌜ r ≡ given count more 0 0 ⌝ }
+{
+    done(count as u64, more as u64, 0, 0)
 }
 
 // The reply with a record.
-pub fn held(record: Record) -> Reply {
+pub fn held(plot: Record) -> Reply
+    ensures { λ r. ⌜ r ≡ heldReply plot ⌝ }
+{
     done(
-        widen(record.key),
-        widen(record.price),
-        widen(record.lease),
-        widen(record.last),
+        plot.key as u64,
+        plot.price as u64,
+        plot.lease as u64,
+        plot.last as u64,
     )
 }
 
-pub fn same(x: Reply, y: Reply) -> bool {
-    x.number == y.number && x.a == y.a && x.b == y.b && x.c == y.c && x.d == y.d
-}
-
-fn set_up(answer: SetUpAnswer) -> Reply {
-    match answer {
-        SetUpAnswer::Done(size) => done(widen(size), 0, 0, 0),
-        SetUpAnswer::OutsideLimits => refusal(4),
-        SetUpAnswer::TooShort => refusal(5),
+pub fn same(x: Reply, y: Reply) -> bool
+    ensures { λ r. ⌜ r ≡ sameReply x y ⌝ }
+{
+    if x.number != y.number {
+        return false;
     }
-}
-
-fn entered(answer: EnterAnswer) -> Reply {
-    match answer {
-        EnterAnswer::Entered(key, levels, nodes, pages) => {
-            done(widen(key), widen(levels), widen(nodes), widen(pages))
-        }
-        EnterAnswer::EnterHeadBroken => refusal(3),
-        EnterAnswer::RecordOutside => refusal(6),
-        EnterAnswer::EnterDamaged => refusal(9),
-        EnterAnswer::KeyHeld => refusal(8),
-        EnterAnswer::NoBlocks => refusal(10),
+    if x.a != y.a {
+        return false;
     }
-}
-
-fn found(answer: FindAnswer) -> Reply {
-    match answer {
-        FindAnswer::Found(record) => held(record),
-        FindAnswer::NotFound => refusal(1),
-        FindAnswer::HeadBroken => refusal(3),
-        FindAnswer::DamageMet => refusal(9),
+    if x.b != y.b {
+        return false;
     }
-}
-
-fn listed(answer: RangeAnswer) -> Reply {
-    match answer {
-        RangeAnswer::Listed(count, more) => done(count, widen(more), 0, 0),
-        RangeAnswer::RangeHeadBroken => refusal(3),
-        RangeAnswer::LowAboveHigh => refusal(7),
-        RangeAnswer::RangeDamaged => refusal(9),
+    if x.c != y.c {
+        return false;
     }
+    x.d == y.d
 }
 
-fn summed(answer: SummaryAnswer) -> Reply {
-    match answer {
-        SummaryAnswer::Summed(count, total, key) => done(count, total, widen(key), 0),
-        SummaryAnswer::SummaryHeadBroken => refusal(3),
-        SummaryAnswer::SummaryLowAboveHigh => refusal(7),
-        SummaryAnswer::TodayOutside => refusal(6),
-        SummaryAnswer::SummaryDamaged => refusal(9),
-    }
-}
-
-fn balanced(answer: BalanceAnswer) -> Reply {
-    match answer {
-        BalanceAnswer::Pence(pence) => done(widen(pence), 0, 0, 0),
-        BalanceAnswer::OutsideLimits => refusal(6),
-    }
-}
-
-fn keyed(answer: KeyAnswer) -> Reply {
-    match answer {
-        KeyAnswer::Key(key) => done(widen(key), 0, 0, 0),
-        KeyAnswer::NoKey => refusal(11),
-    }
-}
-
-fn labelled(answer: LabelAnswer) -> Reply {
-    match answer {
-        LabelAnswer::Labelled(label) => {
-            done(
-                widen(label.section),
-                widen(label.row),
-                widen(label.place),
-                widen(label.letter),
-            )
-        }
-        LabelAnswer::NoLabel => refusal(11),
-    }
-}
-
-// The calls that have no store.
-fn plain(call: Call) -> Reply {
-    let kind = call.kind;
-    match kind {
-        BALANCE => balanced(index::balance(call.a, call.b, call.c, call.d)),
-        KEY_OF => keyed(index::key_of(Label {
-            section: call.a,
-            row: call.b,
-            place: call.c,
-            letter: call.d,
-        })),
-        LABEL_OF => labelled(index::label_of(call.a)),
-        _ => keyed(index::convert(call.a)),
-    }
-}
-
-pub fn record(key: u32, price: u32, lease: u32, last: u32) -> Record {
+pub fn record(key: u32, price: u32, lease: u32, last: u32) -> Record
+    ensures { λ r. ⌜ r ≡ record { key = key; price = price; lease = lease; last = last } ⌝ }
+{
     Record {
         key,
         price,
@@ -209,47 +139,86 @@ pub fn record(key: u32, price: u32, lease: u32, last: u32) -> Record {
 }
 
 // An entry's record.
-pub fn record_of(call: Call) -> Record {
+pub fn record_of(call: Call) -> Record
+    ensures { λ r. ⌜ r ≡ recordOf call ⌝ }
+{
     record(call.a, call.b, call.c, call.d)
 }
 
 // The call that enters a record.
-pub fn entry(record: Record) -> Call {
-    ask(ENTER, record.key, record.price, record.lease, record.last)
+pub fn entry(plot: Record) -> Call
+    ensures { λ r. ⌜ r ≡ entryOf plot ⌝ }
+{
+    ask(ENTER, plot.key, plot.price, plot.lease, plot.last)
+}
+
+// Makes a call: the answer's number, and its values in `values`.
+fn call_with(store: &mut [u32], out: &mut [u32], call: Call, values: &mut [u64]) -> u32
+    ensures { λ r. let a = ranOf call (now (store .entry)) (now (out .entry)) in
+        ⌜ (r ≡ a .number) × (now (store .exit) ≡ a .store) × (now (out .exit) ≡ a .out)
+        × (now (values .exit) ≡ filled (a .values) (now (values .entry))) ⌝ }
+{
+    let kind = call.kind;
+    match kind {
+        SET_UP => exports::plots_set_up(store, call.a, call.b, call.c, call.d, values),
+        ENTER => exports::plots_enter(store, call.a, call.b, call.c, call.d, values),
+        FIND => exports::plots_find(store, call.a, values),
+        NEXT => exports::plots_next(store, call.a, values),
+        RANGE => exports::plots_range(store, call.a, call.b, out, values),
+        SUMMARY => exports::plots_summary(store, call.a, call.b, call.c, values),
+        BALANCE => exports::plots_balance(call.a, call.b, call.c, call.d, values),
+        KEY_OF => exports::plots_key_of(call.a, call.b, call.c, call.d, values),
+        LABEL_OF => exports::plots_label_of(call.a, values),
+        _ => exports::plots_convert(call.a, values),
+    }
 }
 
 // Makes a call.
-pub fn reply_to(store: &mut [u32], out: &mut [u32], call: Call) -> Reply {
-    let kind = call.kind;
-    match kind {
-        SET_UP => set_up(index::set_up(store, call.a, call.b, call.c, call.d)),
-        ENTER => entered(index::enter(store, record_of(call))),
-        FIND => found(index::find(store, call.a)),
-        NEXT => found(index::next(store, call.a)),
-        RANGE => listed(index::range(store, call.a, call.b, out)),
-        SUMMARY => summed(index::summary(store, call.a, call.b, call.c)),
-        _ => plain(call),
+pub fn reply_to(store: &mut [u32], out: &mut [u32], call: Call) -> Reply
+    ensures { λ r. let s = now (store .entry) in let o = now (out .entry) in
+        ⌜ (r ≡ replyTo call s o) × (now (store .exit) ≡ ranOf call s o .store) × (now (out .exit) ≡ ranOf call s o .out) ⌝ }
+{
+    let mut values = [0u64; 4];
+    let number = call_with(store, out, call, &mut values);
+    Reply {
+        number,
+        a: values[0],
+        b: values[1],
+        c: values[2],
+        d: values[3],
     }
 }
 
 // How many words of the output a call has written.
-fn written(kind: u32, reply: Reply) -> usize {
-    if kind == RANGE && reply.number == 0 {
-        return ((reply.a % 4294967296) * 4) as usize;
+fn written(kind: u32, reply: Reply) -> usize
+    ensures { λ r. ⌜ r ≡ writtenOut kind reply ⌝ }
+{
+    if kind != RANGE {
+        return 0;
     }
-    0
+    if reply.number != 0 {
+        return 0;
+    }
+    4 * to_index(words::low(reply.a))
 }
 
 // How many words of the store a call with this answer may change: the store's size, or none.
-fn open_words(store: &[u32], kind: u32, number: u32) -> usize {
-    if kind <= ENTER && number == 0 {
-        return blocks::page_at(store, words::sum(word(store, 3), 1));
+fn open_words(store: &[u32], kind: u32, number: u32) -> usize
+    ensures { λ r. ⌜ r ≡ openWords (now (store .entry)) kind number ⌝ }
+{
+    if kind > ENTER {
+        return 0;
     }
-    0
+    if number != 0 {
+        return 0;
+    }
+    blocks::page_at(store, words::sum(word(store, 3), 1))
 }
 
 // Whether a call has left every word that it may not change.
-fn stayed(store: &[u32], kept: &[u32], out: &[u32], kind: u32, reply: Reply) -> bool {
+fn stayed(store: &[u32], kept: &[u32], out: &[u32], kind: u32, reply: Reply) -> bool
+    ensures { λ r. ⌜ r ≡ stays (now (store .entry)) (now (kept .entry)) (now (out .entry)) kind reply ⌝ }
+{
     if !words::all_from(out, written(kind, reply), MARK) {
         return false;
     }
@@ -258,7 +227,10 @@ fn stayed(store: &[u32], kept: &[u32], out: &[u32], kind: u32, reply: Reply) -> 
 }
 
 // Makes a call with a marked output, and looks at every word that it may not change. A store has at most 16,384 words here.
-pub fn watched(store: &mut [u32], out: &mut [u32], call: Call) -> Outcome {
+pub fn watched(store: &mut [u32], out: &mut [u32], call: Call) -> Outcome
+    ensures { λ r. let s = now (store .entry) in let o = marked (length (now (out .entry))) in
+        ⌜ (r ≡ outcome call s o) × (now (store .exit) ≡ ranOf call s o .store) × (now (out .exit) ≡ ranOf call s o .out) ⌝ }
+{
     let mut kept = [0u32; 16384];
     words::copy(store, &mut kept, store.len());
     words::fill(out, MARK);
@@ -270,7 +242,10 @@ pub fn watched(store: &mut [u32], out: &mut [u32], call: Call) -> Outcome {
 }
 
 // The same with an output of `room` words, at most 64, of its own.
-pub fn watched_in(store: &mut [u32], room: usize, call: Call) -> Outcome {
+pub fn watched_in(store: &mut [u32], room: usize, call: Call) -> Outcome
+    ensures { λ r. let s = now (store .entry) in let o = marked (min room 64) in
+        ⌜ (r ≡ outcome call s o) × (now (store .exit) ≡ ranOf call s o .store) ⌝ }
+{
     let mut out = [0u32; 64];
     if room < 64 {
         return watched(store, &mut out[0..room], call);

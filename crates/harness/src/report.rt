@@ -3,6 +3,11 @@ use crate::calls;
 use crate::calls::Outcome;
 use crate::calls::Reply;
 use store::widen;
+ghost use mathlib.Core.Path.{_≡_};
+ghost use lib.Dec.{leb};
+ghost use lib.ListN;
+ghost use Rattle.store.specs.Head.{word};
+ghost use Rattle.harness.specs.Tally.{counted, answerPlace, started, tried, compared, judged, judgedOutcome};
 
 // The places of a tally: the group's number, the trials, those that failed, the entries accepted, and from MET on the answers by their numbers.
 pub const GROUP: usize = 0;
@@ -27,33 +32,43 @@ fn say_number(n: u64) {
 }
 
 // A count of the tally.
-pub fn count(tally: &[u64], i: usize) -> u64 {
+pub fn count(tally: &[u64], i: usize) -> u64
+    ensures { λ r. ⌜ r ≡ word (now (tally .entry)) i ⌝ }
+{
     if i < tally.len() {
         return tally[i];
     }
     0
 }
 
-fn set(tally: &mut [u64], i: usize, value: u64) {
+fn set(tally: &mut [u64], i: usize, value: u64)
+    ensures { λ _. ⌜ now (tally .exit) ≡ ListN.set (now (tally .entry)) i value ⌝ }
+{
     if i < tally.len() {
         tally[i] = value;
     }
 }
 
 // Adds one to a count.
-pub fn add(tally: &mut [u64], i: usize) {
+pub fn add(tally: &mut [u64], i: usize)
+    ensures { λ _. ⌜ now (tally .exit) ≡ counted (now (tally .entry)) i ⌝ }
+{
     let n = count(tally, i);
     if n < 18446744073709551615 {
         set(tally, i, n + 1);
     }
 }
 
-fn answer_place(number: u32) -> usize {
+fn answer_place(number: u32) -> usize
+    ensures { λ r. ⌜ r ≡ answerPlace number ⌝ }
+{
     MET + (number % 12) as usize
 }
 
 // Starts a group: all counts are 0.
-pub fn start(tally: &mut [u64], group: u64) {
+pub fn start(tally: &mut [u64], group: u64)
+    ensures { λ _. ⌜ now (tally .exit) ≡ started (now (tally .entry)) group ⌝ }
+{
     let mut i: usize = 0;
     while i < tally.len() {
         set(tally, i, 0);
@@ -76,7 +91,9 @@ fn say_reply(reply: Reply) {
 }
 
 // Counts a failure; whether it is to be printed, with the start of its line.
-fn failure(tally: &mut [u64]) -> bool {
+fn failure(tally: &mut [u64]) -> bool
+    ensures { λ r. ⌜ (r ≡ leb (word (counted (now (tally .entry)) 2) 2) 10) × (now (tally .exit) ≡ counted (now (tally .entry)) 2) ⌝ }
+{
     add(tally, FAILED);
     if count(tally, FAILED) > SHOWN {
         return false;
@@ -90,7 +107,9 @@ fn failure(tally: &mut [u64]) -> bool {
 }
 
 // A trial of a fact.
-pub fn hold(tally: &mut [u64], holds: bool, fact: &[u8]) {
+pub fn hold(tally: &mut [u64], holds: bool, fact: &[u8])
+    ensures { λ _. ⌜ now (tally .exit) ≡ tried (now (tally .entry)) holds ⌝ }
+{
     add(tally, TRIED);
     if !holds {
         if failure(tally) {
@@ -110,7 +129,9 @@ fn say_difference(expected: Reply, got: Reply) {
 }
 
 // A trial of a value that is not a call's answer.
-pub fn compare(tally: &mut [u64], expected: Reply, got: Reply) {
+pub fn compare(tally: &mut [u64], expected: Reply, got: Reply)
+    ensures { λ _. ⌜ now (tally .exit) ≡ compared (now (tally .entry)) expected got ⌝ }
+{
     add(tally, TRIED);
     if !calls::same(expected, got) {
         if failure(tally) {
@@ -120,13 +141,17 @@ pub fn compare(tally: &mut [u64], expected: Reply, got: Reply) {
 }
 
 // A trial of a reply.
-pub fn judge(tally: &mut [u64], expected: Reply, got: Reply) {
+pub fn judge(tally: &mut [u64], expected: Reply, got: Reply)
+    ensures { λ _. ⌜ now (tally .exit) ≡ judged (now (tally .entry)) expected got ⌝ }
+{
     add(tally, answer_place(got.number));
     compare(tally, expected, got);
 }
 
 // A trial of a reply, and of the words that the call may not change.
-pub fn judge_outcome(tally: &mut [u64], expected: Reply, got: Outcome) {
+pub fn judge_outcome(tally: &mut [u64], expected: Reply, got: Outcome)
+    ensures { λ _. ⌜ now (tally .exit) ≡ judgedOutcome (now (tally .entry)) expected got ⌝ }
+{
     let reply = got.reply;
     judge(tally, expected, reply);
     hold(tally, got.kept, b"the words stay");

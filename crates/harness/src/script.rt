@@ -5,28 +5,28 @@ use crate::calls::Reply;
 use crate::report;
 use raw::words;
 use store::to_index;
-use store::widen;
+use store::word;
+ghost use mathlib.Core.Path.{_≡_};
+ghost use lib.ListN.{length};
+ghost use Rattle.harness.specs.Script.{cellOf, callAt, replyAt, playedCall, played, playedIn};
 
 // A row that makes no call: the word at the first number gets the second.
 const POKE: u32 = 9;
 
-fn of_row(row: &[u32; 10], j: usize) -> u32 {
-    if j < 10 {
-        return row[j];
-    }
-    0
-}
-
 // A number of a table, 0 outside it.
-pub fn cell(rows: &[[u32; 10]], i: usize, j: usize) -> u32 {
+pub fn cell(rows: &[[u32; 10]], i: usize, j: usize) -> u32
+    ensures { λ r. ⌜ r ≡ cellOf (now (rows .entry)) i j ⌝ }
+{
     if i < rows.len() {
-        return of_row(&rows[i], j);
+        return word(&rows[i], j);
     }
     0
 }
 
 // The call of a row: kind and four numbers.
-pub fn call_at(rows: &[[u32; 10]], i: usize) -> Call {
+pub fn call_at(rows: &[[u32; 10]], i: usize) -> Call
+    ensures { λ r. ⌜ r ≡ callAt (now (rows .entry)) i ⌝ }
+{
     Call {
         kind: cell(rows, i, 0),
         a: cell(rows, i, 1),
@@ -37,18 +37,23 @@ pub fn call_at(rows: &[[u32; 10]], i: usize) -> Call {
 }
 
 // The reply of a row: number and four values.
-pub fn reply_at(rows: &[[u32; 10]], i: usize) -> Reply {
+pub fn reply_at(rows: &[[u32; 10]], i: usize) -> Reply
+    ensures { λ r. ⌜ r ≡ replyAt (now (rows .entry)) i ⌝ }
+{
     Reply {
         number: cell(rows, i, 5),
-        a: widen(cell(rows, i, 6)),
-        b: widen(cell(rows, i, 7)),
-        c: widen(cell(rows, i, 8)),
-        d: widen(cell(rows, i, 9)),
+        a: cell(rows, i, 6) as u64,
+        b: cell(rows, i, 7) as u64,
+        c: cell(rows, i, 8) as u64,
+        d: cell(rows, i, 9) as u64,
     }
 }
 
 // Makes a call and compares its reply. A range's third number is the words of its output.
-fn play_call(store: &mut [u32], call: Call, expected: Reply, tally: &mut [u64]) {
+fn play_call(store: &mut [u32], call: Call, expected: Reply, tally: &mut [u64])
+    ensures { λ _. let p = playedCall (record { store = now (store .entry); tally = now (tally .entry) }) call expected in
+        ⌜ (now (store .exit) ≡ p .store) × (now (tally .exit) ≡ p .tally) ⌝ }
+{
     if call.kind == POKE {
         words::put(store, to_index(call.a), call.b);
         return;
@@ -58,7 +63,11 @@ fn play_call(store: &mut [u32], call: Call, expected: Reply, tally: &mut [u64]) 
 }
 
 // Makes the calls of a table one after the other.
-pub fn play(rows: &[[u32; 10]], store: &mut [u32], tally: &mut [u64]) {
+pub fn play(rows: &[[u32; 10]], store: &mut [u32], tally: &mut [u64])
+    ensures { λ _. let rs = now (rows .entry) in
+        let p = played rs (record { store = now (store .entry); tally = now (tally .entry) }) 0 (length rs) in
+        ⌜ (now (store .exit) ≡ p .store) × (now (tally .exit) ≡ p .tally) ⌝ }
+{
     let mut i: usize = 0;
     while i < rows.len() {
         play_call(store, call_at(rows, i), reply_at(rows, i), tally);
@@ -67,7 +76,10 @@ pub fn play(rows: &[[u32; 10]], store: &mut [u32], tally: &mut [u64]) {
 }
 
 // The same on the first n words of a store.
-pub fn play_in(rows: &[[u32; 10]], store: &mut [u32], n: usize, tally: &mut [u64]) {
+pub fn play_in(rows: &[[u32; 10]], store: &mut [u32], n: usize, tally: &mut [u64])
+    ensures { λ _. let p = playedIn (now (rows .entry)) (record { store = now (store .entry); tally = now (tally .entry) }) n in
+        ⌜ (now (store .exit) ≡ p .store) × (now (tally .exit) ≡ p .tally) ⌝ }
+{
     if n <= store.len() {
         play(rows, &mut store[0..n], tally);
     }

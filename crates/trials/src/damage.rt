@@ -5,7 +5,6 @@ use groups::sets::Setting;
 use harness::calls;
 use harness::calls::Call;
 use harness::calls::Reply;
-use harness::model;
 use harness::random;
 use harness::report;
 use raw::words;
