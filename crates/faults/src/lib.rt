@@ -7,6 +7,11 @@ use harness::script;
 use raw::blocks;
 use raw::words;
 use store::to_index;
+ghost use mathlib.Core.Path.{_≡_};
+ghost use lib.ListN.{length};
+ghost use Rattle.harness.specs.Script.{both};
+ghost use Rattle.faults.specs.Faults.{callOn, numberedReply, answeredIn, answersFrom, broken, brokenRow, brokenFrom, nodePut, pathPut};
+ghost use Rattle.faults.specs.Faults.{levelsPut, deepPut};
 
 const SIZE: usize = 184;
 
@@ -155,7 +160,9 @@ const LINKS: [[u32; 10]; 18] = [
 ];
 
 // The call j at a key.
-pub fn call_at(key: u32, j: usize) -> Call {
+pub fn call_at(key: u32, j: usize) -> Call
+    ensures { λ r. ⌜ r ≡ callOn key j ⌝ }
+{
     match j {
         0 => calls::ask(calls::FIND, key, 0, 0, 0),
         1 => calls::ask(calls::NEXT, key, 0, 0, 0),
@@ -166,7 +173,9 @@ pub fn call_at(key: u32, j: usize) -> Call {
 }
 
 // What is expected where only the number is: a refusal has zeros, other values are not judged.
-pub fn numbered(number: u32, got: Reply) -> Reply {
+pub fn numbered(number: u32, got: Reply) -> Reply
+    ensures { λ r. ⌜ r ≡ numberedReply number got ⌝ }
+{
     if number == 0 {
         return calls::done(got.a, got.b, got.c, got.d);
     }
@@ -174,14 +183,20 @@ pub fn numbered(number: u32, got: Reply) -> Reply {
 }
 
 // Makes a call and compares the number of its answer.
-pub fn answer(store: &mut [u32], call: Call, number: u32, tally: &mut [u64]) {
+pub fn answer(store: &mut [u32], call: Call, number: u32, tally: &mut [u64])
+    ensures { λ _. let q = answeredIn (both (now (store .entry)) (now (tally .entry))) call number in
+        ⌜ (now (store .exit) ≡ q .store) × (now (tally .exit) ≡ q .tally) ⌝ }
+{
     let outcome = calls::watched_in(store, 64, call);
     let got = outcome.reply;
     report::judge_outcome(tally, numbered(number, got), outcome);
 }
 
 // Makes the calls of a row at its key; enter comes last.
-fn answers(store: &mut [u32], rows: &[[u32; 10]], i: usize, tally: &mut [u64]) {
+fn answers(store: &mut [u32], rows: &[[u32; 10]], i: usize, tally: &mut [u64])
+    ensures { λ _. let q = answersFrom (now (rows .entry)) i (both (now (store .entry)) (now (tally .entry))) 0 5 in
+        ⌜ (now (store .exit) ≡ q .store) × (now (tally .exit) ≡ q .tally) ⌝ }
+{
     let key = script::cell(rows, i, 4);
     let mut j: usize = 0;
     while j < 5 {
@@ -191,7 +206,9 @@ fn answers(store: &mut [u32], rows: &[[u32; 10]], i: usize, tally: &mut [u64]) {
 }
 
 // Writes the word of a row.
-fn break_word(store: &mut [u32], rows: &[[u32; 10]], i: usize) {
+fn break_word(store: &mut [u32], rows: &[[u32; 10]], i: usize)
+    ensures { λ _. ⌜ now (store .exit) ≡ broken (now (store .entry)) (now (rows .entry)) i ⌝ }
+{
     let block = blocks::start_of(store, script::cell(rows, i, 0), script::cell(rows, i, 1));
     words::put(
         store,
@@ -201,7 +218,10 @@ fn break_word(store: &mut [u32], rows: &[[u32; 10]], i: usize) {
 }
 
 // Breaks a word; with a key, tries the operations and makes the store sound again.
-fn break_row(sound: &[u32], store: &mut [u32], rows: &[[u32; 10]], i: usize, tally: &mut [u64]) {
+fn break_row(sound: &[u32], store: &mut [u32], rows: &[[u32; 10]], i: usize, tally: &mut [u64])
+    ensures { λ _. let q = brokenRow (now (sound .entry)) (now (rows .entry)) (both (now (store .entry)) (now (tally .entry))) i in
+        ⌜ (now (store .exit) ≡ q .store) × (now (tally .exit) ≡ q .tally) ⌝ }
+{
     break_word(store, rows, i);
     if script::cell(rows, i, 4) != 0 {
         answers(store, rows, i, tally);
@@ -209,7 +229,11 @@ fn break_row(sound: &[u32], store: &mut [u32], rows: &[[u32; 10]], i: usize, tal
     }
 }
 
-fn break_rows(sound: &[u32], store: &mut [u32], rows: &[[u32; 10]], tally: &mut [u64]) {
+fn break_rows(sound: &[u32], store: &mut [u32], rows: &[[u32; 10]], tally: &mut [u64])
+    ensures { λ _. let rs = now (rows .entry) in
+        let q = brokenFrom (now (sound .entry)) rs (both (now (store .entry)) (now (tally .entry))) 0 (length rs) in
+        ⌜ (now (store .exit) ≡ q .store) × (now (tally .exit) ≡ q .tally) ⌝ }
+{
     let mut i: usize = 0;
     while i < rows.len() {
         break_row(sound, store, rows, i, tally);
@@ -245,7 +269,9 @@ const DEEP: [[u32; 10]; 3] = [
 ];
 
 // Writes a node whose entries are all alike, each a run of its own.
-fn put_node(store: &mut [u32], n: u32, depth: u32, pointer: u32) {
+fn put_node(store: &mut [u32], n: u32, depth: u32, pointer: u32)
+    ensures { λ _. ⌜ now (store .exit) ≡ nodePut (now (store .entry)) n depth pointer ⌝ }
+{
     let at = blocks::node_at(store, n);
     let entries = store::pow2(depth % 7);
     words::put(store, at, depth);
@@ -259,7 +285,9 @@ fn put_node(store: &mut [u32], n: u32, depth: u32, pointer: u32) {
 }
 
 // Writes the nodes above the last one: each points to the one below, whose number is its level.
-fn put_path(store: &mut [u32]) {
+fn put_path(store: &mut [u32])
+    ensures { λ _. ⌜ now (store .exit) ≡ pathPut (now (store .entry)) 1 5 ⌝ }
+{
     let mut n: u32 = 1;
     while n < 6 {
         put_node(store, n + 1, 6, n);
@@ -268,13 +296,17 @@ fn put_path(store: &mut [u32]) {
 }
 
 // Six nodes taken, the sixth the root, six levels.
-fn put_levels(store: &mut [u32]) {
+fn put_levels(store: &mut [u32])
+    ensures { λ _. ⌜ now (store .exit) ≡ levelsPut (now (store .entry)) ⌝ }
+{
     words::put(store, 4, 6);
     words::put(store, 6, 6);
     words::put(store, 7, 6);
 }
 
-fn put_deep(store: &mut [u32], depth: u32) {
+fn put_deep(store: &mut [u32], depth: u32)
+    ensures { λ _. ⌜ now (store .exit) ≡ deepPut (now (store .entry)) depth ⌝ }
+{
     let mut out = [0u32; 1];
     calls::reply_to(store, &mut out, calls::ask(calls::SET_UP, 6, 1, 6, 1));
     put_path(store);

@@ -2,4 +2,3 @@
 // definition.
 pub mod orders; // group 3
 pub mod sets; // group 2
-pub mod stretches; // the tree of a set, counted by its definition

@@ -1,5 +1,4 @@
 // Group 2: random sets in stores of many sizes, every reply compared with the plain sorted list.
-use crate::stretches;
 use harness::calls;
 use harness::calls::Call;
 use harness::calls::Reply;

@@ -8,7 +8,7 @@ use store::to_index;
 use store::word;
 ghost use mathlib.Core.Path.{_≡_};
 ghost use lib.ListN.{length};
-ghost use Rattle.harness.specs.Script.{cellOf, callAt, replyAt, playedCall, played, playedIn};
+ghost use Rattle.harness.specs.Script.{both, cellOf, callAt, replyAt, playedCall, played, playedIn};
 
 // A row that makes no call: the word at the first number gets the second.
 const POKE: u32 = 9;
@@ -51,7 +51,7 @@ pub fn reply_at(rows: &[[u32; 10]], i: usize) -> Reply
 
 // Makes a call and compares its reply. A range's third number is the words of its output.
 fn play_call(store: &mut [u32], call: Call, expected: Reply, tally: &mut [u64])
-    ensures { λ _. let p = playedCall (record { store = now (store .entry); tally = now (tally .entry) }) call expected in
+    ensures { λ _. let p = playedCall (both (now (store .entry)) (now (tally .entry))) call expected in
         ⌜ (now (store .exit) ≡ p .store) × (now (tally .exit) ≡ p .tally) ⌝ }
 {
     if call.kind == POKE {
@@ -65,7 +65,7 @@ fn play_call(store: &mut [u32], call: Call, expected: Reply, tally: &mut [u64])
 // Makes the calls of a table one after the other.
 pub fn play(rows: &[[u32; 10]], store: &mut [u32], tally: &mut [u64])
     ensures { λ _. let rs = now (rows .entry) in
-        let p = played rs (record { store = now (store .entry); tally = now (tally .entry) }) 0 (length rs) in
+        let p = played rs (both (now (store .entry)) (now (tally .entry))) 0 (length rs) in
         ⌜ (now (store .exit) ≡ p .store) × (now (tally .exit) ≡ p .tally) ⌝ }
 {
     let mut i: usize = 0;
@@ -77,7 +77,7 @@ pub fn play(rows: &[[u32; 10]], store: &mut [u32], tally: &mut [u64])
 
 // The same on the first n words of a store.
 pub fn play_in(rows: &[[u32; 10]], store: &mut [u32], n: usize, tally: &mut [u64])
-    ensures { λ _. let p = playedIn (now (rows .entry)) (record { store = now (store .entry); tally = now (tally .entry) }) n in
+    ensures { λ _. let p = playedIn (now (rows .entry)) (both (now (store .entry)) (now (tally .entry))) n in
         ⌜ (now (store .exit) ≡ p .store) × (now (tally .exit) ≡ p .tally) ⌝ }
 {
     if n <= store.len() {

@@ -16,6 +16,7 @@ use Rattle.plot.proofs.Laws.{amount-quotient}
 use Rattle.store.specs.Head.{word}
 use Rattle.raw.specs.Words.{alike}
 use Rattle.raw.proofs.Laws.{tests-more}
+use Rattle.raw.proofs.Steps.{steps-turn, steps-out, first-arm, second-arm}
 use Rattle.harness.specs.declared.calls.Call.{Call}
 use Rattle.harness.specs.declared.calls.Reply.{Reply}
 use Rattle.harness.specs.Calls.{refused, given, heldReply}
@@ -23,14 +24,6 @@ use Rattle.model.specs.declared.Sheet.{Sheet}
 use Rattle.model.specs.Model.{placeOf, recordAt, withRecord, leading, rankOf, rankAfter, movedUp, movedDown, inserted, removed}
 use Rattle.model.specs.Model.{holdsKey, foundIn, nextIn, betweenOf, rangeIn, aheadOf, addedTo, noSheet, sheetFrom, summaryIn}
 use Rattle.model.specs.Model.{modelReply, listedIn}
-
--- the arm of a test
-module _ {A : Type 0} (b : Bool) (x y : A) where
-  pub first-arm : b ≡ true → x ≡ elim b [ true ↦ x | false ↦ y ]
-  first-arm e = rw e
-
-  pub second-arm : b ≡ false → y ≡ elim b [ true ↦ x | false ↦ y ]
-  second-arm e = rw e
 
 -- a record, word by word
 module _ (s : List ℕ) (i : ℕ) {p : ℕ} (at : p ≡ placeOf i) where
@@ -115,13 +108,11 @@ module _ (s₀ s : List ℕ) (at i n : ℕ) (h : movedDown s i (n - i) ≡ moved
   pub down-more : {t : List ℕ} {r : Record} → i < n → r ≡ recordAt s (i + 1) → t ≡ withRecord s i r
       → movedDown t (i + 1) (n - (i + 1)) ≡ movedDown s₀ at (n - at)
   unfolding movedDown
-  down-more l er et =
-      let m : n - i ≡ suc (n - (i + 1)) = omega arith in
-      ap (λ x. movedDown x (i + 1) (n - (i + 1))) (et ∙ ap (withRecord s i) er) ∙ ap (movedDown s i) (sym m) ∙ h
+  down-more l er et = steps-turn _ s i n h l (et ∙ ap (withRecord s i) er)
 
   pub down-done : {m : ℕ} → n ≤ i → n ≡ m → s ≡ movedDown s₀ at (m - at)
   unfolding movedDown
-  down-done l e = let z : 0 ≡ n - i = omega arith in ap (movedDown s i) z ∙ h ∙ ap (λ x. movedDown s₀ at (x - at)) e
+  down-done l e = steps-out _ s i n h l ∙ ap (λ x. movedDown s₀ at (x - at)) e
 
 -- a record put in order, and one taken out
 module _ (s : List ℕ) (r : Record) {n : ℕ} (en : n ≡ word s 0) where
@@ -235,16 +226,12 @@ module _ (s : List ℕ) (today : ℕ) (sh : Sheet) (i₀ i n : ℕ)
   pub sheet-more : {sh′ : Sheet} {r : Record} → i < n → r ≡ recordAt s i → sh′ ≡ addedTo sh r today
       → sheetFrom s today sh′ (i + 1) (n - (i + 1)) ≡ sheetFrom s today noSheet i₀ (n - i₀)
   unfolding sheetFrom
-  sheet-more l er es =
-      let m : n - i ≡ suc (n - (i + 1)) = omega arith in
-      ap (λ x. sheetFrom s today x (i + 1) (n - (i + 1))) (es ∙ ap (λ x. addedTo sh x today) er) ∙ ap (sheetFrom s today sh i) (sym m) ∙ h
+  sheet-more l er es = steps-turn _ sh i n h l (es ∙ ap (λ x. addedTo sh x today) er)
 
   pub sheet-done : (low high : ℕ) → n ≤ i → i₀ ≡ rankOf s low → n ≡ rankAfter s high
       → sh ≡ sheetFrom s today noSheet (rankOf s low) (betweenOf s low high)
   unfolding sheetFrom betweenOf
-  sheet-done low high l e f =
-      let z : 0 ≡ n - i = omega arith in
-      ap (sheetFrom s today sh i) z ∙ h ∙ ap₂ (λ x y. sheetFrom s today noSheet x (y - x)) e f
+  sheet-done low high l e f = steps-out _ sh i n h l ∙ ap₂ (λ x y. sheetFrom s today noSheet x (y - x)) e f
 
 -- the replies of find and next
 module _ (s : List ℕ) (k : ℕ) {a : Reply} where

@@ -25,6 +25,7 @@ use Rattle.plot.specs.declared.Record.{Record}
 use Rattle.plot.specs.Money.{amount}
 use Rattle.store.specs.Head.{word}
 use Rattle.raw.specs.Words.{alike}
+use Rattle.raw.specs.Steps.{steps}
 use Rattle.harness.specs.declared.calls.Call.{Call}
 use Rattle.harness.specs.declared.calls.Reply.{Reply}
 use Rattle.model.specs.declared.Sheet.{Sheet}
@@ -60,8 +61,7 @@ movedUp s i (suc n) = movedUp (withRecord s (i + n + 1) (recordAt s (i + n))) i 
 
 -- the first of them first
 unfoldable pub movedDown : List ℕ → ℕ → ℕ → List ℕ
-movedDown s i zero = s
-movedDown s i (suc n) = movedDown (withRecord s i (recordAt s (i + 1))) (i + 1) n
+movedDown = steps (λ s i. withRecord s i (recordAt s (i + 1)))
 
 unfoldable pub inserted : List ℕ → Record → List ℕ
 inserted s r =
@@ -122,8 +122,7 @@ abbrev pub noSheet : Sheet
 noSheet = record { count = 0; total = 0; last = 0; price = 0; key = 0 }
 
 unfoldable pub sheetFrom : List ℕ → ℕ → Sheet → ℕ → ℕ → Sheet
-sheetFrom s today sh i zero = sh
-sheetFrom s today sh i (suc n) = sheetFrom s today (addedTo sh (recordAt s i) today) (i + 1) n
+sheetFrom s today = steps (λ sh i. addedTo sh (recordAt s i) today)
 
 unfoldable pub summaryIn : List ℕ → ℕ → ℕ → ℕ → Reply
 summaryIn s low high today =

@@ -7,9 +7,11 @@ use store::to_index;
 use store::word;
 ghost use mathlib.Core.Path.{_≡_};
 ghost use Prim.Native.Nat.{_+_, _*_, _%_, _^_, _≤_, _<_};
+ghost use lib.ListN.{replicate};
+ghost use Rattle.lists.specs.Lists.{every};
 ghost use Rattle.store.specs.Head.{word};
-ghost use Rattle.raw.specs.Blocks.{nodeBlock};
-ghost use Rattle.raw.specs.Twins.{samePage, twin, samePointer};
+ghost use Rattle.raw.specs.Twins.{nodeWord, entriesOf, paired, pairedFrom, pairedBelow, pairedAll, samePage, twin, samePointer};
+ghost use Rattle.raw.specs.Twins.{sameLink, sameEntries, sameNode, apartFrom, sameHead, sameTree};
 
 // The words before a node's entries.
 const DEPTH: usize = 0;
@@ -37,20 +39,23 @@ fn pointer(store: &[u32], at: usize, j: usize) -> u32
 // A word of a node, by its place in the block.
 fn node_word(store: &[u32], n: u32, i: usize) -> u32
     requires { ⌜ i < 4 ⌝ }
-    ensures { λ r. ⌜ r ≡ word (now (store .entry)) (nodeBlock (now (store .entry)) n + i) ⌝ }
+    ensures { λ r. ⌜ r ≡ nodeWord (now (store .entry)) n i ⌝ }
 {
     word(store, blocks::node_at(store, n) + i)
 }
 
 // The entries of a node: 2^H.
 fn entries(store: &[u32], n: u32) -> usize
-    ensures { λ r. ⌜ (r ≡ 2 ^ (word (now (store .entry)) (nodeBlock (now (store .entry)) n) % 7)) × (r ≤ 64) ⌝ }
+    ensures { λ r. ⌜ (r ≡ entriesOf (now (store .entry)) n) × (r ≤ 64) ⌝ }
 {
     store::pow2(node_word(store, n, DEPTH) % 7)
 }
 
 // Pairs two nodes, and queues the first.
-fn pair(twins: &mut [u32], queue: &mut [u32], a: u32, b: u32) {
+fn pair(twins: &mut [u32], queue: &mut [u32], a: u32, b: u32)
+    ensures { λ _. let q = paired (record { twins = now (twins .entry); queue = now (queue .entry) }) a b in
+        ⌜ (now (twins .exit) ≡ q .twins) × (now (queue .exit) ≡ q .queue) ⌝ }
+{
     if word(twins, to_index(a)) != 0 {
         return;
     }
@@ -61,7 +66,11 @@ fn pair(twins: &mut [u32], queue: &mut [u32], a: u32, b: u32) {
 }
 
 // Pairs the nodes that two paired nodes point to.
-fn pair_children(x: &[u32], y: &[u32], twins: &mut [u32], queue: &mut [u32], a: u32) {
+fn pair_children(x: &[u32], y: &[u32], twins: &mut [u32], queue: &mut [u32], a: u32)
+    ensures { λ _. let x = now (x .entry) in let y = now (y .entry) in
+        let q = pairedFrom x y a (word (now (twins .entry)) a) (record { twins = now (twins .entry); queue = now (queue .entry) }) 0 (entriesOf x a) in
+        ⌜ (now (twins .exit) ≡ q .twins) × (now (queue .exit) ≡ q .queue) ⌝ }
+{
     let ax = blocks::node_at(x, a);
     let ay = blocks::node_at(y, word(twins, to_index(a)));
     let n = entries(x, a);
@@ -72,14 +81,20 @@ fn pair_children(x: &[u32], y: &[u32], twins: &mut [u32], queue: &mut [u32], a: 
     }
 }
 
-fn pair_below(x: &[u32], y: &[u32], twins: &mut [u32], queue: &mut [u32], a: u32) {
+fn pair_below(x: &[u32], y: &[u32], twins: &mut [u32], queue: &mut [u32], a: u32)
+    ensures { λ _. let q = pairedBelow (now (x .entry)) (now (y .entry)) (record { twins = now (twins .entry); queue = now (queue .entry) }) a in
+        ⌜ (now (twins .exit) ≡ q .twins) × (now (queue .exit) ≡ q .queue) ⌝ }
+{
     if node_word(x, a, LEVEL) > 1 {
         pair_children(x, y, twins, queue, a);
     }
 }
 
 // Pairs the nodes of two stores from the roots down.
-fn pair_all(x: &[u32], y: &[u32], twins: &mut [u32], queue: &mut [u32]) {
+fn pair_all(x: &[u32], y: &[u32], twins: &mut [u32], queue: &mut [u32])
+    ensures { λ _. let q = pairedAll (now (x .entry)) (now (y .entry)) (record { twins = now (twins .entry); queue = now (queue .entry) }) in
+        ⌜ (now (twins .exit) ≡ q .twins) × (now (queue .exit) ≡ q .queue) ⌝ }
+{
     pair(twins, queue, word(x, 6), word(y, 6));
     let nodes = to_index(word(x, 4));
     let mut i: usize = 0;
@@ -119,7 +134,9 @@ fn same_pointer(x: &[u32], y: &[u32], twins: &[u32], level: u32, p: u32, q: u32)
 }
 
 // Whether the entries of two nodes are the same.
-fn same_entries(x: &[u32], y: &[u32], twins: &[u32], a: u32, b: u32) -> bool {
+fn same_entries(x: &[u32], y: &[u32], twins: &[u32], a: u32, b: u32) -> bool
+    ensures { λ r. ⌜ r ≡ sameEntries (now (x .entry)) (now (y .entry)) (now (twins .entry)) a b ⌝ }
+{
     let ax = blocks::node_at(x, a);
     let ay = blocks::node_at(y, b);
     let level = node_word(x, a, LEVEL);
@@ -141,26 +158,37 @@ fn same_entries(x: &[u32], y: &[u32], twins: &[u32], a: u32, b: u32) -> bool {
 fn same_link(x: &[u32], y: &[u32], twins: &[u32], a: u32, b: u32, which: usize) -> bool
     requires { ⌜ which < 4 ⌝ }
     ensures { λ r. let x = now (x .entry) in let y = now (y .entry) in
-        ⌜ r ≡ twin (now (twins .entry)) (word x (nodeBlock x a + which)) (word y (nodeBlock y b + which)) ⌝ }
+        ⌜ r ≡ sameLink x y (now (twins .entry)) a b which ⌝ }
 {
     same_twin(twins, node_word(x, a, which), node_word(y, b, which))
 }
 
 // Whether a node and its twin are the same.
-fn same_node(x: &[u32], y: &[u32], twins: &[u32], a: u32) -> bool {
+fn same_node(x: &[u32], y: &[u32], twins: &[u32], a: u32) -> bool
+    ensures { λ r. ⌜ r ≡ sameNode (now (x .entry)) (now (y .entry)) (now (twins .entry)) a ⌝ }
+{
     let b = word(twins, to_index(a));
-    if b == 0 || node_word(x, a, LEVEL) != node_word(y, b, LEVEL) {
+    if b == 0 {
+        return false;
+    }
+    if node_word(x, a, LEVEL) != node_word(y, b, LEVEL) {
         return false;
     }
     if node_word(x, a, DEPTH) != node_word(y, b, DEPTH) {
         return false;
     }
-    same_link(x, y, twins, a, b, BACK)
-        && same_link(x, y, twins, a, b, FORWARD)
-        && same_entries(x, y, twins, a, b)
+    if !same_link(x, y, twins, a, b, BACK) {
+        return false;
+    }
+    if !same_link(x, y, twins, a, b, FORWARD) {
+        return false;
+    }
+    same_entries(x, y, twins, a, b)
 }
 
-fn same_nodes(x: &[u32], y: &[u32], twins: &[u32]) -> bool {
+fn same_nodes(x: &[u32], y: &[u32], twins: &[u32]) -> bool
+    ensures { λ r. let x = now (x .entry) in ⌜ r ≡ every (word x 4) (λ a. sameNode x (now (y .entry)) (now (twins .entry)) (a + 1)) ⌝ }
+{
     let nodes = word(x, 4);
     let mut a: u32 = 0;
     while a < nodes {
@@ -173,29 +201,44 @@ fn same_nodes(x: &[u32], y: &[u32], twins: &[u32]) -> bool {
 }
 
 // Whether no node of the second store is the twin of two.
-fn apart(twins: &[u32], seen: &mut [u32], nodes: u32) -> bool {
+fn apart(twins: &[u32], nodes: u32) -> bool
+    ensures { λ r. ⌜ r ≡ apartFrom (now (twins .entry)) (replicate 4097 0) 0 nodes ⌝ }
+{
+    let mut seen = [0u32; 4097];
     let mut a: u32 = 0;
     while a < nodes {
         let b = to_index(word(twins, to_index(a + 1)));
-        if word(seen, b) != 0 {
+        if word(&seen, b) != 0 {
             return false;
         }
-        put(seen, b, 1);
+        put(&mut seen, b, 1);
         a += 1;
     }
     true
 }
 
 // Whether two heads are the same but for the root.
-fn same_head(x: &[u32], y: &[u32]) -> bool {
-    words::same(x, 0, y, 0, 6) && word(x, 7) == word(y, 7)
+fn same_head(x: &[u32], y: &[u32]) -> bool
+    ensures { λ r. ⌜ r ≡ sameHead (now (x .entry)) (now (y .entry)) ⌝ }
+{
+    if !words::same(x, 0, y, 0, 6) {
+        return false;
+    }
+    word(x, 7) == word(y, 7)
 }
 
 // Whether two stores hold the same tree, block numbers apart.
-pub fn same_tree(x: &[u32], y: &[u32]) -> bool {
+pub fn same_tree(x: &[u32], y: &[u32]) -> bool
+    ensures { λ r. ⌜ r ≡ sameTree (now (x .entry)) (now (y .entry)) ⌝ }
+{
     let mut twins = [0u32; 4097];
     let mut queue = [0u32; 4097];
-    let mut seen = [0u32; 4097];
     pair_all(x, y, &mut twins, &mut queue);
-    apart(&twins, &mut seen, word(x, 4)) && same_head(x, y) && same_nodes(x, y, &twins)
+    if !apart(&twins, word(x, 4)) {
+        return false;
+    }
+    if !same_head(x, y) {
+        return false;
+    }
+    same_nodes(x, y, &twins)
 }

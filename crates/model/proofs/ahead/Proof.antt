@@ -1,7 +1,7 @@
 -- The two tests of the definition.
 use borrow.Author.Tests.{eq-eqb, ne-eqb}
+use Rattle.raw.proofs.Steps.{first-arm, second-arm}
 use Rattle.model.specs.Model.{aheadOf}
-use Rattle.model.proofs.Laws.{first-arm, second-arm}
 use Rattle.model.proofs.ahead.Statement.{statement}
 use Rattle.model.proofs.ahead.Tie as tie
 

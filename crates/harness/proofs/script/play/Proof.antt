@@ -4,7 +4,7 @@ use mathlib.Core.Path.{_≡_}
 use Prim.Native.Nat.{_-_}
 use native.Mathlib.Omega.{arith}
 use lib.ListN.{length}
-use Rattle.harness.specs.Script.{played}
+use Rattle.harness.specs.Script.{both, played}
 use Rattle.harness.proofs.ScriptLaws.{played-first, played-turn, played-out}
 use Rattle.harness.proofs.script.play.Statement.{statement}
 use Rattle.harness.proofs.script.play.Tie as tie
@@ -13,8 +13,7 @@ abbrev Inv-loop : tie.InvT-loop
 Inv-loop rows store₀ tally₀ i₀ store tally i =
     (length store ≡ length store₀)
     × (length tally ≡ length tally₀)
-    × (played rows (record { store = store; tally = tally }) i (length rows - i)
-    ≡ played rows (record { store = store₀; tally = tally₀ }) 0 (length rows))
+    × (played rows (both store tally) i (length rows - i) ≡ played rows (both store₀ tally₀) 0 (length rows))
 
 abbrev μ-loop : tie.MeasureT-loop
 μ-loop rows store₀ tally₀ i₀ store tally i = length rows - i
@@ -34,7 +33,7 @@ loop-again c =
     )
 
 returns : tie.Need-returns Inv-loop μ-loop
-returns c = let l = c .before .loop in played-out _ (l .i) (omega arith) (l .inv .2)
+returns c = let l = c .before .loop in played-out _ (l .i) (l .inv .2) (omega arith)
 
 pub play-spec : {M : Type 1} → statement M
 play-spec =

@@ -9,7 +9,8 @@ returns : tie.Need-returns
 returns c =
     let q = c .before in
     let p = q .before in
-    c .same-twin .ensures ∙ ap₂ (twin (p .before .before .before .before .args .twins .now)) (p .node-word .ensures) (q .node-word2 .ensures)
+    let a = p .before .before .before .before .args in
+    c .same-twin .ensures ∙ ap₂ (twin (a .twins .now)) (p .node-word .ensures) (q .node-word2 .ensures)
 
 pub same-link-spec : {M : Type 1} → statement M
 same-link-spec = tie.close (tie.spec (λ c κs. search needs) (λ c κs. search needs) (λ c κs. search needs) returns)

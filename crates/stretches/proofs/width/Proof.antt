@@ -4,8 +4,8 @@ use mathlib.Core.Path.{ap, _∙_}
 use Prim.Native.Nat.{_^_}
 use native.Mathlib.Omega.{arith}
 use Rattle.lists.proofs.Shifts.{shl-one, pow-within}
-use Rattle.groups.proofs.stretches.width.Statement.{statement}
-use Rattle.groups.proofs.stretches.width.Tie as tie
+use Rattle.stretches.proofs.width.Statement.{statement}
+use Rattle.stretches.proofs.width.Tie as tie
 
 returns : tie.Need-returns
 returns c =
