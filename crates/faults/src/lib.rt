@@ -10,8 +10,8 @@ use store::to_index;
 ghost use mathlib.Core.Path.{_≡_};
 ghost use lib.ListN.{length};
 ghost use Rattle.harness.specs.Script.{both};
-ghost use Rattle.faults.specs.Faults.{callOn, numberedReply, answeredIn, answersFrom, broken, brokenRow, brokenFrom, nodePut, pathPut};
-ghost use Rattle.faults.specs.Faults.{levelsPut, deepPut};
+ghost use Rattle.faults.specs.Faults.{callOn, numberedReply, answeredIn, answersFrom, broken, brokenRow, brokenFrom, nodePut};
+ghost use Rattle.faults.specs.Faults.{pathPut, levelsPut, deepPut};
 
 const SIZE: usize = 184;
 

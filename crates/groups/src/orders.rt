@@ -6,7 +6,10 @@ use harness::report;
 use plot::Record;
 use raw::twins;
 use raw::words;
-use store::widen;
+ghost use mathlib.Core.Path.{_≡_};
+ghost use Rattle.store.specs.Head.{word};
+ghost use Rattle.harness.specs.Script.{both};
+ghost use Rattle.groups.specs.Orders.{placedIn, enteredOnce, enteredFrom, filledIn, comparedIn, orderedFrom};
 
 // θ, C, N, P, pattern, records.
 const SETTINGS: [[u32; 10]; 16] = [
@@ -48,7 +51,9 @@ pub fn draw_set(list: &mut [u32], drawn: &mut [u32], setting: Setting) {
 }
 
 // The record at place i of an order: 0 ascending, 1 descending, 2 as drawn, 3 with a stride.
-fn record_in(list: &[u32], drawn: &[u32], order: u32, i: u32) -> Record {
+fn record_in(list: &[u32], drawn: &[u32], order: u32, i: u32) -> Record
+    ensures { λ r. ⌜ r ≡ placedIn (now (list .entry)) (now (drawn .entry)) order i ⌝ }
+{
     let n = model::size(list);
     match order {
         0 => model::record_at(list, i),
@@ -59,17 +64,24 @@ fn record_in(list: &[u32], drawn: &[u32], order: u32, i: u32) -> Record {
 }
 
 // An entry is done; levels and blocks are compared at the end.
-fn enter(store: &mut [u32], record: Record, tally: &mut [u64]) {
+fn enter(store: &mut [u32], plot: Record, tally: &mut [u64])
+    ensures { λ _. let q = enteredOnce (both (now (store .entry)) (now (tally .entry))) plot in
+        ⌜ (now (store .exit) ≡ q .store) × (now (tally .exit) ≡ q .tally) ⌝ }
+{
     let mut out = [0u32; 1];
-    let got = calls::reply_to(store, &mut out, calls::entry(record));
-    let expected = calls::done(widen(record.key), got.b, got.c, got.d);
+    let got = calls::reply_to(store, &mut out, calls::entry(plot));
+    let expected = calls::done(plot.key as u64, got.b, got.c, got.d);
     report::judge(tally, expected, got);
     if got.number == 0 {
         report::add(tally, report::ENTRIES);
     }
 }
 
-fn enter_all(store: &mut [u32], list: &[u32], drawn: &[u32], order: u32, tally: &mut [u64]) {
+fn enter_all(store: &mut [u32], list: &[u32], drawn: &[u32], order: u32, tally: &mut [u64])
+    ensures { λ _. let l = now (list .entry) in
+        let q = enteredFrom l (now (drawn .entry)) order (both (now (store .entry)) (now (tally .entry))) 0 (word l 0) in
+        ⌜ (now (store .exit) ≡ q .store) × (now (tally .exit) ≡ q .tally) ⌝ }
+{
     let n = model::size(list);
     let mut i: u32 = 0;
     while i < n {
@@ -86,7 +98,11 @@ pub fn fill_store(
     setting: Setting,
     order: u32,
     tally: &mut [u64],
-) -> u32 {
+) -> u32
+    ensures { λ r. let p = both (now (store .entry)) (now (tally .entry)) in
+        let q = filledIn (now (list .entry)) (now (drawn .entry)) setting order p in
+        ⌜ (r ≡ q .size) × (now (store .exit) ≡ q .played .store) × (now (tally .exit) ≡ q .played .tally) ⌝ }
+{
     let size = sets::prepare(store, setting);
     report::hold(tally, size > 0, b"the store is set up");
     enter_all(store, list, drawn, order, tally);
@@ -94,7 +110,10 @@ pub fn fill_store(
 }
 
 // The listing is the list, and the tree is that of the first store.
-fn compare(first: &[u32], store: &mut [u32], list: &[u32], tally: &mut [u64]) {
+fn compare(first: &[u32], store: &mut [u32], list: &[u32], tally: &mut [u64])
+    ensures { λ _. let q = comparedIn (now (first .entry)) (now (list .entry)) (both (now (store .entry)) (now (tally .entry))) in
+        ⌜ (now (store .exit) ≡ q .store) × (now (tally .exit) ≡ q .tally) ⌝ }
+{
     sets::parts(store, list, 1023, tally);
     report::hold(
         tally,
@@ -111,7 +130,11 @@ fn other_orders(
     drawn: &[u32],
     setting: Setting,
     tally: &mut [u64],
-) {
+)
+    ensures { λ _. let p = both (now (store .entry)) (now (tally .entry)) in
+        let q = orderedFrom (now (first .entry)) (now (list .entry)) (now (drawn .entry)) setting p 1 3 in
+        ⌜ (now (store .exit) ≡ q .store) × (now (tally .exit) ≡ q .tally) ⌝ }
+{
     let mut order: u32 = 1;
     while order < 4 {
         fill_store(store, list, drawn, setting, order, tally);

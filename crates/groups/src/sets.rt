@@ -10,6 +10,13 @@ use raw::words;
 use store::to_index;
 use store::widen;
 use store::word;
+ghost use mathlib.Core.Path.{_≡_};
+ghost use mathlib.Core.List.{[], _∷_};
+ghost use Prim.Native.Nat.{_%_, _^_};
+ghost use Rattle.harness.specs.Calls.{ranOf, replyTo};
+ghost use Rattle.harness.specs.Script.{both};
+ghost use Rattle.groups.specs.Sets.{settingOf, joinedIn, bookedIn, acceptedIn, enteredIn, setUpCall, partIn, partOf, readIn, partsOf};
+ghost use Rattle.groups.specs.Sets.{allParts};
 
 // A store and the set that is entered: θ, C, N, P, how keys are drawn, how many records, the seed.
 pub struct Setting {
@@ -59,7 +66,9 @@ const SETTINGS: [[u32; 10]; 32] = [
 ];
 
 // The setting of a row; its seed is made of the row's number.
-pub fn setting_of(rows: &[[u32; 10]], i: usize) -> Setting {
+pub fn setting_of(rows: &[[u32; 10]], i: usize) -> Setting
+    ensures { λ r. ⌜ r ≡ settingOf (now (rows .entry)) i ⌝ }
+{
     Setting {
         theta: script::cell(rows, i, 0),
         capacity: script::cell(rows, i, 1),
@@ -115,44 +124,55 @@ fn tried_at(setting: Setting, i: u32) -> Record {
 }
 
 // A lawful record that is not held joins the list, unless the tree does not fit then.
-fn joined(list: &mut [u32], setting: Setting, record: Record) -> Reply {
-    model::insert(list, record);
+fn joined(list: &mut [u32], setting: Setting, plot: Record) -> Reply
+    ensures { λ r. let q = joinedIn (now (list .entry)) setting plot in
+        ⌜ (r ≡ q .reply) × (now (list .exit) ≡ q .list) ⌝ }
+{
+    model::insert(list, plot);
     let counts = stretches::counts_of(list, setting.theta, setting.capacity);
-    if counts.nodes <= setting.nodes && counts.pages <= setting.pages {
-        return calls::done(
-            widen(record.key),
-            widen(counts.levels),
-            widen(counts.nodes),
-            widen(counts.pages),
-        );
+    if (counts.nodes > setting.nodes) | (counts.pages > setting.pages) {
+        model::remove(list, plot.key);
+        return calls::refusal(10);
     }
-    model::remove(list, record.key);
-    calls::refusal(10)
+    calls::done(
+        plot.key as u64,
+        counts.levels as u64,
+        counts.nodes as u64,
+        counts.pages as u64,
+    )
 }
 
 // The book's reply to an entry, with the list brought up to date.
-pub fn booked(list: &mut [u32], setting: Setting, record: Record) -> Reply {
-    if !model::lawful(record) {
+pub fn booked(list: &mut [u32], setting: Setting, plot: Record) -> Reply
+    ensures { λ r. let q = bookedIn (now (list .entry)) setting plot in
+        ⌜ (r ≡ q .reply) × (now (list .exit) ≡ q .list) ⌝ }
+{
+    if !model::lawful(plot) {
         return calls::refusal(6);
     }
-    if model::holds(list, record.key) {
+    if model::holds(list, plot.key) {
         return calls::refusal(8);
     }
-    joined(list, setting, record)
+    joined(list, setting, plot)
 }
 
 // An accepted entry is counted, and its reply compared with the head's words.
-fn accepted(store: &[u32], reply: Reply, tally: &mut [u64]) {
-    let levels = widen(word(store, 7));
-    let nodes = widen(word(store, 4));
-    let pages = widen(word(store, 5));
+fn accepted(store: &[u32], reply: Reply, tally: &mut [u64])
+    ensures { λ _. ⌜ now (tally .exit) ≡ acceptedIn (now (store .entry)) reply (now (tally .entry)) ⌝ }
+{
+    let levels = word(store, 7) as u64;
+    let nodes = word(store, 4) as u64;
+    let pages = word(store, 5) as u64;
     report::add(tally, report::ENTRIES);
     report::compare(tally, calls::done(reply.a, levels, nodes, pages), reply);
 }
 
 // Enters a record, and compares the reply with the book's.
-fn entry(store: &mut [u32], expected: Reply, record: Record, tally: &mut [u64]) {
-    let outcome = calls::watched_in(store, 64, calls::entry(record));
+fn entry(store: &mut [u32], expected: Reply, plot: Record, tally: &mut [u64])
+    ensures { λ _. let q = enteredIn (both (now (store .entry)) (now (tally .entry))) expected plot in
+        ⌜ (now (store .exit) ≡ q .store) × (now (tally .exit) ≡ q .tally) ⌝ }
+{
+    let outcome = calls::watched_in(store, 64, calls::entry(plot));
     let reply = outcome.reply;
     report::judge_outcome(tally, expected, outcome);
     if reply.number == 0 {
@@ -161,7 +181,10 @@ fn entry(store: &mut [u32], expected: Reply, record: Record, tally: &mut [u64]) 
 }
 
 // A range, with the records that it lists; the first key not written.
-fn part_in(store: &mut [u32], list: &[u32], out: &mut [u32], call: Call, tally: &mut [u64]) -> u32 {
+fn part_in(store: &mut [u32], list: &[u32], out: &mut [u32], call: Call, tally: &mut [u64]) -> u32
+    ensures { λ r. let q = partIn (now (list .entry)) (both (now (store .entry)) (now (tally .entry))) (now (out .entry)) call in
+        ⌜ (r ≡ q .next) × (now (store .exit) ≡ q .store) × (now (out .exit) ≡ q .out) × (now (tally .exit) ≡ q .tally) ⌝ }
+{
     let n = to_index(call.c);
     if n > out.len() {
         return 0;
@@ -178,13 +201,19 @@ fn part_in(store: &mut [u32], list: &[u32], out: &mut [u32], call: Call, tally: 
 }
 
 // The same with an output of its own, of at most 1,024 words.
-fn part(store: &mut [u32], list: &[u32], call: Call, tally: &mut [u64]) -> u32 {
+fn part(store: &mut [u32], list: &[u32], call: Call, tally: &mut [u64]) -> u32
+    ensures { λ r. let q = partOf (now (list .entry)) (both (now (store .entry)) (now (tally .entry))) call in
+        ⌜ (r ≡ q .next) × (now (store .exit) ≡ q .store) × (now (tally .exit) ≡ q .tally) ⌝ }
+{
     let mut out = [0u32; 1024];
     part_in(store, list, &mut out, call, tally)
 }
 
 // A reading, compared with the list's.
-fn reading(store: &mut [u32], list: &[u32], call: Call, tally: &mut [u64]) {
+fn reading(store: &mut [u32], list: &[u32], call: Call, tally: &mut [u64])
+    ensures { λ _. let q = readIn (now (list .entry)) (both (now (store .entry)) (now (tally .entry))) call in
+        ⌜ (now (store .exit) ≡ q .store) × (now (tally .exit) ≡ q .tally) ⌝ }
+{
     if call.kind == calls::RANGE {
         part(store, list, call, tally);
         return;
@@ -234,7 +263,10 @@ fn tries(store: &mut [u32], list: &mut [u32], setting: Setting, tally: &mut [u64
 }
 
 // The whole range in parts, each from the first key that the one before did not write.
-pub fn parts(store: &mut [u32], list: &[u32], room: u32, tally: &mut [u64]) {
+pub fn parts(store: &mut [u32], list: &[u32], room: u32, tally: &mut [u64])
+    ensures { λ _. let q = partsOf (now (list .entry)) room (both (now (store .entry)) (now (tally .entry))) in
+        ⌜ (now (store .exit) ≡ q .store) × (now (tally .exit) ≡ q .tally) ⌝ }
+{
     let mut low: u32 = 0;
     let mut turn: u32 = 0;
     while turn < 1024 {
@@ -253,7 +285,10 @@ pub fn parts(store: &mut [u32], list: &[u32], room: u32, tally: &mut [u64]) {
 }
 
 // Sets a store up for a setting; the size, 0 if refused.
-pub fn prepare(store: &mut [u32], setting: Setting) -> u32 {
+pub fn prepare(store: &mut [u32], setting: Setting) -> u32
+    ensures { λ r. let s = now (store .entry) in
+        ⌜ (r ≡ replyTo (setUpCall setting) s (0 ∷ []) .a % 2 ^ 32) × (now (store .exit) ≡ ranOf (setUpCall setting) s (0 ∷ []) .store) ⌝ }
+{
     let call = calls::ask(
         calls::SET_UP,
         setting.theta,
@@ -265,7 +300,10 @@ pub fn prepare(store: &mut [u32], setting: Setting) -> u32 {
     words::low(calls::reply_to(store, &mut out, call).a)
 }
 
-fn all_parts(store: &mut [u32], list: &[u32], tally: &mut [u64]) {
+fn all_parts(store: &mut [u32], list: &[u32], tally: &mut [u64])
+    ensures { λ _. let q = allParts (now (list .entry)) (both (now (store .entry)) (now (tally .entry))) in
+        ⌜ (now (store .exit) ≡ q .store) × (now (tally .exit) ≡ q .tally) ⌝ }
+{
     parts(store, list, 1023, tally);
     parts(store, list, 30, tally);
     parts(store, list, 4, tally);

@@ -13,7 +13,8 @@ use Rattle.lists.proofs.Tests.{or-holds, passed, failed}
 use Rattle.store.specs.Head.{word}
 use Rattle.raw.specs.Words.{alike}
 use Rattle.raw.specs.Blocks.{nodeBlock, pageSize, pageBlock}
-use Rattle.raw.specs.Twins.{nodeWord, entriesOf, depthAt, pointerAt, Paired, paired, pairedFrom, pairedBelow, pairedNext, pairedAll}
+use Rattle.raw.specs.Twins.{nodeWord, entriesOf, depthAt, pointerAt, Paired, both, paired, pairedFrom, pairedBelow}
+use Rattle.raw.specs.Twins.{pairedNext, pairedAll}
 use Rattle.raw.specs.Twins.{samePage, twin, samePointer, sameLink, sameEntries, sameNode, apartFrom, sameHead, sameTree}
 use Rattle.raw.proofs.Laws.{tests-more, tests-fail}
 use Rattle.raw.proofs.Steps.{steps-first, steps-turn, steps-out}
@@ -21,9 +22,6 @@ use Rattle.raw.proofs.Steps.{steps-first, steps-turn, steps-out}
 -- the twins and the queue of a pairing
 abbrev pub Holds : List ℕ → List ℕ → Paired → Type 0
 Holds t q p = (t ≡ p .twins) × (q ≡ p .queue)
-
-abbrev pub both : List ℕ → List ℕ → Paired
-both t q = record { twins = t; queue = q }
 
 both-of : {t q : List ℕ} {p : Paired} → Holds t q p → both t q ≡ p
 both-of h = ap₂ both (h .0) (h .1)

@@ -2,7 +2,7 @@
 --   nodeWord x a i == word i of node a
 --   entriesOf x a  == how many entries a node has: 2^H
 --   depthAt x a j, pointerAt x a j == entry j of node a
---   Paired         == the second store's node for each of the first, and the nodes to visit, their count first
+--   Paired, both t q == the second store's node for each of the first, and the nodes to visit, their count first
 --   paired p a b   == the nodes a and b paired, unless a has a twin
 --   pairedFrom x y a b p j n == what n entries of two nodes point to, from entry j on
 --   pairedBelow x y p a == what node a and its twin point to, if that is nodes
@@ -44,11 +44,14 @@ pub record Paired : Type 0 where
   pub twins : List ℕ
   pub queue : List ℕ
 
+abbrev pub both : List ℕ → List ℕ → Paired
+both t q = record { twins = t; queue = q }
+
 unfoldable pub paired : Paired → ℕ → ℕ → Paired
 paired p a b =
     let n = min (word (p .queue) 0 + 1) (2 ^ 32 - 1) in
     elim (eqb (word (p .twins) a) 0) [
-      | true ↦ record { twins = set (p .twins) a b; queue = set (set (p .queue) n a) 0 n }
+      | true ↦ both (set (p .twins) a b) (set (set (p .queue) n a) 0 n)
       | false ↦ p
     ]
 
@@ -102,5 +105,5 @@ sameHead x y = alike x 0 y 0 6 && eqb (word x 7) (word y 7)
 unfoldable pub sameTree : List ℕ → List ℕ → Bool
 sameTree x y =
     let none : List ℕ = replicate 4097 0 in
-    let p = pairedAll x y (record { twins = none; queue = none }) in
+    let p = pairedAll x y (both none none) in
     apartFrom (p .twins) none 0 (word x 4) && sameHead x y && every (word x 4) (λ a. sameNode x y (p .twins) (a + 1))

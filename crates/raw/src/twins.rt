@@ -10,7 +10,7 @@ ghost use Prim.Native.Nat.{_+_, _*_, _%_, _^_, _≤_, _<_};
 ghost use lib.ListN.{replicate};
 ghost use Rattle.lists.specs.Lists.{every};
 ghost use Rattle.store.specs.Head.{word};
-ghost use Rattle.raw.specs.Twins.{nodeWord, entriesOf, paired, pairedFrom, pairedBelow, pairedAll, samePage, twin, samePointer};
+ghost use Rattle.raw.specs.Twins.{nodeWord, entriesOf, both, paired, pairedFrom, pairedBelow, pairedAll, samePage, twin, samePointer};
 ghost use Rattle.raw.specs.Twins.{sameLink, sameEntries, sameNode, apartFrom, sameHead, sameTree};
 
 // The words before a node's entries.
@@ -53,7 +53,7 @@ fn entries(store: &[u32], n: u32) -> usize
 
 // Pairs two nodes, and queues the first.
 fn pair(twins: &mut [u32], queue: &mut [u32], a: u32, b: u32)
-    ensures { λ _. let q = paired (record { twins = now (twins .entry); queue = now (queue .entry) }) a b in
+    ensures { λ _. let q = paired (both (now (twins .entry)) (now (queue .entry))) a b in
         ⌜ (now (twins .exit) ≡ q .twins) × (now (queue .exit) ≡ q .queue) ⌝ }
 {
     if word(twins, to_index(a)) != 0 {
@@ -68,7 +68,7 @@ fn pair(twins: &mut [u32], queue: &mut [u32], a: u32, b: u32)
 // Pairs the nodes that two paired nodes point to.
 fn pair_children(x: &[u32], y: &[u32], twins: &mut [u32], queue: &mut [u32], a: u32)
     ensures { λ _. let x = now (x .entry) in let y = now (y .entry) in
-        let q = pairedFrom x y a (word (now (twins .entry)) a) (record { twins = now (twins .entry); queue = now (queue .entry) }) 0 (entriesOf x a) in
+        let q = pairedFrom x y a (word (now (twins .entry)) a) (both (now (twins .entry)) (now (queue .entry))) 0 (entriesOf x a) in
         ⌜ (now (twins .exit) ≡ q .twins) × (now (queue .exit) ≡ q .queue) ⌝ }
 {
     let ax = blocks::node_at(x, a);
@@ -82,7 +82,7 @@ fn pair_children(x: &[u32], y: &[u32], twins: &mut [u32], queue: &mut [u32], a: 
 }
 
 fn pair_below(x: &[u32], y: &[u32], twins: &mut [u32], queue: &mut [u32], a: u32)
-    ensures { λ _. let q = pairedBelow (now (x .entry)) (now (y .entry)) (record { twins = now (twins .entry); queue = now (queue .entry) }) a in
+    ensures { λ _. let q = pairedBelow (now (x .entry)) (now (y .entry)) (both (now (twins .entry)) (now (queue .entry))) a in
         ⌜ (now (twins .exit) ≡ q .twins) × (now (queue .exit) ≡ q .queue) ⌝ }
 {
     if node_word(x, a, LEVEL) > 1 {
@@ -92,7 +92,7 @@ fn pair_below(x: &[u32], y: &[u32], twins: &mut [u32], queue: &mut [u32], a: u32
 
 // Pairs the nodes of two stores from the roots down.
 fn pair_all(x: &[u32], y: &[u32], twins: &mut [u32], queue: &mut [u32])
-    ensures { λ _. let q = pairedAll (now (x .entry)) (now (y .entry)) (record { twins = now (twins .entry); queue = now (queue .entry) }) in
+    ensures { λ _. let q = pairedAll (now (x .entry)) (now (y .entry)) (both (now (twins .entry)) (now (queue .entry))) in
         ⌜ (now (twins .exit) ≡ q .twins) × (now (queue .exit) ≡ q .queue) ⌝ }
 {
     pair(twins, queue, word(x, 6), word(y, 6));

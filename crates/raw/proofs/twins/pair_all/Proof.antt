@@ -4,8 +4,8 @@ use mathlib.Core.Path.{_≡_}
 use Prim.Native.Nat.{_-_}
 use native.Mathlib.Omega.{arith}
 use lib.ListN.{length}
-use Rattle.raw.specs.Twins.{pairedNext}
-use Rattle.raw.proofs.TwinLaws.{both, next-first, next-turn, next-done}
+use Rattle.raw.specs.Twins.{both, pairedNext}
+use Rattle.raw.proofs.TwinLaws.{next-first, next-turn, next-done}
 use Rattle.raw.proofs.twins.pair_all.Statement.{statement}
 use Rattle.raw.proofs.twins.pair_all.Tie as tie
 

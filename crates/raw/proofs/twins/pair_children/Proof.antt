@@ -6,8 +6,8 @@ use native.Mathlib.Omega.{arith}
 use lib.ListN.{length}
 use Rattle.store.specs.Head.{word}
 use Rattle.raw.specs.Blocks.{nodeBlock}
-use Rattle.raw.specs.Twins.{pairedFrom}
-use Rattle.raw.proofs.TwinLaws.{both, from-first, from-turn, from-done}
+use Rattle.raw.specs.Twins.{both, pairedFrom}
+use Rattle.raw.proofs.TwinLaws.{from-first, from-turn, from-done}
 use Rattle.raw.proofs.twins.pair_children.Statement.{statement}
 use Rattle.raw.proofs.twins.pair_children.Tie as tie
 
