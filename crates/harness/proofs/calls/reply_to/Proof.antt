@@ -1,6 +1,6 @@
 -- The four values, zeros at first.
 use borrow.Author.Needs.{needs}
-use mathlib.Core.Path.{_≡_, refl, sym, ap, _∙_}
+use mathlib.Core.Path.{refl}
 use Rattle.harness.specs.Calls.{replyTo, replyOf}
 use Rattle.harness.proofs.calls.reply_to.Statement.{statement}
 use Rattle.harness.proofs.calls.reply_to.Tie as tie

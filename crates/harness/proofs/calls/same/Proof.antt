@@ -1,5 +1,4 @@
 -- Field by field.
-use borrow.Author.Needs.{needs}
 use mathlib.Core.Path.{refl}
 use borrow.Author.Tests.{eq-eqb, ne-eqb}
 use Rattle.harness.specs.Calls.{sameReply}
