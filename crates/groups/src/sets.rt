@@ -86,7 +86,7 @@ fn extreme(n: u32) -> u32 {
 }
 
 // The key at a place: 0 uniform, 1 bursts of neighbours, 2 long common prefixes, 3 extremes.
-pub fn key_at(pattern: u32, seed: u32, i: u32) -> u32 {
+fn key_at(pattern: u32, seed: u32, i: u32) -> u32 {
     let x = random::draw(seed, i);
     match pattern {
         0 => x,

@@ -11,7 +11,7 @@ ghost use Rattle.exports.specs.Reply.{filled};
 ghost use Rattle.harness.specs.Calls.{refused, given, heldReply, sameReply, recordOf, entryOf, ranOf, replyTo};
 ghost use Rattle.harness.specs.Calls.{marked, writtenOut, openWords, stays, outcome};
 
-// The kinds of calls.
+// The kinds of calls. Any other number converts a key.
 pub const SET_UP: u32 = 0;
 
 pub const ENTER: u32 = 1;
@@ -29,8 +29,6 @@ pub const BALANCE: u32 = 6;
 pub const KEY_OF: u32 = 7;
 
 pub const LABEL_OF: u32 = 8;
-
-pub const CONVERT: u32 = 10;
 
 // What the words of an output hold before a call.
 pub const MARK: u32 = 4277009102;

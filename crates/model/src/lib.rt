@@ -64,7 +64,7 @@ fn put_record(list: &mut [u32], i: u32, plot: Record)
 }
 
 // How many keys are below a key.
-pub fn rank(list: &[u32], key: u32) -> u32
+fn rank(list: &[u32], key: u32) -> u32
     ensures { λ r. ⌜ r ≡ rankOf (now (list .entry)) key ⌝ }
 {
     let n = size(list);
