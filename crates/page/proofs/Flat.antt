@@ -1,18 +1,22 @@
 -- The words of records, one after another.
 use mathlib.Core.Path.{_≡_, refl, sym, ap, _∙_}
 use mathlib.Core.List.{List, [], _∷_, _++_, append-assoc}
-use Prim.Native.Nat.{ℕ, _*_, _%_, _^_, _≤_}
+use Prim.Native.Nat.{ℕ, _*_, _%_, _^_, _≤_, _<_}
 use native.Mathlib.Omega.{arith}
 use lib.ListN.{length, drop, set, length-append}
 use Rattle.store.specs.declared.Format.{Format}
 use Rattle.store.specs.declared.Format.the-variants.{Plots}
 use Rattle.store.specs.declared.Item.{Item}
-use Rattle.store.specs.Format.{words}
+use Rattle.store.specs.Format.{width, words}
 use Rattle.page.specs.Page.{itemWords, flat}
 
 pub plot-words : (f : Format) → words f ≡ 4
 unfolding words
 plot-words Plots = refl
+
+pub plot-key : (f : Format) (k : ℕ) → k < 2 ^ width f → k < 2 ^ 32
+unfolding width
+plot-key Plots k h = h
 
 pub set-four : (p : List ℕ) (a b c d : ℕ) → 4 ≤ length p → set (set (set (set p 0 a) 1 b) 2 c) 3 d ≡ a ∷ b ∷ c ∷ d ∷ drop 4 p
 set-four [] a b c d h = absurd (omega arith)

@@ -4,17 +4,19 @@
 use mathlib.Core.Path.{_≡_, refl, sym, ap, _∙_}
 use mathlib.Core.Bool.{Bool, true, false, _&&_, false≢true}
 use mathlib.Core.List.{List}
-use Prim.Native.Nat.{ℕ, zero, suc, _+_, _≤_, _<_}
+use Prim.Native.Nat.{ℕ, zero, suc, _+_, _^_, _≤_, _<_}
 use native.Mathlib.Decide.{decLt}
 use native.Mathlib.Numerals.{add-one}
 use native.Mathlib.Omega.{arith}
 use lib.Dec.{ltb}
+use lib.Pow.{pow-pos}
 use borrow.Author.Count.{below-more}
 use borrow.Author.Tests.{ltb-true, ltb-false, lt-ltb}
 use Rattle.lists.proofs.Cases.{by-cases}
 use Rattle.lists.proofs.Tests.{and-true, same-test, untrue}
 use Rattle.store.specs.declared.Format.{Format}
 use Rattle.store.specs.declared.Item.{Item}
+use Rattle.store.specs.Format.{width}
 use Rattle.page.specs.declared.Progress.{Progress}
 use Rattle.page.specs.Page.{itemAt, keyAt, lawfulItem, inTurn, begun, goesOn, checkedOf, ordered}
 use Rattle.page.proofs.Laws.{Ordered, ordered-facts, facts-ordered, lawful-key}
@@ -26,6 +28,7 @@ pub record Reached (f : Format) (pg : List ℕ) (n : ℕ) (p : Progress) (i : �
   pub counted : i + p .left ≡ n
   pub good : p .good ≡ ordered f pg i
   pub before : Before f pg i (p .key)
+  pub short : p .key < 2 ^ width f
 
 pub goes-on : (p : Progress) → goesOn p ≡ true → 0 < p .left
 unfolding goesOn
@@ -97,6 +100,7 @@ module _ (f : Format) (pg : List ℕ) where
         counted = omega arith;
         good = sym (facts-ordered f pg 0 (record { lawful = λ i q. absurd (omega arith); ascends = λ i j q r. absurd (omega arith) }));
         before = (λ e. refl, λ j e. absurd (omega arith));
+        short = pow-pos (width f);
       }
 
   pub starts : (n : ℕ) {p : Progress} → p ≡ begun n → {i : ℕ} → i ≡ 0 → Reached f pg n p i
@@ -106,9 +110,9 @@ module _ (f : Format) (pg : List ℕ) where
     pub within : goesOn p ≡ true → i < n
     within e = omega (arith, h .counted, goes-on p e)
 
-    step : goesOn p ≡ true → (it : Item) → it ≡ itemAt f pg i → Reached f pg n (checkedOf f p it) (i + 1)
+    step : goesOn p ≡ true → (it : Item) → it ≡ itemAt f pg i → it .key < 2 ^ width f → Reached f pg n (checkedOf f p it) (i + 1)
     unfolding checkedOf
-    step e it d =
+    step e it d s =
         record {
           counted = omega (arith, h .counted, goes-on p e);
           good = ap (λ x. p .good && inTurn f (p .key) x) d ∙ turned i (p .key) (h .good) (h .before);
@@ -116,12 +120,13 @@ module _ (f : Format) (pg : List ℕ) where
             λ z. absurd (omega arith),
             λ j z. let m : i ≡ j = omega arith in ap (λ (x : Item). x .key) d ∙ ap (keyAt f pg) m,
           );
+          short = s;
         }
 
     pub next :
-        goesOn p ≡ true → {it : Item} → it ≡ itemAt f pg i → {p′ : Progress} → p′ ≡ checkedOf f p it → {j : ℕ} → j ≡ i + 1 →
-        Reached f pg n p′ j
-    next e {it = it} d c z = rw (c, z) (step e it d)
+        goesOn p ≡ true → {it : Item} → it ≡ itemAt f pg i → it .key < 2 ^ width f → {p′ : Progress} → p′ ≡ checkedOf f p it →
+        {j : ℕ} → j ≡ i + 1 → Reached f pg n p′ j
+    next e {it = it} d s c z = rw (c, z) (step e it d s)
 
     pub ends : goesOn p ≡ false → p .good ≡ ordered f pg n
     ends e = let m : i ≡ n = omega (arith, h .counted, all-checked p e) in h .good ∙ ap (ordered f pg) m

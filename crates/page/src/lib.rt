@@ -6,6 +6,7 @@ ghost use mathlib.Core.Path.{_≡_};
 ghost use mathlib.Core.Bool.{true};
 ghost use mathlib.Core.List.{_++_};
 ghost use Prim.Native.Nat.{_+_, _*_, _/_, _%_, _^_, _≤_, _<_};
+ghost use lib.Dec.{ltb};
 ghost use lib.ListN.{length, getD, drop};
 ghost use Rattle.store.specs.Format.{width, words};
 ghost use Rattle.page.specs.Page.{count, itemAt, itemWords, lawfulItem, begun, goesOn, inTurn, checkedOf};
@@ -149,17 +150,27 @@ fn goes_on(p: Progress) -> bool
     p.left > 0
 }
 
+// Whether a key is below another. Keys of 32 bits are compared as such, so that the compiler can test four at a time.
+fn key_below(f: Format, a: u64, b: u64) -> bool
+    requires { ⌜ (a < 2 ^ width f) × (b < 2 ^ width f) ⌝ }
+    ensures { λ r. ⌜ r ≡ ltb a b ⌝ }
+{
+    match f {
+        Format::Plots => low_word(a) < low_word(b),
+    }
+}
+
 // Whether a record is lawful and its key is above another.
 fn in_turn(f: Format, key: u64, item: Item) -> bool
-    requires { ⌜ item .key < 2 ^ width f ⌝ }
+    requires { ⌜ (key < 2 ^ width f) × (item .key < 2 ^ width f) ⌝ }
     ensures { λ r. ⌜ r ≡ inTurn f key item ⌝ }
 {
-    lawful_item(f, item) & (key < item.key)
+    lawful_item(f, item) & key_below(f, key, item.key)
 }
 
 // The next record checked.
 fn checked(p: Progress, f: Format, item: Item) -> Progress
-    requires { ⌜ (goesOn p ≡ true) × (item .key < 2 ^ width f) ⌝ }
+    requires { ⌜ (goesOn p ≡ true) × (p .key < 2 ^ width f) × (item .key < 2 ^ width f) ⌝ }
     ensures { λ r. ⌜ r ≡ checkedOf f p item ⌝ }
 {
     Progress {

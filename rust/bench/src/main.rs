@@ -1,7 +1,7 @@
 //! Nanoseconds per operation of the proved library, plain Rust, a sorted map and SQLite, side by side.
 //!
 //!     bench [--quick] [--csv FILE]     prints the tables, and writes the figures to a file
-//!     bench --profile OPERATION        one operation of the proved library over and over, for a profiler
+//!     bench --profile OPERATION [bursts]   one operation of the proved library over and over, for a profiler
 
 mod index;
 #[cfg(sqlite)]
@@ -233,13 +233,13 @@ fn csv(rows: &[Row]) -> String {
     text
 }
 
-/// One operation of the proved library over and over, on 10,000 random keys, 24 to a page.
-fn profile(name: &str) {
+/// One operation of the proved library over and over, on 10,000 random keys or 1,000 in bursts, 24 to a page.
+fn profile(name: &str, bursts: bool) {
     let Some(operation) = OPERATIONS.iter().position(|&operation| operation == name) else {
         eprintln!("bench: operations are {OPERATIONS:?}");
         process::exit(2);
     };
-    let work = Work::new(Pattern::Random, 10_000);
+    let work = if bursts { Work::new(Pattern::Bursts, 1_000) } else { Work::new(Pattern::Random, 10_000) };
     let mut proved = Proved::new(CAPACITY);
     assert!(fill(&mut proved, &work));
     let mut out = vec![0; 4 * work.records.len()];
@@ -258,9 +258,9 @@ fn main() {
         match argument.as_str() {
             "--quick" => quick = true,
             "--csv" => file = arguments.next(),
-            "--profile" => return profile(&arguments.next().unwrap_or_default()),
+            "--profile" => return profile(&arguments.next().unwrap_or_default(), arguments.next().as_deref() == Some("bursts")),
             _ => {
-                eprintln!("bench: [--quick] [--csv FILE], or --profile OPERATION");
+                eprintln!("bench: [--quick] [--csv FILE], or --profile OPERATION [bursts]");
                 process::exit(2);
             }
         }

@@ -10,7 +10,7 @@ use Rattle.page.proofs.checked.Statement.{statement}
 use Rattle.page.proofs.checked.Tie as tie
 
 in-turn-requires : tie.Need-in-turn-requires
-in-turn-requires c κs = c .pre .1
+in-turn-requires c κs = (c .pre .1, c .pre .2)
 
 sub-t6 : tie.Need-sub-t6
 sub-t6 c = omega (arith, goes-on _ (c .before .before .before .pre .0))

@@ -171,11 +171,11 @@ module _ {M : Type 1} (𝓤 : URA M) (H : Heap 𝓤) (A : Atoms 𝓤) (W : Given
 
   module _ (p : Progress) (f : Format) (t : Item) where
     asks-checked :
-        goesOn p ≡ true → t .key < 2 ^ width f →
+        goesOn p ≡ true → p .key < 2 ^ width f → t .key < 2 ^ width f →
         Is P.the-row p (progressVal p ∷ []) → Is F.the-row f (formatVal f ∷ []) → Is I.the-row t (itemVal t ∷ []) →
         ent 𝓤 (emp 𝓤) (Checked 𝓤 H A mem run .pre (to-checked 𝓤 H A mem run p f t))
-    asks-checked on short p-is f-is t-is =
-        qed W [] ∵ says ! (on, short) $ nothing ! $
+    asks-checked on last short p-is f-is t-is =
+        qed W [] ∵ says ! (on, last, short) $ nothing ! $
         owned ! I.the-row (Is I.the-row) (LL.makes I.the-type I′.the-plain 𝓤 H A) t _ t-is $ fjoin ! $
         owned ! F.the-row (Is F.the-row) (EL.makes F.the-type F′.the-plain 𝓤 H A) f _ f-is $ fjoin ! $
         owned ! P.the-row (Is P.the-row) (LL.makes P.the-type P′.the-plain 𝓤 H A) p _ p-is $ fjoin ! $
@@ -240,7 +240,7 @@ module _ {M : Type 1} (𝓤 : URA M) (H : Heap 𝓤) (A : Atoms 𝓤) (W : Given
             r-is = rest-is κ y y-is;
             page = e .2 ∙ t .page;
             reached = next f (now s) n (t .p) (t .r .at) (t .reached) on
-                (e .0 ∙ ap (λ (z : RefT (List ℕ)). itemAt f (now z) (t .r .at)) (t .page)) c (e .3);
+                (e .0 ∙ ap (λ (z : RefT (List ℕ)). itemAt f (now z) (t .r .at)) (t .page)) (e .1) c (e .3);
           }
 
     module _ (ok : n < 2 ^ 64) (room : Room f (now s) n) (f-is : Is F.the-row f (formatVal f ∷ [])) where
@@ -335,7 +335,7 @@ module _ {M : Type 1} (𝓤 : URA M) (H : Heap 𝓤) (A : Atoms 𝓤) (W : Given
               assigns ! (of-opd ! (load ! (from ! (fld ! refl (stop !))) (look-in ! 9 (sub ! 0 refl (whole !))))) (from ! (stop !))
               (init ! 3 refl (item-typed 𝓤 H A W (y .item) (item-is κ y y-is))) $
               use0 W (raw (Checked 𝓤 H A mem run .pre (to-checked 𝓤 H A mem run (t .p) f (y .item))))
-              (asks-checked (t .p) f (y .item) on (e .1) (t .p-is) f-is (item-is κ y y-is)) $
+              (asks-checked (t .p) f (y .item) on (t .reached .short) (e .1) (t .p-is) f-is (item-is κ y y-is)) $
               -- [pre; what the `Read` owns; the token; what s owns; _9; …; _8; …; _7; …; _6; …; _5; …; _4; …; _3; …; _2; …; _1; …; _0; …]
               calls-at ! fm (Checked 𝓤 H A mem run) known-checked (to-checked 𝓤 H A mem run (t .p) f (y .item))
               (and-then ! (load ! (from ! (stop !)) (look ! 14 refl)) (and-then ! (load ! (from ! (stop !)) (look ! 18 refl))

@@ -1,13 +1,12 @@
 -- Each format has its own limits; a key of its bits is not cut short by the cast.
 use borrow.Author.Needs.{needs}
 use mathlib.Core.Path.{_≡_, refl, _∙_}
-use Prim.Native.Nat.{ℕ, _^_, _<_}
 use Rattle.plot.specs.Plot.{lawful}
 use Rattle.store.specs.declared.Format.{Format}
 use Rattle.store.specs.declared.Format.the-variants.{Plots}
 use Rattle.store.specs.declared.Item.{Item}
-use Rattle.store.specs.Format.{width}
 use Rattle.page.specs.Page.{plotOf, lawfulItem}
+use Rattle.page.proofs.Flat.{plot-key}
 use Rattle.page.proofs.lawful_item.Statement.{statement}
 use Rattle.page.proofs.lawful_item.Tie as tie
 
@@ -15,12 +14,8 @@ plots : (f : Format) (it : Item) → lawful (plotOf it) ≡ lawfulItem f it
 unfolding lawfulItem
 plots Plots it = refl
 
-plots-key : (f : Format) (k : ℕ) → k < 2 ^ width f → k < 2 ^ 32
-unfolding width
-plots-key Plots k h = h
-
 cast-t4 : tie.Need-cast-t4
-cast-t4 c = record { fits = plots-key (c .before .args .f) _ (c .before .pre) }
+cast-t4 c = record { fits = plot-key (c .before .args .f) _ (c .before .pre) }
 
 returns : tie.Need-returns
 returns c = c .lawful-record .ensures ∙ plots (c .before .before .args .f) (c .before .before .args .item)
