@@ -2,7 +2,7 @@
 --   Walking f s h w == that
 --   Fuelled .. w    == the same, with turns enough for every key up to high
 --   Summed .. w t, Listed .. w n == the totals t, or n records, are those before the walk w, and what is left from it on makes the whole
-use mathlib.Core.Path.{_≡_, refl, sym, ap, _∙_}
+use mathlib.Core.Path.{_≡_, refl, sym, ap, _∙_, subst}
 use mathlib.Core.Bool.{Bool, true, false}
 use mathlib.Core.List.{List}
 use Prim.Native.Nat.{ℕ, _+_, _-_, _^_, _≤_, _<_}
@@ -18,14 +18,15 @@ use Rattle.page.specs.Page.{count, keyAt, Filled}
 use Rattle.page.proofs.Inside.{page-lent, filled}
 use Rattle.page.proofs.Laws.{rule-facts}
 use Rattle.search.specs.Descent.{terminal}
-use Rattle.search.specs.Span.{spanOf, Rows}
+use Rattle.search.specs.Span.{spanOf, GoesBehind, Rows}
 use Rattle.search.proofs.BlockLaws.{under-levels}
-use Rattle.search.proofs.SpanLaws.{span-whole}
+use Rattle.search.proofs.SpanLaws.{span-whole, span-behind}
+use Rattle.search.proofs.RowLaws.{behind-small}
 use Rattle.scan.specs.declared.Walk.{Walk}
 use Rattle.totals.specs.declared.Totals.{Totals}
 use Rattle.totals.specs.Totals.{noTotals, totalsOf, Bounded}
 use Rattle.totals.proofs.Laws.{bounded-none}
-use Rattle.scan.specs.Walk.{walkOf, lastKey, Standing, rows}
+use Rattle.scan.specs.Walk.{walkOf, lastKey, Behind, Standing, rows}
 use Rattle.scan.specs.Range.{rangeFrom, ranged, listing, listingOf}
 use Rattle.scan.specs.Summary.{sumFrom, summed, summingOf}
 use Rattle.scan.proofs.RangeLaws.{lead, lead-true, lead-false, outcome, outcome-start, same-count}
@@ -53,8 +54,19 @@ module _ {f : Format} {s : List ℕ} {h : Head} (u : Under f s h) {w : Walk} (a 
       let l = under-levels u in
       span-held f s h (a .strict) (w .key) (l .0) (l .1) (w .span) (a .span) walk-ok some
 
+  goes-behind : (w .span .behind ≡ 0 → ⊥) → Behind f s h w
+  goes-behind z =
+      let l = under-levels u in
+      let g = span-behind f s h (a .strict) (w .key) (l .0) (l .1) (a .span) some z in
+      record {
+        terminal = a .terminal ∙ sym (g .0);
+        goes = subst (λ t. GoesBehind f s h (lastKey f s h (w .span)) t (w .span .behind)) (sym (a .terminal)) (g .1);
+        small = behind-small u (a .strict) (w .key) (a .span);
+      }
+
   pub standing : Standing f s h w
-  standing = record { rows = walk-rows; terminal = a .terminal; ok = ap (λ t. t .ok) (a .terminal) ∙ whole .1 }
+  standing =
+      record { rows = walk-rows; terminal = a .terminal; ok = ap (λ t. t .ok) (a .terminal) ∙ whole .1; behind = goes-behind }
 
   -- what is asked where its page, which the code has as pg, is searched
   module _ {pg : List ℕ} (e : pg ≡ pageAt f s h (w .span .page)) where

@@ -74,7 +74,8 @@ fn last_key(store: &[u32], f: Format, head: Head, r: Span) -> u64
     item.key
 }
 
-// The walk after the last record of its span. Where next from there visits the same blocks again it stays in them.
+// The walk after the last record of its span. Where next from there visits the same blocks again it stays in them: it goes on with the run
+// behind the page where that is known.
 fn advance(store: &[u32], f: Format, head: Head, w: Walk, checked: bool) -> Walk
     requires { ⌜ (Under f (now store) head) × (Standing f (now store) head w)
         × (checked ≡ false → spanOf f (now store) head true (lastKey f (now store) head (w .span)) .ok ≡ true) ⌝ }
@@ -83,6 +84,14 @@ fn advance(store: &[u32], f: Format, head: Head, w: Walk, checked: bool) -> Walk
     let from = w.span;
     let t = w.terminal;
     let key = last_key(store, f, head, from);
+    if from.behind != 0 {
+        let span = search::span_behind(store, f, head, key, t, from.behind, checked);
+        return Walk {
+            span,
+            terminal: t,
+            key,
+        };
+    }
     let terminal = terminal_after(store, f, head, t, w.key, key, checked);
     let span = search::span_at(
         store,

@@ -20,7 +20,7 @@ use Rattle.search.specs.declared.Reached.{Reached}
 use Rattle.search.specs.declared.Reached.the-variants.{Broken}
 use Rattle.search.specs.declared.Hop.the-variants.{Ends}
 use Rattle.search.specs.Descent.{TerminalNode}
-use Rattle.search.specs.Next.{firstPointer, runAfter, linked, pointerFrom, hop, reach, behind}
+use Rattle.search.specs.Next.{firstPointer, runAfter, runBehind, linked, pointerFrom, hop, reach}
 use Rattle.search.proofs.BlockLaws.{block-long, block-rule, block-depth}
 use Rattle.search.proofs.NextLaws.{forward-used, turn-ends}
 
@@ -76,11 +76,9 @@ module _ {f : Format} {s : List ℕ} {h : Head} {n : ℕ} {ws : List ℕ} (u : U
       (ap (λ xs. word xs (4 + 2 * j)) e ∙ p .0, ap (λ xs. word xs (5 + 2 * j)) e ∙ p .1) in
       pointer-moved ws s (nodeStart h n) (word ws 0) same 64 i ∙ ap (λ H. firstPointer s (nodeStart h n) H 64 i) (block-depth u (t .in-use) e)
 
-  -- the way on from the run after that of entry i
-  pub behind-is : (d i start : ℕ) → start ≡ runAfter (word ws 0) d i → reach s h (h .nodesTaken + 1) n start ≡ behind s h n d i
-  unfolding behind
-  behind-is d i start p =
-      ap (λ x. reach s h (h .nodesTaken + 1) n x) (p ∙ ap (λ H. runAfter H d i) (block-depth u (t .in-use) e))
+  -- where the run after that of entry i begins
+  pub behind-is : (d i start : ℕ) → start ≡ runAfter (word ws 0) d i → start ≡ runBehind s h n d i
+  behind-is d i start p = p ∙ ap (λ H. runAfter H d i) (block-depth u (t .in-use) e)
 
 -- where no damage is met on the way, none is met at the hop
 pub turn-sound : (s : List ℕ) (h : Head) (turns n i : ℕ) → 0 < turns → {R : Reached} → reach s h turns n i ≡ R → (R ≡ Broken → ⊥)

@@ -1,5 +1,5 @@
 -- Spans as the code has them: its tests, one by one, and what a sound answer says of the blocks behind it.
---   Low r == the span r begins within the capacity
+--   Low r == the span r begins within the capacity; Small r == the run behind it has a small number
 use mathlib.Core.Path.{_≡_, refl, sym, ap, ap₂, _∙_, subst}
 use mathlib.Core.Bool.{Bool, true, false, _&&_, not, false≢true}
 use mathlib.Core.List.{List}
@@ -7,14 +7,17 @@ use Prim.Native.Nat.{ℕ, _+_, _-_, _*_, _/_, _^_, _≤_, _<_}
 use native.Mathlib.Omega.{arith}
 use lib.Dec.{eqb}
 use lib.ListN.{length}
+use lib.Pow.{pow-mono}
 use borrow.Author.Tests.{eqb-true, eq-eqb, ne-eqb}
 use Rattle.lists.proofs.Cases.{by-cases}
 use Rattle.store.specs.declared.Format.{Format}
 use Rattle.store.specs.declared.Head.{Head}
 use Rattle.store.specs.declared.Item.{Item}
 use Rattle.store.specs.Format.{width, words}
-use Rattle.store.specs.Head.{largestCapacity, pageAt, Under}
+use Rattle.store.specs.Head.{largestCapacity, nodeStart, pageAt, Under}
 use Rattle.store.proofs.Places.{under-limits}
+use Rattle.node.specs.Node.{depthWord, entryDepth, entryNumber}
+use Rattle.node.proofs.EntryNumber.{entry-below}
 use Rattle.page.specs.Page.{count, itemAt, keyAt, Lent, Filled, pageRule, agrees, above, firstAbove}
 use Rattle.page.proofs.Laws.{rule-facts}
 use Rattle.page.proofs.Inside.{page-lent, filled, record-inside}
@@ -24,15 +27,21 @@ use Rattle.search.specs.declared.Span.{Span}
 use Rattle.search.specs.declared.Place.{Place}
 use Rattle.search.specs.declared.Reached.{Reached}
 use Rattle.search.specs.declared.Reached.the-variants.{Page, Broken}
-use Rattle.search.specs.Descent.{ownVisit}
+use Rattle.search.specs.Descent.{entryVisit, terminal, ownVisit}
 use Rattle.search.specs.Find.{soundPage}
-use Rattle.search.specs.Next.{behind}
-use Rattle.search.specs.Span.{noSpan, reachedEnd, reachedSpan, ownSpan, spanAt, spanOf, Rows, placeOf, AtKey}
+use Rattle.search.specs.Next.{runAfter, runBehind, behind}
+use Rattle.search.specs.Span.{noSpan, comesBack, firstRow, reachedRows, reachedSpan, ownSpan, spanAt, spanOf, Rows, placeOf, AtKey}
 use Rattle.search.proofs.FindLaws.{sound-rule}
 use Rattle.search.proofs.WithinLaws.{first-after}
-use Rattle.search.proofs.BlockLaws.{under-levels}
-use Rattle.search.proofs.SpanLaws.{reached-gives, reached-below, reached-broken, reached-lost}
+use Rattle.search.proofs.BlockLaws.{under-levels, under-node}
+use Rattle.search.proofs.UseLaws.{at-asked}
+use Rattle.search.proofs.SpanLaws.{rows-all, rows-one, rows-begin, reached-gives, reached-below, reached-broken, reached-lost}
 use Rattle.search.proofs.SpanLaws.{own-null, own-unsound, own-rows, own-after, at-terminal, span-kind, span-rows}
+
+-- a span by its numbers
+span-same : (p : ℕ) {i i′ n n′ b b′ : ℕ} → i ≡ i′ → n ≡ n′ → b ≡ b′
+    → _≡_ {A = Span} (record { ok = true; page = p; from = i; to = n; behind = b }) (record { ok = true; page = p; from = i′; to = n′; behind = b′ })
+span-same p d e g = rw (d, e, g)
 
 -- where the records above a key begin in its own page
 module _ (f : Format) (h : Head) (pg : List ℕ) (strict : Bool) (k used : ℕ) where
@@ -106,20 +115,17 @@ module _ (f : Format) (s : List ℕ) (h : Head) (strict : Bool) (k n u : ℕ) {p
     pub page-below : above strict k (it .key) ≡ false → noSpan false ≡ there
     page-below q = sym (ap (reachedSpan f s h strict k n u) ea ∙ reached-below f s h strict k n u p (rw e at t) (first-key q))
 
-    pub page-gives : above strict k (it .key) ≡ true → {to : ℕ} → to ≡ reachedEnd f s h k n u p
-        → _≡_ {A = Span} (record { ok = true; page = p; from = 0; to = to }) there
-    page-gives q et =
-        ap (λ x. record { ok = true; page = p; from = 0; to = x }) et
-        ∙ sym (ap (reachedSpan f s h strict k n u) ea ∙ reached-gives f s h strict k n u p (rw e at t) (first-key q))
+    pub page-gives : above strict k (it .key) ≡ true → reachedRows f s h k n u p ≡ there
+    page-gives q = sym (ap (reachedSpan f s h strict k n u) ea ∙ reached-gives f s h strict k n u p (rw e at t) (first-key q))
 
--- where its records end; first is what the code has of its first key, v of that key's entry
+-- those of its records that follow; first is what the code has of its first key, v of that key's entry
 module _ (f : Format) (s : List ℕ) (h : Head) (k n u p : ℕ) {pg : List ℕ} (e : pg ≡ pageAt f s h p) {first : ℕ} (ef : first ≡ keyAt f pg 0) where
   is-first : first ≡ keyAt f (pageAt f s h p) 0
   is-first = rw e at ef
 
-  pub end-other : (first / 2 ^ (width f - u) ≡ k / 2 ^ (width f - u) → ⊥) → 1 ≡ reachedEnd f s h k n u p
-  unfolding reachedEnd
-  end-other q = sym (rw (ne-eqb _ _ (rw is-first at q), reachedEnd))
+  pub rows-other : (first / 2 ^ (width f - u) ≡ k / 2 ^ (width f - u) → ⊥) → firstRow p ≡ reachedRows f s h k n u p
+  unfolding comesBack
+  rows-other q = sym (rows-one f s h k n u p (rw (ne-eqb _ _ (rw is-first at q))))
 
   module _ (q : first / 2 ^ (width f - u) ≡ k / 2 ^ (width f - u)) {v : Visit} (ev : v ≡ ownVisit f s h first n u) where
     same-bits : eqb (keyAt f (pageAt f s h p) 0 / 2 ^ (width f - u)) (k / 2 ^ (width f - u)) ≡ true
@@ -128,21 +134,24 @@ module _ (f : Format) (s : List ℕ) (h : Head) (k n u p : ℕ) {pg : List ℕ} 
     entry-is : v ≡ ownVisit f s h (keyAt f (pageAt f s h p) 0) n u
     entry-is = ev ∙ ap (λ x. ownVisit f s h x n u) is-first
 
-    pub end-elsewhere : (v .pointer ≡ p → ⊥) → 1 ≡ reachedEnd f s h k n u p
-    unfolding reachedEnd
-    end-elsewhere z = sym (rw (same-bits, ne-eqb _ _ (rw entry-is at z), reachedEnd))
+    pub rows-elsewhere : (v .pointer ≡ p → ⊥) → firstRow p ≡ reachedRows f s h k n u p
+    unfolding comesBack
+    rows-elsewhere z = sym (rows-one f s h k n u p (rw (same-bits, ne-eqb _ _ (rw entry-is at z))))
 
     module _ (z : v .pointer ≡ p) where
       comes-back : eqb (ownVisit f s h (keyAt f (pageAt f s h p) 0) n u .pointer) p ≡ true
       comes-back = eq-eqb _ _ (rw entry-is at z)
 
-      pub end-first : agrees f pg first (u + v .depth) ≡ false → 1 ≡ reachedEnd f s h k n u p
-      unfolding reachedEnd
-      end-first g = sym (rw (same-bits, comes-back, rw (e, entry-is, is-first) at g, reachedEnd))
+      pub rows-alone : agrees f pg first (u + v .depth) ≡ false → firstRow p ≡ reachedRows f s h k n u p
+      unfolding comesBack
+      rows-alone g = sym (rows-one f s h k n u p (rw (same-bits, comes-back, rw (e, entry-is, is-first) at g)))
 
-      pub end-all : agrees f pg first (u + v .depth) ≡ true → {c : ℕ} → c ≡ count pg → c ≡ reachedEnd f s h k n u p
-      unfolding reachedEnd
-      end-all g ec = ec ∙ ap count e ∙ sym (rw (same-bits, comes-back, rw (e, entry-is, is-first) at g, reachedEnd))
+      pub rows-whole : agrees f pg first (u + v .depth) ≡ true → {c b : ℕ} → c ≡ count pg → b ≡ runBehind s h n (v .depth) (v .entry)
+          → _≡_ {A = Span} (record { ok = true; page = p; from = 0; to = c; behind = b }) (reachedRows f s h k n u p)
+      unfolding comesBack
+      rows-whole g ec eb =
+          span-same p refl (ec ∙ ap count e) (eb ∙ ap (λ x. runBehind s h n (x .depth) (x .entry)) entry-is)
+          ∙ sym (rows-all f s h k n u p (rw (same-bits, comes-back, rw (e, entry-is, is-first) at g)))
 
 -- a sound span behind an entry: the way on met no damage
 pub reached-whole : (f : Format) (s : List ℕ) (h : Head) (strict : Bool) (k n u : ℕ) (a : Reached)
@@ -197,9 +206,10 @@ module _ (f : Format) (s : List ℕ) (h : Head) (strict : Bool) (k : ℕ) (t : T
         ends : n ≡ count (pageAt f s h (v .pointer))
         ends = rw e at en
 
-        pub at-rows : q .from < n → _≡_ {A = Span} (record { ok = true; page = v .pointer; from = q .from; to = n }) whole
-        at-rows l =
-            ap₂ (λ x y. record { ok = true; page = v .pointer; from = x; to = y }) begins ends
+        pub at-rows : q .from < n → {b : ℕ} → b ≡ runBehind s h (t .node) (v .depth) (v .entry)
+            → _≡_ {A = Span} (record { ok = true; page = v .pointer; from = q .from; to = n; behind = b }) whole
+        at-rows l eb =
+            span-same (v .pointer) begins ends eb
             ∙ sym (at-own ∙ own-rows f s h strict k (t .node) (t .used) v z sound (omega (arith, begins, ends)))
 
         pub at-after : n ≤ q .from → whole ≡ onwards
@@ -216,8 +226,41 @@ module _ {f : Format} {s : List ℕ} {h : Head} (u : Under f s h) (strict : Bool
 
   span-low : Low (spanOf f s h strict k)
   span-low =
-      span-kind f s h strict k Low none-low (λ p t o. omega arith)
+      span-kind f s h strict k Low none-low (λ p t o. let e = terminal f s h k in omega (arith, rows-begin f s h k (e .node) (e .used) p))
       (λ o z p l. omega (arith, l, rule-facts f (h .capacity) _ (sound-rule f h _ k _ p) .fits))
+
+  -- and the run behind it begins within the entries of a node
+  run-small : (x : ℕ) → terminal f s h k .ok ≡ true
+      → let t = terminal f s h k in
+      let v = ownVisit f s h x (t .node) (t .used) in
+      runBehind s h (t .node) (v .depth) (v .entry) < 2 ^ 40
+  unfolding ownVisit entryVisit runAfter
+  run-small x o =
+      let t = terminal f s h k in
+      let H = depthWord s (nodeStart h (t .node)) in
+      let i = entryNumber (width f) x (t .used) H in
+      let d = entryDepth s (nodeStart h (t .node)) i in
+      let low : H ≤ 6 = omega (arith, at-asked f s h k u refl o .2, under-node u .0) in
+      omega (arith, entry-below (width f) x (t .used) H, pow-mono {i = H} {j = 6} low, pow-mono {i = H - d} {j = 6} (omega arith))
+
+  abbrev Small : Span → Type 0
+  Small r = r .behind < 2 ^ 40
+
+  none-small : (b : Bool) → Small (noSpan b)
+  unfolding noSpan
+  none-small b = omega arith
+
+  rows-small : (p : ℕ) → terminal f s h k .ok ≡ true → let t = terminal f s h k in Small (reachedRows f s h k (t .node) (t .used) p)
+  unfolding firstRow
+  rows-small p o =
+      let t = terminal f s h k in
+      by-cases (comesBack f s h k (t .node) (t .used) p)
+      (λ b. rw (rows-all f s h k (t .node) (t .used) p b) (run-small (keyAt f (pageAt f s h p) 0) o))
+      (λ b. rw (rows-one f s h k (t .node) (t .used) p b) (omega arith))
+
+  pub behind-small : {r : Span} → r ≡ spanOf f s h strict k → r .behind < 2 ^ 40
+  behind-small e =
+      subst Small (sym e) (span-kind f s h strict k Small none-small (λ p t o. rows-small p o) (λ o z p l. run-small k o))
 
   row-inside : {r : Span} → r ≡ spanOf f s h strict k → r .ok ≡ true → (r .page ≡ 0 → ⊥)
       → words f * (r .from + 1) < length (pageAt f s h (r .page))

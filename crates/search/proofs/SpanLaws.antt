@@ -10,14 +10,14 @@ use lib.Dec.{eqb}
 use lib.ListN.{getD}
 use borrow.Author.Tests.{eqb-true, lt-ltb, le-ltb, eq-eqb, ne-eqb}
 use Rattle.lists.proofs.Cases.{by-cases}
-use Rattle.lists.proofs.Tests.{and-three}
+use Rattle.lists.proofs.Tests.{and-true, and-three}
 use Rattle.store.specs.declared.Format.{Format}
 use Rattle.store.specs.declared.Head.{Head}
 use Rattle.store.specs.declared.Item.{Item}
 use Rattle.store.specs.Format.{width}
 use Rattle.store.specs.Head.{pageAt}
 use Rattle.page.specs.Page.{count, itemAt, keyAt, pageRule, agrees, above, firstAbove}
-use Rattle.page.proofs.Laws.{rule-facts}
+use Rattle.page.proofs.Laws.{rule-facts, agrees-facts, facts-agrees}
 use Rattle.search.specs.declared.Visit.{Visit}
 use Rattle.search.specs.declared.Terminal.{Terminal}
 use Rattle.search.specs.declared.Span.{Span}
@@ -26,13 +26,14 @@ use Rattle.search.specs.declared.Reached.{Reached}
 use Rattle.search.specs.declared.Reached.the-variants.{Page, Past, Broken}
 use Rattle.search.specs.Descent.{noStep, descent, terminal, ownVisit}
 use Rattle.search.specs.Find.{soundPage}
-use Rattle.search.specs.Next.{visitAfter, visited, behind, afterOwn, nextOf}
-use Rattle.search.specs.Span.{noSpan, reachedEnd, reachedSpan, ownSpan, spanAt, spanOf, soughtOf, Rows}
+use Rattle.search.specs.Next.{runBehind, reach, visitAfter, visited, behind, afterOwn, nextOf}
+use Rattle.search.specs.Span.{noSpan, comesBack, firstRow, reachedRows, reachedSpan, ownSpan, spanAt, spanOf, soughtOf}
+use Rattle.search.specs.Span.{GoesBehind, Rows}
 use Rattle.search.proofs.FindLaws.{sound-rule, Led}
 use Rattle.search.proofs.NextLaws.{visit-broken, visit-below, visit-gives, Some, reach-some}
 use Rattle.search.proofs.FromLaws.{from-lost, from-null, from-unsound, from-found, from-after}
-use Rattle.search.proofs.TerminalLaws.{terminal-ok, terminal-ended, terminal-same}
-use Rattle.search.proofs.WithinLaws.{next-within, within-at}
+use Rattle.search.proofs.TerminalLaws.{terminal-ok, terminal-ended, terminal-sound, terminal-same, node-same, behind-same}
+use Rattle.search.proofs.WithinLaws.{first-after, same-end, next-within, within-at}
 
 -- the first record of a span
 module _ (f : Format) (s : List ℕ) (h : Head) (r : Span) where
@@ -50,11 +51,47 @@ module _ (f : Format) (s : List ℕ) (h : Head) (r : Span) where
     unfolding soughtOf
     sought-first z e ei = ap Record (rw e at ei) ∙ sym (rw (o, ne-eqb _ _ z, soughtOf))
 
+-- a page reached after the key's own: all its records, or the first one
+module _ (f : Format) (s : List ℕ) (h : Head) (k n u p : ℕ) where
+  abbrev back : Visit
+  back = ownVisit f s h (keyAt f (pageAt f s h p) 0) n u
+
+  pub rows-all : comesBack f s h k n u p ≡ true
+      → reachedRows f s h k n u p
+      ≡ record { ok = true; page = p; from = 0; to = count (pageAt f s h p); behind = runBehind s h n (back .depth) (back .entry) }
+  unfolding reachedRows
+  rows-all b = rw (b, reachedRows)
+
+  pub rows-one : comesBack f s h k n u p ≡ false → reachedRows f s h k n u p ≡ firstRow p
+  unfolding reachedRows
+  rows-one b = rw (b, reachedRows)
+
+  -- either begins with the first record of the page, and met no damage
+  pub rows-begin : reachedRows f s h k n u p .from ≡ 0
+  unfolding firstRow
+  rows-begin =
+      by-cases (comesBack f s h k n u p) (λ b. ap (λ r. r .from) (rows-all b)) (λ b. ap (λ r. r .from) (rows-one b))
+
+  rows-ok : reachedRows f s h k n u p .ok ≡ true
+  unfolding firstRow
+  rows-ok = by-cases (comesBack f s h k n u p) (λ b. ap (λ r. r .ok) (rows-all b)) (λ b. ap (λ r. r .ok) (rows-one b))
+
+  rows-page : reachedRows f s h k n u p .page ≡ p
+  unfolding firstRow
+  rows-page = by-cases (comesBack f s h k n u p) (λ b. ap (λ r. r .page) (rows-all b)) (λ b. ap (λ r. r .page) (rows-one b))
+
+  rows-first : (p ≡ 0 → ⊥) → soughtOf f s h (reachedRows f s h k n u p) ≡ Record (itemAt f (pageAt f s h p) 0)
+  unfolding firstRow
+  rows-first some =
+      by-cases (comesBack f s h k n u p)
+      (λ b. ap (soughtOf f s h) (rows-all b) ∙ sym (sought-first f s h _ refl some refl refl))
+      (λ b. ap (soughtOf f s h) (rows-one b) ∙ sym (sought-first f s h _ refl some refl refl))
+
 module _ (f : Format) (s : List ℕ) (h : Head) (strict : Bool) (k : ℕ) where
   -- a page reached after the key's own
   module _ (n u p : ℕ) where
     pub reached-gives : pageRule f (h .capacity) (pageAt f s h p) ≡ true → above strict k (keyAt f (pageAt f s h p) 0) ≡ true
-        → reachedSpan f s h strict k n u (Page p) ≡ record { ok = true; page = p; from = 0; to = reachedEnd f s h k n u p }
+        → reachedSpan f s h strict k n u (Page p) ≡ reachedRows f s h k n u p
     unfolding reachedSpan
     reached-gives t a = rw (t, a, reachedSpan)
 
@@ -74,7 +111,7 @@ module _ (f : Format) (s : List ℕ) (h : Head) (strict : Bool) (k : ℕ) where
         (λ t.
         by-cases (above strict k (keyAt f (pageAt f s h p) 0))
         (λ a.
-        ap (soughtOf f s h) (reached-gives t a) ∙ sym (sought-first f s h _ refl some refl refl)
+        ap (soughtOf f s h) (reached-gives t a) ∙ rows-first f s h k n u p some
         ∙ visit-gives f s h strict k p refl t refl a)
         (λ a. ap (soughtOf f s h) (reached-below t a) ∙ sym (sought-not f s h _ refl) ∙ visit-below f s h strict k p refl t refl a))
         (λ t. ap (soughtOf f s h) (reached-broken t) ∙ sym (sought-not f s h _ refl) ∙ visit-broken f s h strict k p refl t)
@@ -117,7 +154,13 @@ module _ (f : Format) (s : List ℕ) (h : Head) (strict : Bool) (k : ℕ) where
       module _ (p : soundPage f h own-page k (u + v .depth) ≡ true) where
         pub own-rows : firstAbove f own-page strict k < count own-page
             → ownSpan f s h strict k n u v
-            ≡ record { ok = true; page = v .pointer; from = firstAbove f own-page strict k; to = count own-page }
+            ≡ record {
+              ok = true;
+              page = v .pointer;
+              from = firstAbove f own-page strict k;
+              to = count own-page;
+              behind = runBehind s h n (v .depth) (v .entry);
+            }
         unfolding ownSpan
         own-rows l = rw (ne-eqb (v .pointer) 0 z, p, lt-ltb _ _ l, ownSpan)
 
@@ -197,11 +240,23 @@ GoesOn f s h r =
     (i : ℕ) → r .from ≤ i → i + 1 < r .to
     → nextOf f s h true (keyAt f (pageAt f s h (r .page)) i) ≡ Record (itemAt f (pageAt f s h (r .page)) (i + 1))
 
+-- a page whose first key comes back to it: that key's terminal node and entry, and the page's other keys
+back-facts : (f : Format) (s : List ℕ) (h : Head) (k p : ℕ) → terminal f s h k .ok ≡ true
+    → let t = terminal f s h k in
+    let k₂ = keyAt f (pageAt f s h p) 0 in
+    let v = ownVisit f s h k₂ (t .node) (t .used) in
+    comesBack f s h k (t .node) (t .used) p ≡ true
+    → (terminal f s h k₂ ≡ t) × (v .pointer ≡ p) × (agrees f (pageAt f s h p) k₂ (t .used + v .depth) ≡ true)
+unfolding comesBack
+back-facts f s h k p o b =
+    let c = and-three _ _ _ b in
+    (terminal-same f s h k _ o (eqb-true _ _ (c .0)), eqb-true _ _ (c .1), c .2)
+
 -- what holds of each kind of span holds of every one
 module _ (f : Format) (s : List ℕ) (h : Head) (strict : Bool) (k : ℕ) (P : Span → Type 0) (none : (b : Bool) → P (noSpan b))
     (first :
     (p : ℕ) → pageRule f (h .capacity) (pageAt f s h p) ≡ true → let t = terminal f s h k in t .ok ≡ true
-    → P (record { ok = true; page = p; from = 0; to = reachedEnd f s h k (t .node) (t .used) p })) where
+    → P (reachedRows f s h k (t .node) (t .used) p)) where
   abbrev there : Terminal
   there = terminal f s h k
 
@@ -229,7 +284,13 @@ module _ (f : Format) (s : List ℕ) (h : Head) (strict : Bool) (k : ℕ) (P : S
       (own :
       there .ok ≡ true → (entry .pointer ≡ 0 → ⊥) → soundPage f h leaf k (there .used + entry .depth) ≡ true
       → firstAbove f leaf strict k < count leaf
-      → P (record { ok = true; page = entry .pointer; from = firstAbove f leaf strict k; to = count leaf })) where
+      → P (record {
+        ok = true;
+        page = entry .pointer;
+        from = firstAbove f leaf strict k;
+        to = count leaf;
+        behind = runBehind s h (there .node) (entry .depth) (entry .entry);
+      })) where
     own-kind : there .ok ≡ true → P (ownSpan f s h strict k (there .node) (there .used) entry)
     own-kind o =
         let n : ℕ = there .node in
@@ -265,30 +326,28 @@ module _ (f : Format) (s : List ℕ) (h : Head) (strict : Bool) (k : ℕ) where
   reached-rows : 1 ≤ h .levels → h .levels ≤ 32 → (p : ℕ) → pageRule f (h .capacity) (pageAt f s h p) ≡ true → terminal f s h k .ok ≡ true
       → (p ≡ 0 → ⊥)
       → let t = terminal f s h k in
-      let r : Span = record { ok = true; page = p; from = 0; to = reachedEnd f s h k (t .node) (t .used) p } in
+      let r = reachedRows f s h k (t .node) (t .used) p in
       Rows f s h r × GoesOn f s h r
-  unfolding reachedEnd soundPage
+  unfolding soundPage firstRow
   reached-rows low high p t o z =
       let e : Terminal = terminal f s h k in
       let pg : List ℕ = pageAt f s h p in
       let k₂ : ℕ = keyAt f pg 0 in
-      let v : Visit = ownVisit f s h k₂ (e .node) (e .used) in
       let some = rule-facts f (h .capacity) pg t .some in
-      by-cases (eqb (k₂ / 2 ^ (width f - e .used)) (k / 2 ^ (width f - e .used)) && eqb (v .pointer) p && agrees f pg k₂ (e .used + v .depth))
+      by-cases (comesBack f s h k (e .node) (e .used) p)
       (λ b.
-      let c = and-three _ _ _ b in
-      let same : terminal f s h k₂ ≡ e = terminal-same f s h k k₂ o (eqb-true _ _ (c .0)) in
-      let back : v .pointer ≡ p = eqb-true _ _ (c .1) in
-      rw (b, reachedEnd) (
+      let c = back-facts f s h k p o b in
+      rw (rows-all f s h k (e .node) (e .used) p b) (
         record { rule = t; some = some; within = omega arith },
-        λ i m l. within-at f s h k₂ i low high e same o p back z (rw (t, c .2)) l,
+        λ i m l. within-at f s h k₂ i low high e (c .0) o p (c .1) z (rw (t, c .2)) l,
       ))
-      (λ b. rw (b, reachedEnd) (record { rule = t; some = omega arith; within = some }, λ i m l. absurd (omega arith)))
+      (λ b.
+      rw (rows-one f s h k (e .node) (e .used) p b) (record { rule = t; some = omega arith; within = some }, λ i m l. absurd (omega arith)))
 
   pub span-rows : 1 ≤ h .levels → h .levels ≤ 32 → Sound (spanOf f s h strict k)
   span-rows low high =
       span-kind f s h strict k Sound none-sound
-      (λ p t o y q. reached-rows low high p t o q)
+      (λ p t o y q. reached-rows low high p t o (λ z. q (rows-page f s h k _ _ p ∙ z)))
       (λ o z p l y q.
       (record { rule = sound-rule f h _ k _ p; some = l; within = omega arith }, λ i m n. next-within f s h k i low high o z p n))
 
@@ -301,7 +360,7 @@ module _ (f : Format) (s : List ℕ) (h : Head) (strict : Bool) (k : ℕ) where
   none-whole b q = absurd (q refl)
 
   pub span-whole : Whole (spanOf f s h strict k)
-  span-whole = span-kind f s h strict k Whole none-whole (λ p r o z. (refl, o)) (λ o z p l y. (refl, o))
+  span-whole = span-kind f s h strict k Whole none-whole (λ p r o z. (rows-ok f s h k _ _ p, o)) (λ o z p l y. (refl, o))
 
   -- a span that met no damage has a sound terminal node
   pub terminal-whole : spanOf f s h strict k .ok ≡ true → terminal f s h k .ok ≡ true
@@ -310,3 +369,76 @@ module _ (f : Format) (s : List ℕ) (h : Head) (strict : Bool) (k : ℕ) where
       by-cases (terminal f s h k .ok)
       (λ t. t)
       (λ t. absurd (false≢true (ap (λ r. r .ok) (sym (at-lost f s h strict k (terminal f s h k) t)) ∙ o)))
+
+-- after the last record of the own page of k next goes on behind its run
+module _ (f : Format) (s : List ℕ) (h : Head) where
+  -- the terminal node of k is t, and its page p
+  abbrev Goes : ℕ → Terminal → ℕ → Type 0
+  Goes k t p =
+      let v = ownVisit f s h k (t .node) (t .used) in
+      let k₂ = keyAt f (pageAt f s h p) (count (pageAt f s h p) - 1) in
+      (p ≡ 0 → ⊥) → soundPage f h (pageAt f s h p) k (t .used + v .depth) ≡ true
+      → (terminal f s h k₂ ≡ t) × GoesBehind f s h k₂ t (runBehind s h (t .node) (v .depth) (v .entry))
+
+  own-goes : (k : ℕ) → 1 ≤ h .levels → h .levels ≤ 32 → terminal f s h k .ok ≡ true
+      → let t = terminal f s h k in Goes k t (ownVisit f s h k (t .node) (t .used) .pointer)
+  unfolding soundPage behind
+  own-goes k low high o some p =
+      let t = terminal f s h k in
+      let v = ownVisit f s h k (t .node) (t .used) in
+      let pg = pageAt f s h (v .pointer) in
+      let u : ℕ = t .used + v .depth in
+      let rules = and-true (pageRule f (h .capacity) pg) (agrees f pg k u) p in
+      let near = agrees-facts f pg k u (rules .1) in
+      let many = rule-facts f (h .capacity) pg (rules .0) .some in
+      let l : count pg - 1 < count pg = omega (arith, many) in
+      let k₂ : ℕ = keyAt f pg (count pg - 1) in
+      let a = near (count pg - 1) l in
+      let v₂ = ownVisit f s h k₂ (t .node) (t .used) in
+      let sound = terminal-sound f s h k o in
+      let same = node-same f s h k k₂ 1 _ _ sound a in
+      let p₂ : soundPage f h (pageAt f s h (v₂ .pointer)) k₂ (t .used + v₂ .depth) ≡ true =
+      rw (same .0, same .1, rules .0) (facts-agrees f pg k₂ u (λ j q. near j q ∙ sym a)) in
+      let last : count (pageAt f s h (v₂ .pointer)) ≤ firstAbove f (pageAt f s h (v₂ .pointer)) true k₂ =
+      rw (same .1) (omega (arith, first-after f (h .capacity) pg (count pg - 1) (rules .0) l)) in (
+        same-end f s h k low high o k₂ a,
+        at-terminal f s h true k₂ t o ∙ own-after f s h true k₂ (t .node) (t .used) v₂ (λ z. some (sym (same .1) ∙ z)) p₂ last
+            ∙ ap (λ i. reachedSpan f s h true k₂ (t .node) (t .used) (reach s h (h .nodesTaken + 1) (t .node) i))
+            (behind-same f s h k k₂ 1 _ _ sound a),
+      )
+
+  goes-at : (k : ℕ) → 1 ≤ h .levels → h .levels ≤ 32 → (t : Terminal) → terminal f s h k ≡ t → t .ok ≡ true
+      → (p : ℕ) → ownVisit f s h k (t .node) (t .used) .pointer ≡ p → Goes k t p
+  goes-at k low high t e =
+      subst (λ t. t .ok ≡ true → (p : ℕ) → ownVisit f s h k (t .node) (t .used) .pointer ≡ p → Goes k t p) e
+      (λ o p b. subst (Goes k (terminal f s h k)) b (own-goes k low high o))
+
+-- a span that knows the run behind its page: next from its last record goes on there
+module _ (f : Format) (s : List ℕ) (h : Head) (strict : Bool) (k : ℕ) where
+  abbrev Behind : Span → Type 0
+  Behind r =
+      let k₂ = keyAt f (pageAt f s h (r .page)) (r .to - 1) in
+      (r .page ≡ 0 → ⊥) → (r .behind ≡ 0 → ⊥)
+      → (terminal f s h k₂ ≡ terminal f s h k) × GoesBehind f s h k₂ (terminal f s h k) (r .behind)
+
+  none-behind : (b : Bool) → Behind (noSpan b)
+  unfolding noSpan
+  none-behind b z = absurd (z refl)
+
+  rows-behind : 1 ≤ h .levels → h .levels ≤ 32 → (p : ℕ) → pageRule f (h .capacity) (pageAt f s h p) ≡ true → terminal f s h k .ok ≡ true
+      → let t = terminal f s h k in Behind (reachedRows f s h k (t .node) (t .used) p)
+  unfolding firstRow soundPage
+  rows-behind low high p r o =
+      let t = terminal f s h k in
+      by-cases (comesBack f s h k (t .node) (t .used) p)
+      (λ b.
+      let c = back-facts f s h k p o b in
+      rw (rows-all f s h k (t .node) (t .used) p b)
+      (λ z q. goes-at f s h (keyAt f (pageAt f s h p) 0) low high t (c .0) o p (c .1) z (rw (r, c .2))))
+      (λ b. rw (rows-one f s h k (t .node) (t .used) p b) (λ z q. absurd (q refl)))
+
+  pub span-behind : 1 ≤ h .levels → h .levels ≤ 32 → {r : Span} → r ≡ spanOf f s h strict k → Behind r
+  span-behind low high e =
+      subst Behind (sym e)
+      (span-kind f s h strict k Behind none-behind (λ p r o. rows-behind low high p r o)
+      (λ o z p l y q. own-goes f s h k low high o z p))

@@ -23,6 +23,7 @@ use Rattle.search.specs.declared.Descent.{Descent}
 use Rattle.search.specs.declared.Terminal.{Terminal}
 use Rattle.search.specs.Descent.{noStep, noSteps, damagedNode, entryVisit, lost, stepTaken, descend, descent}
 use Rattle.search.specs.Descent.{soundNode, lostTerminal, terminalFrom, terminal, ownVisit}
+use Rattle.search.specs.Next.{runAfter, runBehind}
 use Rattle.search.proofs.DescentLaws.{sound-facts, step-damaged, step-entry, way-step, way-end, step-lost, step-on}
 
 -- keys that agree in more bits agree in fewer
@@ -99,6 +100,15 @@ module _ (f : Format) (s : List ℕ) (h : Head) where
         × (ownVisit f s h k′ n u .pointer ≡ ownVisit f s h k n u .pointer)
     unfolding ownVisit entryVisit
     node-same a = let p = entry-same a in (ap (λ x. x .0) p, ap (λ x. x .1) p)
+
+    -- and the same run behind
+    pub behind-same : k′ / 2 ^ (width f - (u + ownVisit f s h k n u .depth)) ≡ k / 2 ^ (width f - (u + ownVisit f s h k n u .depth))
+        → runBehind s h n (ownVisit f s h k′ n u .depth) (ownVisit f s h k′ n u .entry)
+        ≡ runBehind s h n (ownVisit f s h k n u .depth) (ownVisit f s h k n u .entry)
+    unfolding ownVisit entryVisit runAfter
+    behind-same a =
+        ap (λ x. other - other % 2 ^ (deep - x .0) + 2 ^ (deep - x .0)) (entry-same a)
+        ∙ ap (λ x. x + 2 ^ (deep - entryDepth s at one)) (start-same a)
 
   module _ (k : ℕ) where
     -- one turn of the descent, and of the way to the terminal node

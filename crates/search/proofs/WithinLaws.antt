@@ -48,7 +48,7 @@ module _ (f : Format) (s : List ℕ) (h : Head) where
     own = ownVisit f s h k (end .node) (end .used)
 
     module _ (k′ : ℕ) (a : k′ / 2 ^ (width f - (end .used + own .depth)) ≡ k / 2 ^ (width f - (end .used + own .depth))) where
-      same-end : terminal f s h k′ ≡ end
+      pub same-end : terminal f s h k′ ≡ end
       same-end = terminal-same f s h k k′ o (fewer (width f) (end .used) (end .used + own .depth) k k′ (omega arith) a)
 
       same-ended : Ended f s h k′ (descent f s h k′) (end .node) (end .used)

@@ -4,6 +4,7 @@
 --     n runs
 --   pointerFrom s h n i        == the same in node n
 --   runAfter H h i             == where the run after that of entry i starts, in a node of depth H, if entry i has the local depth h
+--   runBehind s h n d i        == the same in node n, for the local depth d
 --   visitAfter f s h strict k p == what page p gives, read after the sought key's own: its first record
 --   linked h s m n             == node m, reached by a forward link, is a level-1 node that links back to n
 --   hop s h n i left           == what node n leads to from entry i on, with so many links left: an end, or the next node
@@ -52,6 +53,9 @@ firstPointer s b H (suc n) i =
 unfoldable pub runAfter : ℕ → ℕ → ℕ → ℕ
 runAfter H h i = i - i % 2 ^ (H - h) + 2 ^ (H - h)
 
+abbrev pub runBehind : List ℕ → Head → ℕ → ℕ → ℕ → ℕ
+runBehind s h n d i = runAfter (depthWord s (nodeStart h n)) d i
+
 -- "every page read after the sought key's own has only keys above the given one (for low: at or above it)"
 unfoldable pub visitAfter : Format → List ℕ → Head → Bool → ℕ → ℕ → Sought
 visitAfter f s h strict k p =
@@ -99,7 +103,7 @@ visited f s h strict k Past = Nothing
 visited f s h strict k Broken = Damaged
 
 unfoldable pub behind : List ℕ → Head → ℕ → ℕ → ℕ → Reached
-behind s h n d i = reach s h (h .nodesTaken + 1) n (runAfter (depthWord s (nodeStart h n)) d i)
+behind s h n d i = reach s h (h .nodesTaken + 1) n (runBehind s h n d i)
 
 -- "passing null entries and forward links"; the terminal node is that of the first step
 unfoldable pub afterOwn : Format → List ℕ → Head → Bool → ℕ → Step → Sought

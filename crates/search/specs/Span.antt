@@ -1,11 +1,15 @@
 -- Next by spans: where next's record stands, and the records after it that next gives in turn without another descent.
 --   noSpan ok          == no record; ok: no damage was met
---   reachedEnd f s h k n u p == where the records of page p end that follow one another, p being reached from the terminal node n of the key k
+--   comesBack f s h k n u p == the first key of page p, which is reached from the terminal node n of the key k, leads back to it from n, and
+--     so do the page's other keys
+--   firstRow p         == the first record of page p
+--   reachedRows f s h k n u p == the records of page p that follow one another, p being reached from the terminal node n of the key k
 --   reachedSpan f s h strict k n u a == the records of the page that was reached after the sought key's own
 --   ownSpan f s h strict k n u v == the records that follow the key k, whose entry in its terminal node n is v
 --   spanAt f s h strict k t == the records that follow the key k, whose terminal node is t
 --   spanOf f s h strict k == the same from the root
 --   soughtOf f s h r      == the first record of a span
+--   GoesBehind f s h k t i == above the key k, whose terminal node is t, next gives the records of the page that follows from entry i on
 --   Rows f s h r          == the span r has records, in a page that keeps the page rule
 --   placeOf f h pg strict k used == where the records above the key k begin in its own page pg, if that is sound
 --   AtKey f C pg strict k after == k is the key of the record before number `after` in the page pg, which keeps the page rule
@@ -29,27 +33,37 @@ use Rattle.search.specs.declared.Reached.{Reached}
 use Rattle.search.specs.declared.Reached.the-variants.{Page, Past, Broken}
 use Rattle.search.specs.Descent.{terminal, ownVisit}
 use Rattle.search.specs.Find.{soundPage}
-use Rattle.search.specs.Next.{behind}
+use Rattle.search.specs.Next.{runBehind, reach, behind}
 
 unfoldable pub noSpan : Bool → Span
-noSpan ok = record { ok = ok; page = 0; from = 0; to = 0 }
+noSpan ok = record { ok = ok; page = 0; from = 0; to = 0; behind = 0 }
 
 -- Next from the page's first key begins anew at the root. If the key agrees with k in the u bits used before the terminal node n, and its own
--- entry there leads to this page, it comes back here, so all records follow; else the first one stands alone.
-unfoldable pub reachedEnd : Format → List ℕ → Head → ℕ → ℕ → ℕ → ℕ → ℕ
-reachedEnd f s h k n u p =
-    elim (eqb (keyAt f (pageAt f s h p) 0 / 2 ^ (width f - u)) (k / 2 ^ (width f - u))
+-- entry there leads to this page, it comes back here.
+unfoldable pub comesBack : Format → List ℕ → Head → ℕ → ℕ → ℕ → ℕ → Bool
+comesBack f s h k n u p =
+    eqb (keyAt f (pageAt f s h p) 0 / 2 ^ (width f - u)) (k / 2 ^ (width f - u))
     && eqb (ownVisit f s h (keyAt f (pageAt f s h p) 0) n u .pointer) p
-    && agrees f (pageAt f s h p) (keyAt f (pageAt f s h p) 0) (u + ownVisit f s h (keyAt f (pageAt f s h p) 0) n u .depth)) [
-      | true ↦ count (pageAt f s h p)
-      | false ↦ 1
+    && agrees f (pageAt f s h p) (keyAt f (pageAt f s h p) 0) (u + ownVisit f s h (keyAt f (pageAt f s h p) 0) n u .depth)
+
+unfoldable pub firstRow : ℕ → Span
+firstRow p = record { ok = true; page = p; from = 0; to = 1; behind = 0 }
+
+-- Where its keys come back all records follow, and after the last one the run behind; else the first one stands alone.
+unfoldable pub reachedRows : Format → List ℕ → Head → ℕ → ℕ → ℕ → ℕ → Span
+reachedRows f s h k n u p =
+    elim (comesBack f s h k n u p) [
+      | true ↦
+          let v = ownVisit f s h (keyAt f (pageAt f s h p) 0) n u in
+          record { ok = true; page = p; from = 0; to = count (pageAt f s h p); behind = runBehind s h n (v .depth) (v .entry) }
+      | false ↦ firstRow p
     ]
 
 -- Of the page's keys, which ascend, the first speaks for all.
 unfoldable pub reachedSpan : Format → List ℕ → Head → Bool → ℕ → ℕ → ℕ → Reached → Span
 reachedSpan f s h strict k n u (Page p) =
     elim (pageRule f (h .capacity) (pageAt f s h p) && above strict k (keyAt f (pageAt f s h p) 0)) [
-      | true ↦ record { ok = true; page = p; from = 0; to = reachedEnd f s h k n u p }
+      | true ↦ reachedRows f s h k n u p
       | false ↦ noSpan false
     ]
 reachedSpan f s h strict k n u Past = noSpan true
@@ -72,6 +86,7 @@ ownSpan f s h strict k n u v =
                         page = v .pointer;
                         from = firstAbove f (pageAt f s h (v .pointer)) strict k;
                         to = count (pageAt f s h (v .pointer));
+                        behind = runBehind s h n (v .depth) (v .entry);
                       }
                   | false ↦ reachedSpan f s h strict k n u (behind s h n (v .depth) (v .entry))
                 ]
@@ -87,6 +102,10 @@ spanAt f s h strict k t =
 
 abbrev pub spanOf : Format → List ℕ → Head → Bool → ℕ → Span
 spanOf f s h strict k = spanAt f s h strict k (terminal f s h k)
+
+abbrev pub GoesBehind : Format → List ℕ → Head → ℕ → Terminal → ℕ → Type 0
+GoesBehind f s h k t i =
+    spanAt f s h true k t ≡ reachedSpan f s h true k (t .node) (t .used) (reach s h (h .nodesTaken + 1) (t .node) i)
 
 unfoldable pub soughtOf : Format → List ℕ → Head → Span → Sought
 soughtOf f s h r =

@@ -13,10 +13,10 @@ ghost use Rattle.node.specs.Node.{depthWord, nodeRule};
 ghost use Rattle.page.specs.Page.{pageRule, Lent, Filled};
 ghost use Rattle.search.specs.Descent.{soundNode, TerminalNode, stepOf, lost, descent, terminal, ownVisit};
 ghost use Rattle.search.specs.Find.{reply, soughtReply, soundPage, inPage, findOf, findReply};
-ghost use Rattle.search.specs.Next.{firstPointer, runAfter, linked, onward, hop, reach, behind, nextOf, nextReply};
+ghost use Rattle.search.specs.Next.{firstPointer, runAfter, runBehind, linked, onward, hop, reach, behind, nextOf, nextReply};
 ghost use Rattle.search.specs.declared.Reached.the-variants.{Broken};
 ghost use Rattle.search.specs.declared.Hop.the-variants.{Ends};
-ghost use Rattle.search.specs.Span.{noSpan, reachedEnd, reachedSpan, spanAt, soughtOf, placeOf, AtKey};
+ghost use Rattle.search.specs.Span.{noSpan, firstRow, reachedRows, reachedSpan, spanAt, soughtOf, placeOf, GoesBehind, AtKey};
 
 // One node on a key's path: its number, the key's entry in it, that entry's local depth, and the bits used before the node.
 pub struct Step {
@@ -49,12 +49,14 @@ pub struct Terminal {
     pub used: u32,
 }
 
-// Records of one page that next gives in turn, numbers `from` up to `to`; page 0: none. Not ok: damage was met.
+// Records of one page that next gives in turn, numbers `from` up to `to`; page 0: none. Not ok: damage was met. After the last one next goes
+// on with the run of the terminal node that begins at entry `behind`; 0: not known.
 pub struct Span {
     pub ok: bool,
     pub page: u32,
     pub from: usize,
     pub to: usize,
+    pub behind: usize,
 }
 
 // Where the records above a key begin in its own page; not ok: the page is not sound.
@@ -449,14 +451,22 @@ fn reach_from(
     Reached::Broken
 }
 
+// Where the run after that of a key's entry v begins in its terminal node n.
+fn run_behind(store: &[u32], f: Format, head: Head, n: u32, v: Visit) -> usize
+    requires { ⌜ (Under f (now store) head) × (TerminalNode head (now store) n) ⌝ }
+    ensures { λ r. ⌜ (r ≡ runBehind (now (store .entry)) head n (v .depth) (v .entry)) × (r < 2 ^ 33) ⌝ }
+{
+    let node = store::node_at(store, f, head, n);
+    run_after(node[0], v.depth, v.entry)
+}
+
 // The page that follows the run of a key's entry v in its terminal node n.
 fn reach_behind(store: &[u32], f: Format, head: Head, n: u32, v: Visit, checked: bool) -> Reached
     requires { ⌜ (Under f (now store) head) × (TerminalNode head (now store) n)
         × (checked ≡ false → behind (now store) head n (v .depth) (v .entry) ≡ Broken → ⊥) ⌝ }
     ensures { λ r. ⌜ r ≡ behind (now (store .entry)) head n (v .depth) (v .entry) ⌝ }
 {
-    let node = store::node_at(store, f, head, n);
-    let start = run_after(node[0], v.depth, v.entry);
+    let start = run_behind(store, f, head, n, v);
     reach_from(store, f, head, n, start, checked)
 }
 
@@ -469,30 +479,50 @@ fn no_span(ok: bool) -> Span
         page: 0,
         from: 0,
         to: 0,
+        behind: 0,
     }
 }
 
-// Where the records of page p end that follow one another, p being reached from the terminal node t of the key: with the first one, if its
-// key does not come back to the page from the same node.
-fn reached_end(store: &[u32], f: Format, head: Head, key: u64, t: Terminal, p: u32) -> usize
+// The first record of page p.
+fn first_row(p: u32) -> Span
+    ensures { λ r. ⌜ r ≡ firstRow p ⌝ }
+{
+    Span {
+        ok: true,
+        page: p,
+        from: 0,
+        to: 1,
+        behind: 0,
+    }
+}
+
+// The records of page p that follow one another, p being reached from the terminal node t of the key: the first one alone, if its key does
+// not come back to the page from the same node.
+fn reached_rows(store: &[u32], f: Format, head: Head, key: u64, t: Terminal, p: u32) -> Span
     requires { ⌜ (Under f (now store) head) × (t ≡ terminal f (now store) head key) × (t .ok ≡ true)
         × (pageRule f (head .capacity) (pageAt f (now store) head p) ≡ true) ⌝ }
-    ensures { λ r. ⌜ r ≡ reachedEnd f (now (store .entry)) head key (t .node) (t .used) p ⌝ }
+    ensures { λ r. ⌜ r ≡ reachedRows f (now (store .entry)) head key (t .node) (t .used) p ⌝ }
 {
     let page = store::page_at(store, f, head, p);
     let item = page::read_one(page, f, 0);
     let low = store::width_of(f) - t.used;
     if page::prefix(item.key, low) != page::prefix(key, low) {
-        return 1;
+        return first_row(p);
     }
     let v = own_entry(store, f, head, item.key, t.node, t.used);
     if v.pointer != p {
-        return 1;
+        return first_row(p);
     }
     if !page::keys_agree(page, f, item.key, t.used + v.depth) {
-        return 1;
+        return first_row(p);
     }
-    page::count_of(page)
+    Span {
+        ok: true,
+        page: p,
+        from: 0,
+        to: page::count_of(page),
+        behind: run_behind(store, f, head, t.node, v),
+    }
 }
 
 // The records of a page that was reached after the sought key's own, from its terminal node t. Its keys ascend, so the first one speaks for
@@ -528,13 +558,7 @@ fn reached_span(
             if !page::is_above(strict, key, item.key) {
                 return no_span(false);
             }
-            let to = reached_end(store, f, head, key, t, p);
-            return Span {
-                ok: true,
-                page: p,
-                from: 0,
-                to,
-            };
+            return reached_rows(store, f, head, key, t, p);
         }
     }
 }
@@ -610,11 +634,30 @@ pub fn span_at(
                 page: p,
                 from,
                 to,
+                behind: run_behind(store, f, head, t.node, v),
             };
         }
     }
     let a = reach_behind(store, f, head, t.node, v, checked);
     reached_span(store, f, head, strict, key, t, a, checked)
+}
+
+// The records that follow a key, whose terminal node is t, where next goes on with the run that begins at entry `start`.
+pub fn span_behind(
+    store: &[u32],
+    f: Format,
+    head: Head,
+    key: u64,
+    t: Terminal,
+    start: usize,
+    checked: bool,
+) -> Span
+    requires { ⌜ (Under f (now store) head) × (t ≡ terminal f (now store) head key) × (t .ok ≡ true) × (start < 2 ^ 40)
+        × GoesBehind f (now store) head key t start × (checked ≡ false → spanAt f (now store) head true key t .ok ≡ true) ⌝ }
+    ensures { λ r. ⌜ r ≡ spanAt f (now (store .entry)) head true key t ⌝ }
+{
+    let a = reach_from(store, f, head, t.node, start, checked);
+    reached_span(store, f, head, true, key, t, a, checked)
 }
 
 // The first record of a span.

@@ -1,22 +1,65 @@
--- From the last record of the span: its terminal node, then the span after it.
-use mathlib.Core.Path.{refl}
+-- From the last record of the span: the span behind its page, or else its terminal node and the span after it.
+use mathlib.Core.Path.{_≡_, refl}
+use mathlib.Core.Bool.{true}
+use mathlib.Core.List.{List}
+use Prim.Native.Nat.{ℕ}
 use native.Mathlib.Omega.{arith}
+use Rattle.store.specs.declared.Format.{Format}
+use Rattle.store.specs.declared.Head.{Head}
+use Rattle.search.specs.declared.Terminal.{Terminal}
+use Rattle.search.specs.declared.Span.{Span}
+use Rattle.search.specs.Descent.{terminal}
+use Rattle.search.specs.Span.{spanAt}
 use Rattle.search.proofs.SpanLaws.{terminal-whole}
-use Rattle.scan.specs.Walk.{walkOf}
+use Rattle.scan.specs.Walk.{walkOf, Behind}
 use Rattle.scan.proofs.advance.Statement.{statement}
 use Rattle.scan.proofs.advance.Tie as tie
+
+-- the place of the call, from the last key read
+abbrev call : tie.After-last-key → tie.Start
+call k = k .before .before .before .before
+
+-- the run behind the page is known
+known : (c : tie.Then1) → let a = call (c .before .before) .args in Behind (a .f) (a .store .now) (a .head) (a .w)
+known c = call (c .before .before) .pre .1 .behind (c .if1 .taken)
 
 last-key-requires : tie.Need-last-key-requires
 last-key-requires c κs = let p = c .before .before .before .pre in (p .0, p .1 .rows)
 
+span-behind-requires : tie.Need-span-behind-requires
+span-behind-requires c κs =
+    let k = c .before .before in
+    let p = call k .pre in
+    let e = k .last-key .ensures in
+    let b = known c in (
+      p .0,
+      rw e (b .terminal),
+      p .1 .ok,
+      b .small,
+      rw e (b .goes),
+      λ z. rw (e, b .terminal) (p .2 z),
+    )
+
+-- the walk from the last key, by its terminal node
+walk-is : (f : Format) (s : List ℕ) (h : Head) {k k′ : ℕ} {t : Terminal} {r : Span} → r ≡ spanAt f s h true k t → t ≡ terminal f s h k′ → k ≡ k′
+    → record { span = r; terminal = t; key = k } ≡ walkOf f s h true k′
+unfolding walkOf
+walk-is f s h p q e = rw (p, q, e)
+
+returns : tie.Need-returns
+returns c =
+    walk-is _ _ _ (c .span-behind .ensures) (known (c .before) .terminal) (c .before .before .before .last-key .ensures)
+
 terminal-after-requires : tie.Need-terminal-after-requires
 terminal-after-requires c κs =
-    let p = c .before .before .before .before .pre in
-    (p .0, p .1 .terminal, p .1 .ok, λ z. rw (c .last-key .ensures) (terminal-whole _ _ _ _ _ (p .2 z)))
+    let k = c .before .before in
+    let p = call k .pre in
+    (p .0, p .1 .terminal, p .1 .ok, λ z. rw (k .last-key .ensures) (terminal-whole _ _ _ _ _ (p .2 z)))
 
 span-at-requires : tie.Need-span-at-requires
 span-at-requires c κs =
-    let p = c .before .before .before .before .before .pre in
+    let k = c .before .before .before in
+    let p = call k .pre in
     let w = p .1 .rows in
     let e = c .terminal-after .ensures in (
       p .0,
@@ -26,14 +69,14 @@ span-at-requires c κs =
         above = refl;
         low = omega (arith, w .some);
         high = w .within;
-        key = c .before .last-key .ensures;
+        key = k .last-key .ensures;
       },
-      λ z. rw (e, c .before .last-key .ensures) (p .2 z),
+      λ z. rw (e, k .last-key .ensures) (p .2 z),
     )
 
-returns : tie.Need-returns
+returns-2 : tie.Need-returns-2
 unfolding walkOf
-returns c = rw (c .span-at .ensures, c .before .terminal-after .ensures, c .before .before .last-key .ensures)
+returns-2 c = rw (c .span-at .ensures, c .before .terminal-after .ensures, c .before .before .before .before .last-key .ensures)
 
 pub advance-spec : {M : Type 1} → statement M
-advance-spec = tie.close (tie.spec last-key-requires terminal-after-requires span-at-requires returns)
+advance-spec = tie.close (tie.spec last-key-requires span-behind-requires returns terminal-after-requires span-at-requires returns-2)

@@ -56,20 +56,21 @@ returns-4 c =
 abbrev arm : (c : tie.Else2) → tie.After-page-at
 arm c = c .before .before .before .before .before
 
-reached-end-requires : tie.Need-reached-end-requires
-reached-end-requires c κs =
+reached-rows-requires : tie.Need-reached-rows-requires
+reached-rows-requires c κs =
     let p = arm c .before .before .before .before .before .pre in
     (p .0, p .2, p .3, rw (← (arm c .page-at .ensures)) (ruled (c .before .before .before)))
 
 returns-5 : tie.Need-returns-5
 returns-5 c =
     let e = c .before in
-    page-gives _ _ _ _ _ _ _ (arm e .before .before .a .given .1) (arm e .page-at .ensures) (ruled (e .before .before .before))
-    (e .before .before .read-one .ensures) (passed (e .before .is-above .ensures) (e .if2 .left)) (c .reached-end .ensures)
+    c .reached-rows .ensures
+    ∙ page-gives _ _ _ _ _ _ _ (arm e .before .before .a .given .1) (arm e .page-at .ensures) (ruled (e .before .before .before))
+    (e .before .before .read-one .ensures) (passed (e .before .is-above .ensures) (e .if2 .left))
 
 pub reached-span-spec : {M : Type 1} → statement M
 reached-span-spec =
     tie.close
     (tie.spec (λ c. search needs) (λ c κs. search needs) returns (λ c. search needs) (λ c κs. search needs) returns-2 (λ c. search needs)
     page-at-requires page-passes-requires (λ c κs. search needs) returns-3 read-one-requires (λ c κs. search needs) (λ c κs. search needs)
-    returns-4 reached-end-requires returns-5)
+    returns-4 reached-rows-requires returns-5)

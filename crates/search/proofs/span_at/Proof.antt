@@ -83,12 +83,18 @@ returns-2 c =
     ∙ at-unsound _ _ _ _ _ _ (ok (q .before .before .before)) (q .before .before .own-entry .ensures) (q .before .if2 .taken)
     (q .page-at .ensures) (p .own-place .ensures) (not-true _ (c .before .if3 .taken))
 
+run-behind-requires : tie.Need-run-behind-requires
+run-behind-requires c κs =
+    let e = c .before .before .before .before .before .before .before .before .before .before in
+    let p = e .before .before .before .pre in (p .0, at-node _ _ _ _ (p .0) (p .1) (ok e))
+
 returns-3 : tie.Need-returns-3
 returns-3 c =
-    let p = c .before .before .before .before in
+    let p = c .before .before .before .before .before in
     let q = p .before .before .before in
     at-rows _ _ _ _ _ _ (ok (q .before .before .before)) (q .before .before .own-entry .ensures) (q .before .if2 .taken) (q .page-at .ensures)
-    (p .own-place .ensures) (not-false _ (c .before .before .if3 .left)) (c .before .count-of .ensures .0) (c .if4 .taken)
+    (p .own-place .ensures) (not-false _ (c .before .before .before .if3 .left)) (c .before .before .count-of .ensures .0)
+    (c .before .if4 .taken) (c .run-behind .ensures .0)
 
 reach-behind-requires : tie.Need-reach-behind-requires
 reach-behind-requires c κs =
@@ -110,4 +116,4 @@ pub span-at-spec : {M : Type 1} → statement M
 span-at-spec =
     tie.close
     (tie.spec (λ c κs. search needs) returns own-entry-requires page-at-requires add-used own-place-requires (λ c κs. search needs) returns-2
-    (λ c κs. search needs) returns-3 reach-behind-requires reached-span-requires returns-4)
+    (λ c κs. search needs) run-behind-requires returns-3 reach-behind-requires reached-span-requires returns-4)

@@ -1,6 +1,6 @@
 -- One law for each test.
 use borrow.Author.Needs.{needs}
-use mathlib.Core.Path.{_≡_, ap}
+use mathlib.Core.Path.{_≡_, ap, _∙_}
 use mathlib.Core.Bool.{true}
 use Prim.Native.Nat.{ℕ, _+_, _-_, _/_, _^_, _≤_}
 use native.Mathlib.Omega.{arith}
@@ -13,10 +13,10 @@ use Rattle.page.proofs.Inside.{record-inside}
 use Rattle.page.proofs.Laws.{rule-facts}
 use Rattle.search.proofs.BlockLaws.{under-page}
 use Rattle.search.proofs.TerminalLaws.{alike, unlike}
-use Rattle.search.proofs.UseLaws.{at-asked, at-bits}
-use Rattle.search.proofs.RowLaws.{page-filled, end-other, end-elsewhere, end-first, end-all}
-use Rattle.search.proofs.reached_end.Statement.{statement}
-use Rattle.search.proofs.reached_end.Tie as tie
+use Rattle.search.proofs.UseLaws.{at-node, at-asked, at-bits}
+use Rattle.search.proofs.RowLaws.{page-filled, rows-other, rows-elsewhere, rows-alone, rows-whole}
+use Rattle.search.proofs.reached_rows.Statement.{statement}
+use Rattle.search.proofs.reached_rows.Tie as tie
 
 -- the places: the call, the first key read
 abbrev call : tie.After-read-one → tie.Start
@@ -63,18 +63,22 @@ sub-low c = let p = call (c .before .before) .pre in omega (arith, at-asked _ _ 
 
 returns : tie.Need-returns
 returns c =
-    let w = c .before .before .before .before in
-    end-other _ _ _ _ _ _ _ (w .before .before .page-at .ensures) (first-is (w .before))
-    (unlike _ _ _ _ (low-is w) (c .before .before .prefix .ensures) (c .before .prefix2 .ensures) (c .if1 .taken))
+    let t = c .before in
+    let w = t .before .before .before .before in
+    c .first-row .ensures
+    ∙ rows-other _ _ _ _ _ _ _ (w .before .before .page-at .ensures) (first-is (w .before))
+    (unlike _ _ _ _ (low-is w) (t .before .before .prefix .ensures) (t .before .prefix2 .ensures) (t .if1 .taken))
 
 own-entry-requires : tie.Need-own-entry-requires
 own-entry-requires c κs = let p = call (read c) .pre in at-asked _ _ _ _ (p .0) (p .1) (p .2)
 
 returns-2 : tie.Need-returns-2
 returns-2 c =
-    let v = c .before .before in
+    let v = c .before .before .before in
     let r = read (v .before) in
-    end-elsewhere _ _ _ _ _ _ _ (r .before .page-at .ensures) (first-is r) (agreed (v .before)) (v .own-entry .ensures) (c .if2 .taken)
+    c .first-row2 .ensures
+    ∙ rows-elsewhere _ _ _ _ _ _ _ (r .before .page-at .ensures) (first-is r) (agreed (v .before)) (v .own-entry .ensures)
+    (c .before .if2 .taken)
 
 add-keys-agree : tie.Need-add-keys-agree
 add-keys-agree c = let v = c .before .before .before .before in omega (arith, bits v, width-within (call (read (v .before)) .args .f))
@@ -84,24 +88,34 @@ keys-agree-requires c κs =
     let v = c .before .before .before .before in
     let p = read (v .before) .before in (bits v, some p, full p)
 
+-- the second test, that the page's first key leads back to it
+abbrev second : tie.After-keys-agree → tie.Else2
+second k = k .before .before .before
+
 returns-3 : tie.Need-returns-3
 returns-3 c =
-    let e = c .before .before .before .before in
-    let v = e .before .before in
+    let k = c .before .before in
+    let v = second k .before .before in
     let r = read (v .before) in
-    end-first _ _ _ _ _ _ _ (r .before .page-at .ensures) (first-is r) (agreed (v .before)) (v .own-entry .ensures) (e .if2 .left)
-    (failed (c .before .keys-agree .ensures) (c .if3 .taken))
+    c .first-row3 .ensures
+    ∙ rows-alone _ _ _ _ _ _ _ (r .before .page-at .ensures) (first-is r) (agreed (v .before)) (v .own-entry .ensures) (second k .if2 .left)
+    (failed (k .keys-agree .ensures) (c .before .if3 .taken))
+
+run-behind-requires : tie.Need-run-behind-requires
+run-behind-requires c κs =
+    let p = call (read (second (c .before .before) .before .before .before)) .pre in (p .0, at-node _ _ _ _ (p .0) (p .1) (p .2))
 
 returns-4 : tie.Need-returns-4
 returns-4 c =
-    let e = c .before .before .before .before .before in
-    let v = e .before .before in
+    let k = c .before .before .before in
+    let v = second k .before .before in
     let r = read (v .before) in
-    end-all _ _ _ _ _ _ _ (r .before .page-at .ensures) (first-is r) (agreed (v .before)) (v .own-entry .ensures) (e .if2 .left)
-    (passed (c .before .before .keys-agree .ensures) (c .before .if3 .left)) (c .count-of .ensures .0)
+    rows-whole _ _ _ _ _ _ _ (r .before .page-at .ensures) (first-is r) (agreed (v .before)) (v .own-entry .ensures) (second k .if2 .left)
+    (passed (k .keys-agree .ensures) (c .before .before .if3 .left)) (c .before .count-of .ensures .0) (c .run-behind .ensures .0)
 
-pub reached-end-spec : {M : Type 1} → statement M
-reached-end-spec =
+pub reached-rows-spec : {M : Type 1} → statement M
+reached-rows-spec =
     tie.close
-    (tie.spec page-at-requires read-one-requires (λ c κs. search needs) sub-low (λ c κs. search needs) (λ c κs. search needs) returns
-    own-entry-requires returns-2 add-keys-agree keys-agree-requires returns-3 (λ c κs. search needs) returns-4)
+    (tie.spec page-at-requires read-one-requires (λ c κs. search needs) sub-low (λ c κs. search needs) (λ c κs. search needs)
+    (λ c κs. search needs) returns own-entry-requires (λ c κs. search needs) returns-2 add-keys-agree keys-agree-requires
+    (λ c κs. search needs) returns-3 (λ c κs. search needs) run-behind-requires returns-4)
