@@ -60,7 +60,7 @@ module _ {f : Format} {s : List ℕ} {h : Head} (u : Under f s h) {w : Walk} (a 
       let g = span-behind f s h (a .strict) (w .key) (l .0) (l .1) (a .span) some z in
       record {
         terminal = a .terminal ∙ sym (g .0);
-        goes = subst (λ t. GoesBehind f s h (lastKey f s h (w .span)) t (w .span .behind)) (sym (a .terminal)) (g .1);
+        goes = subst (λ t. GoesBehind f s h true (lastKey f s h (w .span)) t (w .span .behind)) (sym (a .terminal)) (g .1);
         small = behind-small u (a .strict) (w .key) (a .span);
       }
 

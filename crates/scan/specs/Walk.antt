@@ -31,7 +31,7 @@ lastKey f s h r = keyAt f (pageAt f s h (r .page)) (r .to - 1)
 
 pub record Behind (f : Format) (s : List ℕ) (h : Head) (w : Walk) : Type 0 where
   pub terminal : w .terminal ≡ terminal f s h (lastKey f s h (w .span))
-  pub goes : GoesBehind f s h (lastKey f s h (w .span)) (w .terminal) (w .span .behind)
+  pub goes : GoesBehind f s h true (lastKey f s h (w .span)) (w .terminal) (w .span .behind)
   pub small : w .span .behind < 2 ^ 40
 
 pub record Standing (f : Format) (s : List ℕ) (h : Head) (w : Walk) : Type 0 where

@@ -35,7 +35,7 @@ fn walk_from(store: &[u32], f: Format, head: Head, strict: bool, key: u64, check
     ensures { λ r. ⌜ r ≡ walkOf f (now (store .entry)) head strict key ⌝ }
 {
     let terminal = search::terminal_of(store, f, head, key, checked);
-    let span = search::span_at(store, f, head, strict, key, terminal, 0, 0, checked);
+    let span = search::span_at(store, f, head, strict, key, terminal, checked);
     Walk {
         span,
         terminal,
@@ -85,7 +85,7 @@ fn advance(store: &[u32], f: Format, head: Head, w: Walk, checked: bool) -> Walk
     let t = w.terminal;
     let key = last_key(store, f, head, from);
     if from.behind != 0 {
-        let span = search::span_behind(store, f, head, key, t, from.behind, checked);
+        let span = search::span_behind(store, f, head, true, key, t, from.behind, checked);
         return Walk {
             span,
             terminal: t,
@@ -93,17 +93,7 @@ fn advance(store: &[u32], f: Format, head: Head, w: Walk, checked: bool) -> Walk
         };
     }
     let terminal = terminal_after(store, f, head, t, w.key, key, checked);
-    let span = search::span_at(
-        store,
-        f,
-        head,
-        true,
-        key,
-        terminal,
-        from.page,
-        from.to,
-        checked,
-    );
+    let span = search::span_at(store, f, head, true, key, terminal, checked);
     Walk {
         span,
         terminal,

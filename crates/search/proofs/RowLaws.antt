@@ -1,14 +1,14 @@
 -- Spans as the code has them: its tests, one by one, and what a sound answer says of the blocks behind it.
 --   Low r == the span r begins within the capacity; Small r == the run behind it has a small number
-use mathlib.Core.Path.{_≡_, refl, sym, ap, ap₂, _∙_, subst}
-use mathlib.Core.Bool.{Bool, true, false, _&&_, not, false≢true}
+use mathlib.Core.Path.{_≡_, refl, sym, ap, _∙_, subst}
+use mathlib.Core.Bool.{Bool, true, false, _&&_, false≢true}
 use mathlib.Core.List.{List}
 use Prim.Native.Nat.{ℕ, _+_, _-_, _*_, _/_, _^_, _≤_, _<_}
 use native.Mathlib.Omega.{arith}
 use lib.Dec.{eqb}
 use lib.ListN.{length}
 use lib.Pow.{pow-mono}
-use borrow.Author.Tests.{eqb-true, eq-eqb, ne-eqb}
+use borrow.Author.Tests.{eq-eqb, ne-eqb}
 use Rattle.lists.proofs.Cases.{by-cases}
 use Rattle.store.specs.declared.Format.{Format}
 use Rattle.store.specs.declared.Head.{Head}
@@ -24,15 +24,13 @@ use Rattle.page.proofs.Inside.{page-lent, filled, record-inside}
 use Rattle.search.specs.declared.Visit.{Visit}
 use Rattle.search.specs.declared.Terminal.{Terminal}
 use Rattle.search.specs.declared.Span.{Span}
-use Rattle.search.specs.declared.Place.{Place}
 use Rattle.search.specs.declared.Reached.{Reached}
 use Rattle.search.specs.declared.Reached.the-variants.{Page, Broken}
 use Rattle.search.specs.Descent.{entryVisit, terminal, ownVisit}
 use Rattle.search.specs.Find.{soundPage}
 use Rattle.search.specs.Next.{runAfter, runBehind, behind}
-use Rattle.search.specs.Span.{noSpan, comesBack, firstRow, reachedRows, reachedSpan, ownSpan, spanAt, spanOf, Rows, placeOf, AtKey}
+use Rattle.search.specs.Span.{noSpan, comesBack, firstRow, reachedRows, reachedSpan, ownSpan, spanAt, spanOf, Rows}
 use Rattle.search.proofs.FindLaws.{sound-rule}
-use Rattle.search.proofs.WithinLaws.{first-after}
 use Rattle.search.proofs.BlockLaws.{under-levels, under-node}
 use Rattle.search.proofs.UseLaws.{at-asked}
 use Rattle.search.proofs.SpanLaws.{rows-all, rows-one, rows-begin, reached-gives, reached-below, reached-broken, reached-lost}
@@ -43,49 +41,10 @@ span-same : (p : ℕ) {i i′ n n′ b b′ : ℕ} → i ≡ i′ → n ≡ n′
     → _≡_ {A = Span} (record { ok = true; page = p; from = i; to = n; behind = b }) (record { ok = true; page = p; from = i′; to = n′; behind = b′ })
 span-same p d e g = rw (d, e, g)
 
--- where the records above a key begin in its own page
-module _ (f : Format) (h : Head) (pg : List ℕ) (strict : Bool) (k used : ℕ) where
-  pub place-lost : soundPage f h pg k used ≡ false → _≡_ {A = Place} (record { ok = false; from = 0 }) (placeOf f h pg strict k used)
-  unfolding placeOf
-  place-lost t = sym (rw (t, placeOf))
-
-  pub place-from : (i : ℕ) → soundPage f h pg k used ≡ true → i ≡ firstAbove f pg strict k
-      → _≡_ {A = Place} (record { ok = true; from = i }) (placeOf f h pg strict k used)
-  unfolding placeOf
-  place-from i t e = ap (λ x. record { ok = true; from = x }) e ∙ sym (rw (t, placeOf))
-
--- what is known of a page that is not to be checked (a false) and of one that the key stands in (b) holds where neither is checked
-pub rule-known : (a b : Bool) {R : Type 0} → (a ≡ false → R) → (b ≡ true → R) → (a && not b) ≡ false → R
-rule-known true true p q e = q refl
-rule-known true false p q e = absurd (false≢true (sym e))
-rule-known false b p q e = p refl
-
--- record number `after` is the first above the key of the record before it
-pub after-first : {f : Format} {C : ℕ} {pg : List ℕ} {strict : Bool} {k after : ℕ} → AtKey f C pg strict k after
-    → after ≡ firstAbove f pg strict k
-after-first {f} {C} {pg} {strict} {k} {after} a =
-    let z : after - 1 + 1 ≡ after = omega (arith, a .low) in
-    sym
-    (ap₂ (firstAbove f pg) (a .above) (a .key) ∙ first-after f C pg (after - 1) (a .rule) (omega (arith, a .low, a .high)) ∙ z)
-
 -- no span is sound that met damage
 none-not : {r : Span} → r ≡ noSpan false → r .ok ≡ true → ⊥
 unfolding noSpan
 none-not e o = false≢true (sym (ap (λ r. r .ok) e) ∙ o)
-
--- what the code has of a place, q
-module _ (f : Format) (h : Head) (pg : List ℕ) (strict : Bool) (k used : ℕ) {q : Place} (e : q ≡ placeOf f h pg strict k used) where
-  pub place-sound : q .ok ≡ true → (soundPage f h pg k used ≡ true) × (q .from ≡ firstAbove f pg strict k)
-  place-sound o =
-      by-cases (soundPage f h pg k used)
-      (λ t. (t, ap (λ x. x .from) (e ∙ sym (place-from f h pg strict k used _ t refl))))
-      (λ t. absurd (false≢true (sym (ap (λ x. x .ok) (e ∙ sym (place-lost f h pg strict k used t))) ∙ o)))
-
-  pub place-unsound : q .ok ≡ false → soundPage f h pg k used ≡ false
-  place-unsound o =
-      by-cases (soundPage f h pg k used)
-      (λ t. absurd (false≢true (sym o ∙ ap (λ x. x .ok) (e ∙ sym (place-from f h pg strict k used _ t refl)))))
-      (λ t. t)
 
 -- what is asked of a page that is lent, pg
 module _ {f : Format} {s : List ℕ} {h : Head} (u : Under f s h) (p : ℕ) {pg : List ℕ} (e : pg ≡ pageAt f s h p) where
@@ -185,35 +144,25 @@ module _ (f : Format) (s : List ℕ) (h : Head) (strict : Bool) (k : ℕ) (t : T
         (sound-rule f h pg k (t .used + v .depth))
         (λ p. absurd (none-not (unsound p) q))
 
-    -- the key stands in the page that is known, if that is this one
-    pub at-key : (known after : ℕ) → ((known ≡ 0 → ⊥) → AtKey f (h .capacity) (pageAt f s h known) strict k after)
-        → eqb (v .pointer) known ≡ true → AtKey f (h .capacity) pg strict k after
-    at-key known after a q =
-        let d = eqb-true (v .pointer) known q in
-        rw (e, d) (a (λ y. z (d ∙ y)))
+    pub at-unsound : soundPage f h pg k (t .used + v .depth) ≡ false → noSpan false ≡ whole
+    at-unsound p = sym (unsound p)
 
-    module _ {q : Place} (eq : q ≡ placeOf f h pg strict k (t .used + v .depth)) where
-      pub at-unsound : q .ok ≡ false → noSpan false ≡ whole
-      at-unsound b = sym (unsound (place-unsound f h pg strict k (t .used + v .depth) eq b))
+    -- the page is sound; i is what the code has of the first record above the key, n of the count
+    module _ (p : soundPage f h pg k (t .used + v .depth) ≡ true) {i n : ℕ} (ei : i ≡ firstAbove f pg strict k) (en : n ≡ count pg) where
+      begins : i ≡ firstAbove f (pageAt f s h (v .pointer)) strict k
+      begins = rw e at ei
 
-      module _ (b : q .ok ≡ true) {n : ℕ} (en : n ≡ count pg) where
-        sound : soundPage f h (pageAt f s h (v .pointer)) k (t .used + v .depth) ≡ true
-        sound = rw e at (place-sound f h pg strict k (t .used + v .depth) eq b .0)
+      ends : n ≡ count (pageAt f s h (v .pointer))
+      ends = rw e at en
 
-        begins : q .from ≡ firstAbove f (pageAt f s h (v .pointer)) strict k
-        begins = rw e at (place-sound f h pg strict k (t .used + v .depth) eq b .1)
+      pub at-rows : i < n → {b : ℕ} → b ≡ runBehind s h (t .node) (v .depth) (v .entry)
+          → _≡_ {A = Span} (record { ok = true; page = v .pointer; from = i; to = n; behind = b }) whole
+      at-rows l eb =
+          span-same (v .pointer) begins ends eb
+          ∙ sym (at-own ∙ own-rows f s h strict k (t .node) (t .used) v z (rw e at p) (omega (arith, begins, ends)))
 
-        ends : n ≡ count (pageAt f s h (v .pointer))
-        ends = rw e at en
-
-        pub at-rows : q .from < n → {b : ℕ} → b ≡ runBehind s h (t .node) (v .depth) (v .entry)
-            → _≡_ {A = Span} (record { ok = true; page = v .pointer; from = q .from; to = n; behind = b }) whole
-        at-rows l eb =
-            span-same (v .pointer) begins ends eb
-            ∙ sym (at-own ∙ own-rows f s h strict k (t .node) (t .used) v z sound (omega (arith, begins, ends)))
-
-        pub at-after : n ≤ q .from → whole ≡ onwards
-        at-after l = at-own ∙ own-after f s h strict k (t .node) (t .used) v z sound (omega (arith, begins, ends))
+      pub at-after : n ≤ i → whole ≡ onwards
+      at-after l = at-own ∙ own-after f s h strict k (t .node) (t .used) v z (rw e at p) (omega (arith, begins, ends))
 
 -- the first record of a span lies in its page
 module _ {f : Format} {s : List ℕ} {h : Head} (u : Under f s h) (strict : Bool) (k : ℕ) where

@@ -378,7 +378,7 @@ module _ (f : Format) (s : List ℕ) (h : Head) where
       let v = ownVisit f s h k (t .node) (t .used) in
       let k₂ = keyAt f (pageAt f s h p) (count (pageAt f s h p) - 1) in
       (p ≡ 0 → ⊥) → soundPage f h (pageAt f s h p) k (t .used + v .depth) ≡ true
-      → (terminal f s h k₂ ≡ t) × GoesBehind f s h k₂ t (runBehind s h (t .node) (v .depth) (v .entry))
+      → (terminal f s h k₂ ≡ t) × GoesBehind f s h true k₂ t (runBehind s h (t .node) (v .depth) (v .entry))
 
   own-goes : (k : ℕ) → 1 ≤ h .levels → h .levels ≤ 32 → terminal f s h k .ok ≡ true
       → let t = terminal f s h k in Goes k t (ownVisit f s h k (t .node) (t .used) .pointer)
@@ -419,7 +419,7 @@ module _ (f : Format) (s : List ℕ) (h : Head) (strict : Bool) (k : ℕ) where
   Behind r =
       let k₂ = keyAt f (pageAt f s h (r .page)) (r .to - 1) in
       (r .page ≡ 0 → ⊥) → (r .behind ≡ 0 → ⊥)
-      → (terminal f s h k₂ ≡ terminal f s h k) × GoesBehind f s h k₂ (terminal f s h k) (r .behind)
+      → (terminal f s h k₂ ≡ terminal f s h k) × GoesBehind f s h true k₂ (terminal f s h k) (r .behind)
 
   none-behind : (b : Bool) → Behind (noSpan b)
   unfolding noSpan

@@ -9,10 +9,9 @@
 --   spanAt f s h strict k t == the records that follow the key k, whose terminal node is t
 --   spanOf f s h strict k == the same from the root
 --   soughtOf f s h r      == the first record of a span
---   GoesBehind f s h k t i == above the key k, whose terminal node is t, next gives the records of the page that follows from entry i on
+--   GoesBehind f s h strict k t i == above the key k, whose terminal node is t, next gives the records of the page that follows from entry i
+--     on
 --   Rows f s h r          == the span r has records, in a page that keeps the page rule
---   placeOf f h pg strict k used == where the records above the key k begin in its own page pg, if that is sound
---   AtKey f C pg strict k after == k is the key of the record before number `after` in the page pg, which keeps the page rule
 use mathlib.Core.Path.{_≡_}
 use mathlib.Core.Bool.{Bool, true, false, _&&_}
 use mathlib.Core.List.{List}
@@ -26,7 +25,6 @@ use Rattle.page.specs.Page.{count, itemAt, keyAt, pageRule, agrees, above, firs
 use Rattle.search.specs.declared.Visit.{Visit}
 use Rattle.search.specs.declared.Terminal.{Terminal}
 use Rattle.search.specs.declared.Span.{Span}
-use Rattle.search.specs.declared.Place.{Place}
 use Rattle.search.specs.declared.Sought.{Sought}
 use Rattle.search.specs.declared.Sought.the-variants.{Record, Nothing, Damaged}
 use Rattle.search.specs.declared.Reached.{Reached}
@@ -103,9 +101,9 @@ spanAt f s h strict k t =
 abbrev pub spanOf : Format → List ℕ → Head → Bool → ℕ → Span
 spanOf f s h strict k = spanAt f s h strict k (terminal f s h k)
 
-abbrev pub GoesBehind : Format → List ℕ → Head → ℕ → Terminal → ℕ → Type 0
-GoesBehind f s h k t i =
-    spanAt f s h true k t ≡ reachedSpan f s h true k (t .node) (t .used) (reach s h (h .nodesTaken + 1) (t .node) i)
+abbrev pub GoesBehind : Format → List ℕ → Head → Bool → ℕ → Terminal → ℕ → Type 0
+GoesBehind f s h strict k t i =
+    spanAt f s h strict k t ≡ reachedSpan f s h strict k (t .node) (t .used) (reach s h (h .nodesTaken + 1) (t .node) i)
 
 unfoldable pub soughtOf : Format → List ℕ → Head → Span → Sought
 soughtOf f s h r =
@@ -118,17 +116,3 @@ pub record Rows (f : Format) (s : List ℕ) (h : Head) (r : Span) : Type 0 where
   pub rule : pageRule f (h .capacity) (pageAt f s h (r .page)) ≡ true
   pub some : r .from < r .to
   pub within : r .to ≤ count (pageAt f s h (r .page))
-
-unfoldable pub placeOf : Format → Head → List ℕ → Bool → ℕ → ℕ → Place
-placeOf f h pg strict k used =
-    elim (soundPage f h pg k used) [
-      | true ↦ record { ok = true; from = firstAbove f pg strict k }
-      | false ↦ record { ok = false; from = 0 }
-    ]
-
-pub record AtKey (f : Format) (C : ℕ) (pg : List ℕ) (strict : Bool) (k after : ℕ) : Type 0 where
-  pub rule : pageRule f C pg ≡ true
-  pub above : strict ≡ true
-  pub low : 1 ≤ after
-  pub high : after ≤ count pg
-  pub key : k ≡ keyAt f pg (after - 1)

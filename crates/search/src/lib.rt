@@ -13,10 +13,10 @@ ghost use Rattle.node.specs.Node.{depthWord, nodeRule};
 ghost use Rattle.page.specs.Page.{pageRule, Lent, Filled};
 ghost use Rattle.search.specs.Descent.{soundNode, TerminalNode, stepOf, lost, descent, terminal, ownVisit};
 ghost use Rattle.search.specs.Find.{reply, soughtReply, soundPage, inPage, findOf, findReply};
-ghost use Rattle.search.specs.Next.{firstPointer, runAfter, runBehind, linked, onward, hop, reach, behind, nextOf, nextReply};
+ghost use Rattle.search.specs.Next.{firstPointer, runAfter, runBehind, linked, onward, hop, reach, nextOf, nextReply};
 ghost use Rattle.search.specs.declared.Reached.the-variants.{Broken};
 ghost use Rattle.search.specs.declared.Hop.the-variants.{Ends};
-ghost use Rattle.search.specs.Span.{noSpan, firstRow, reachedRows, reachedSpan, spanAt, soughtOf, placeOf, GoesBehind, AtKey};
+ghost use Rattle.search.specs.Span.{noSpan, firstRow, reachedRows, reachedSpan, spanAt, soughtOf, GoesBehind};
 
 // One node on a key's path: its number, the key's entry in it, that entry's local depth, and the bits used before the node.
 pub struct Step {
@@ -57,12 +57,6 @@ pub struct Span {
     pub from: usize,
     pub to: usize,
     pub behind: usize,
-}
-
-// Where the records above a key begin in its own page; not ok: the page is not sound.
-struct Place {
-    ok: bool,
-    from: usize,
 }
 
 pub enum Sought {
@@ -460,16 +454,6 @@ fn run_behind(store: &[u32], f: Format, head: Head, n: u32, v: Visit) -> usize
     run_after(node[0], v.depth, v.entry)
 }
 
-// The page that follows the run of a key's entry v in its terminal node n.
-fn reach_behind(store: &[u32], f: Format, head: Head, n: u32, v: Visit, checked: bool) -> Reached
-    requires { ⌜ (Under f (now store) head) × (TerminalNode head (now store) n)
-        × (checked ≡ false → behind (now store) head n (v .depth) (v .entry) ≡ Broken → ⊥) ⌝ }
-    ensures { λ r. ⌜ r ≡ behind (now (store .entry)) head n (v .depth) (v .entry) ⌝ }
-{
-    let start = run_behind(store, f, head, n, v);
-    reach_from(store, f, head, n, start, checked)
-}
-
 // A span without records.
 fn no_span(ok: bool) -> Span
     ensures { λ r. ⌜ r ≡ noSpan ok ⌝ }
@@ -563,41 +547,27 @@ fn reached_span(
     }
 }
 
-// Where the records above a key begin in its own page, which leads to it after the used bits; damage, if the page is not sound. With
-// `at_key` the key is that of the record before number `after` in this page, which keeps the page rule.
-fn own_place(
-    page: &[u32],
+// The records above a key, whose terminal node is t, where next goes on with the run that begins at entry `start`.
+pub fn span_behind(
+    store: &[u32],
     f: Format,
     head: Head,
     strict: bool,
     key: u64,
-    used: u32,
-    at_key: bool,
-    after: usize,
+    t: Terminal,
+    start: usize,
     checked: bool,
-) -> Place
-    requires { ⌜ (head .capacity ≤ largestCapacity) × (used ≤ width f) × (Lent f (head .capacity) (now page))
-        × («at_key» ≡ true → AtKey f (head .capacity) (now page) strict key after)
-        × (checked ≡ false → pageRule f (head .capacity) (now page) ≡ true) ⌝ }
-    ensures { λ r. ⌜ r ≡ placeOf f head (now (page .entry)) strict key used ⌝ }
+) -> Span
+    requires { ⌜ (Under f (now store) head) × (t ≡ terminal f (now store) head key) × (t .ok ≡ true) × (start < 2 ^ 40)
+        × GoesBehind f (now store) head strict key t start
+        × (checked ≡ false → spanAt f (now store) head strict key t .ok ≡ true) ⌝ }
+    ensures { λ r. ⌜ r ≡ spanAt f (now (store .entry)) head strict key t ⌝ }
 {
-    if !page_sound(page, f, head, key, used, checked & !at_key) {
-        return Place { ok: false, from: 0 };
-    }
-    if at_key {
-        return Place {
-            ok: true,
-            from: after,
-        };
-    }
-    Place {
-        ok: true,
-        from: page::first_above(page, f, strict, key),
-    }
+    let a = reach_from(store, f, head, t.node, start, checked);
+    reached_span(store, f, head, strict, key, t, a, checked)
 }
 
-// The records that follow a key, whose terminal node is t, in its own page or the first of the one after it. Where `known` is not 0 the key
-// is that of the record before number `after` in page `known`, which keeps the page rule.
+// The records that follow a key, whose terminal node is t, in its own page or the first of the one after it.
 pub fn span_at(
     store: &[u32],
     f: Format,
@@ -605,12 +575,9 @@ pub fn span_at(
     strict: bool,
     key: u64,
     t: Terminal,
-    known: u32,
-    after: usize,
     checked: bool,
 ) -> Span
     requires { ⌜ (Under f (now store) head) × (t ≡ terminal f (now store) head key)
-        × ((known ≡ 0 → ⊥) → AtKey f (head .capacity) (pageAt f (now store) head known) strict key after)
         × (checked ≡ false → spanAt f (now store) head strict key t .ok ≡ true) ⌝ }
     ensures { λ r. ⌜ r ≡ spanAt f (now (store .entry)) head strict key t ⌝ }
 {
@@ -618,15 +585,14 @@ pub fn span_at(
         return no_span(false);
     }
     let v = own_entry(store, f, head, key, t.node, t.used);
+    let behind = run_behind(store, f, head, t.node, v);
     let p = v.pointer;
     if p != 0 {
         let page = store::page_at(store, f, head, p);
-        let used = t.used + v.depth;
-        let place = own_place(page, f, head, strict, key, used, p == known, after, checked);
-        if !place.ok {
+        if !page_sound(page, f, head, key, t.used + v.depth, checked) {
             return no_span(false);
         }
-        let from = place.from;
+        let from = page::first_above(page, f, strict, key);
         let to = page::count_of(page);
         if from < to {
             return Span {
@@ -634,30 +600,11 @@ pub fn span_at(
                 page: p,
                 from,
                 to,
-                behind: run_behind(store, f, head, t.node, v),
+                behind,
             };
         }
     }
-    let a = reach_behind(store, f, head, t.node, v, checked);
-    reached_span(store, f, head, strict, key, t, a, checked)
-}
-
-// The records that follow a key, whose terminal node is t, where next goes on with the run that begins at entry `start`.
-pub fn span_behind(
-    store: &[u32],
-    f: Format,
-    head: Head,
-    key: u64,
-    t: Terminal,
-    start: usize,
-    checked: bool,
-) -> Span
-    requires { ⌜ (Under f (now store) head) × (t ≡ terminal f (now store) head key) × (t .ok ≡ true) × (start < 2 ^ 40)
-        × GoesBehind f (now store) head key t start × (checked ≡ false → spanAt f (now store) head true key t .ok ≡ true) ⌝ }
-    ensures { λ r. ⌜ r ≡ spanAt f (now (store .entry)) head true key t ⌝ }
-{
-    let a = reach_from(store, f, head, t.node, start, checked);
-    reached_span(store, f, head, true, key, t, a, checked)
+    span_behind(store, f, head, strict, key, t, behind, checked)
 }
 
 // The first record of a span.
@@ -682,7 +629,7 @@ fn next_under(store: &[u32], f: Format, head: Head, strict: bool, key: u64) -> S
     ensures { λ r. ⌜ r ≡ nextOf f (now (store .entry)) head strict key ⌝ }
 {
     let t = terminal_of(store, f, head, key, true);
-    let r = span_at(store, f, head, strict, key, t, 0, 0, true);
+    let r = span_at(store, f, head, strict, key, t, true);
     sought_of(store, f, head, r)
 }
 

@@ -1,9 +1,8 @@
 -- From the last record of the span: the span behind its page, or else its terminal node and the span after it.
-use mathlib.Core.Path.{_≡_, refl}
+use mathlib.Core.Path.{_≡_}
 use mathlib.Core.Bool.{true}
 use mathlib.Core.List.{List}
 use Prim.Native.Nat.{ℕ}
-use native.Mathlib.Omega.{arith}
 use Rattle.store.specs.declared.Format.{Format}
 use Rattle.store.specs.declared.Head.{Head}
 use Rattle.search.specs.declared.Terminal.{Terminal}
@@ -60,19 +59,8 @@ span-at-requires : tie.Need-span-at-requires
 span-at-requires c κs =
     let k = c .before .before .before in
     let p = call k .pre in
-    let w = p .1 .rows in
-    let e = c .terminal-after .ensures in (
-      p .0,
-      e,
-      λ z. record {
-        rule = w .rule;
-        above = refl;
-        low = omega (arith, w .some);
-        high = w .within;
-        key = k .last-key .ensures;
-      },
-      λ z. rw (e, k .last-key .ensures) (p .2 z),
-    )
+    let e = c .terminal-after .ensures in
+    (p .0, e, λ z. rw (e, k .last-key .ensures) (p .2 z))
 
 returns-2 : tie.Need-returns-2
 unfolding walkOf

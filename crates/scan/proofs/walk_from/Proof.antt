@@ -1,5 +1,4 @@
 -- The terminal node, then the span.
-use mathlib.Core.Path.{refl}
 use Rattle.search.proofs.SpanLaws.{terminal-whole}
 use Rattle.scan.specs.Walk.{walkOf}
 use Rattle.scan.proofs.walk_from.Statement.{statement}
@@ -12,7 +11,7 @@ span-at-requires : tie.Need-span-at-requires
 span-at-requires c κs =
     let p = c .before .before .pre in
     let e = c .terminal-of .ensures in
-    (p .0, e, λ z. absurd (z refl), λ z. rw e (p .1 z))
+    (p .0, e, λ z. rw e (p .1 z))
 
 returns : tie.Need-returns
 unfolding walkOf

@@ -19,7 +19,7 @@ terminal-of-requires c κs = (c .before .pre, λ q. absurd (false≢true (sym q)
 
 span-at-requires : tie.Need-span-at-requires
 span-at-requires c κs =
-    (c .before .before .pre, c .terminal-of .ensures, λ q. absurd (q refl), λ q. absurd (false≢true (sym q)))
+    (c .before .before .pre, c .terminal-of .ensures, λ q. absurd (false≢true (sym q)))
 
 sought-of-requires : tie.Need-sought-of-requires
 sought-of-requires c κs = row-asked (c .before .before .before .pre) _ _ (span c)

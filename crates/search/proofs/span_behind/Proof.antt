@@ -1,6 +1,5 @@
 -- The way on from the run, and what it leads to.
 use mathlib.Core.Path.{_≡_, sym, ap, _∙_}
-use mathlib.Core.Bool.{true}
 use Rattle.search.specs.Span.{reachedSpan, spanAt}
 use Rattle.search.proofs.UseLaws.{at-node}
 use Rattle.search.proofs.RowLaws.{reached-whole}
@@ -10,8 +9,8 @@ use Rattle.search.proofs.span_behind.Tie as tie
 -- what it leads to is the span
 reached : (c : tie.After-reach-from)
     → let a = c .before .before .args in
-    reachedSpan (a .f) (a .store .now) (a .head) true (a .key) (a .t .node) (a .t .used) (c .reach-from .result)
-    ≡ spanAt (a .f) (a .store .now) (a .head) true (a .key) (a .t)
+    reachedSpan (a .f) (a .store .now) (a .head) (a .strict) (a .key) (a .t .node) (a .t .used) (c .reach-from .result)
+    ≡ spanAt (a .f) (a .store .now) (a .head) (a .strict) (a .key) (a .t)
 reached c = ap (reachedSpan _ _ _ _ _ _ _) (c .reach-from .ensures) ∙ sym (c .before .before .pre .4)
 
 reach-from-requires : tie.Need-reach-from-requires
