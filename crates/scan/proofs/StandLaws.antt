@@ -66,7 +66,7 @@ module _ {f : Format} {s : List ℕ} {h : Head} (u : Under f s h) {w : Walk} (a 
 
   pub standing : Standing f s h w
   standing =
-      record { rows = walk-rows; terminal = a .terminal; ok = ap (λ t. t .ok) (a .terminal) ∙ whole .1; behind = goes-behind }
+      record { rows = walk-rows; ok = ap (λ t. t .ok) (a .terminal) ∙ whole .1; behind = goes-behind }
 
   -- what is asked where its page, which the code has as pg, is searched
   module _ {pg : List ℕ} (e : pg ≡ pageAt f s h (w .span .page)) where

@@ -3,8 +3,8 @@
 --   walkOf f s h strict k == the walk at the first records above the key k, or, if not strict, at or above it
 --   lastKey f s h r       == the key of the last record of a span
 --   Behind f s h w        == next from the last record of the walk w goes on with the run behind its page, in the same terminal node
---   Standing f s h w      == the walk w stands at records, its terminal node is that of its key, and where the run behind its page is known,
---     next from its last record goes on there
+--   Standing f s h w      == the walk w stands at records, its terminal node is sound, and where the run behind its page is known, next from
+--     its last record goes on there
 --   endOf f pg from to high == where those of the records from number `from` up to `to` end that are not above high
 --   rows f pg i n         == n records of a page, from number i on
 use mathlib.Core.Path.{_≡_}
@@ -36,7 +36,6 @@ pub record Behind (f : Format) (s : List ℕ) (h : Head) (w : Walk) : Type 0 whe
 
 pub record Standing (f : Format) (s : List ℕ) (h : Head) (w : Walk) : Type 0 where
   pub rows : Rows f s h (w .span)
-  pub terminal : w .terminal ≡ terminal f s h (w .key)
   pub ok : w .terminal .ok ≡ true
   pub behind : (w .span .behind ≡ 0 → ⊥) → Behind f s h w
 

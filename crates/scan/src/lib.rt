@@ -16,7 +16,6 @@ ghost use Rattle.store.specs.Format.{words};
 ghost use Rattle.store.specs.Head.{Under};
 ghost use Rattle.page.specs.Page.{count, flat, Filled};
 ghost use Rattle.totals.specs.Totals.{Room, Bounded, updatedOf, totalsOf};
-ghost use Rattle.search.specs.Descent.{terminal};
 ghost use Rattle.search.specs.Span.{spanOf, Rows};
 ghost use Rattle.scan.specs.Walk.{walkOf, lastKey, Standing, endOf, rows};
 ghost use Rattle.scan.specs.Range.{ranged, listing, listingOf, firsts, rangeReply, rangeOf};
@@ -43,27 +42,6 @@ fn walk_from(store: &[u32], f: Format, head: Head, strict: bool, key: u64, check
     }
 }
 
-// The terminal node of a key: that of another key, if both agree in the bits used before it.
-fn terminal_after(
-    store: &[u32],
-    f: Format,
-    head: Head,
-    t: Terminal,
-    other: u64,
-    key: u64,
-    checked: bool,
-) -> Terminal
-    requires { ⌜ (Under f (now store) head) × (t ≡ terminal f (now store) head other) × (t .ok ≡ true)
-        × (checked ≡ false → terminal f (now store) head key .ok ≡ true) ⌝ }
-    ensures { λ r. ⌜ r ≡ terminal f (now (store .entry)) head key ⌝ }
-{
-    let low = store::width_of(f) - t.used;
-    if page::prefix(key, low) == page::prefix(other, low) {
-        return t;
-    }
-    search::terminal_of(store, f, head, key, checked)
-}
-
 // The key of the last record of a span.
 fn last_key(store: &[u32], f: Format, head: Head, r: Span) -> u64
     requires { ⌜ (Under f (now store) head) × (Rows f (now store) head r) ⌝ }
@@ -74,8 +52,7 @@ fn last_key(store: &[u32], f: Format, head: Head, r: Span) -> u64
     item.key
 }
 
-// The walk after the last record of its span. Where next from there visits the same blocks again it stays in them: it goes on with the run
-// behind the page where that is known.
+// The walk after the last record of its span: on with the run behind the page, where that is known, without that record's way down.
 fn advance(store: &[u32], f: Format, head: Head, w: Walk, checked: bool) -> Walk
     requires { ⌜ (Under f (now store) head) × (Standing f (now store) head w)
         × (checked ≡ false → spanOf f (now store) head true (lastKey f (now store) head (w .span)) .ok ≡ true) ⌝ }
@@ -92,13 +69,7 @@ fn advance(store: &[u32], f: Format, head: Head, w: Walk, checked: bool) -> Walk
             key,
         };
     }
-    let terminal = terminal_after(store, f, head, t, w.key, key, checked);
-    let span = search::span_at(store, f, head, true, key, terminal, checked);
-    Walk {
-        span,
-        terminal,
-        key,
-    }
+    walk_from(store, f, head, true, key, checked)
 }
 
 // Where the records of a span that are not above high end.

@@ -1,5 +1,5 @@
--- From the last record of the span: the span behind its page, or else its terminal node and the span after it.
-use mathlib.Core.Path.{_≡_}
+-- From the last record of the span: the span behind its page, or else its way from the root.
+use mathlib.Core.Path.{_≡_, ap, _∙_}
 use mathlib.Core.Bool.{true}
 use mathlib.Core.List.{List}
 use Prim.Native.Nat.{ℕ}
@@ -9,7 +9,6 @@ use Rattle.search.specs.declared.Terminal.{Terminal}
 use Rattle.search.specs.declared.Span.{Span}
 use Rattle.search.specs.Descent.{terminal}
 use Rattle.search.specs.Span.{spanAt}
-use Rattle.search.proofs.SpanLaws.{terminal-whole}
 use Rattle.scan.specs.Walk.{walkOf, Behind}
 use Rattle.scan.proofs.advance.Statement.{statement}
 use Rattle.scan.proofs.advance.Tie as tie
@@ -49,22 +48,13 @@ returns : tie.Need-returns
 returns c =
     walk-is _ _ _ (c .span-behind .ensures) (known (c .before) .terminal) (c .before .before .before .last-key .ensures)
 
-terminal-after-requires : tie.Need-terminal-after-requires
-terminal-after-requires c κs =
+walk-from-requires : tie.Need-walk-from-requires
+walk-from-requires c κs =
     let k = c .before .before in
-    let p = call k .pre in
-    (p .0, p .1 .terminal, p .1 .ok, λ z. rw (k .last-key .ensures) (terminal-whole _ _ _ _ _ (p .2 z)))
-
-span-at-requires : tie.Need-span-at-requires
-span-at-requires c κs =
-    let k = c .before .before .before in
-    let p = call k .pre in
-    let e = c .terminal-after .ensures in
-    (p .0, e, λ z. rw (e, k .last-key .ensures) (p .2 z))
+    let p = call k .pre in (p .0, λ z. rw (k .last-key .ensures) (p .2 z))
 
 returns-2 : tie.Need-returns-2
-unfolding walkOf
-returns-2 c = rw (c .span-at .ensures, c .before .terminal-after .ensures, c .before .before .before .before .last-key .ensures)
+returns-2 c = c .walk-from .ensures ∙ ap (walkOf _ _ _ true) (c .before .before .before .last-key .ensures)
 
 pub advance-spec : {M : Type 1} → statement M
-advance-spec = tie.close (tie.spec last-key-requires span-behind-requires returns terminal-after-requires span-at-requires returns-2)
+advance-spec = tie.close (tie.spec last-key-requires span-behind-requires returns walk-from-requires returns-2)
