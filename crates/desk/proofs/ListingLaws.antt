@@ -17,7 +17,7 @@ use Rattle.lines.specs.declared.Reply.the-variants.{Refused, SetUpLine}
 use Rattle.store.specs.declared.Format.the-variants.{Plots}
 use Rattle.store.specs.declared.Head.{Head}
 use Rattle.store.specs.Format.{words}
-use Rattle.store.specs.Head.{headOf}
+use Rattle.store.specs.Head.{word, headOf}
 use Rattle.scan.specs.Range.{RangeReply, rangeRefused, rangeOf}
 use Rattle.scan.proofs.Promises.{range-rule, range-more, range-onward}
 use Rattle.desk.specs.declared.Survey.{Survey}
@@ -204,14 +204,12 @@ module _ (s : List ℕ) (a : Survey) (e : a ≡ surveyed s 1 largestKey) where
   abbrev sizesLine : Head → Reply
   sizesLine h = SetUpLine (h .theta) (h .capacity) (h .nodeBlocks) (h .pageBlocks)
 
-  pub dumped-register : a .number ≡ 0 → (h : Head) → h ≡ headOf s
-      → Register (SetUpLine (h .theta) (h .capacity) (h .nodeBlocks) (h .pageBlocks))
-      (record { active = true; dump = true; at = 1; high = largestKey; count = a .count }) ≡ dumped s
-  unfolding dumped
-  dumped-register z h i =
-      rw (eq-eqb _ 0 (number-is s 1 largestKey a e ∙ z), dumped)
-      (ap (Register (sizesLine h)) (listing-is s 1 largestKey a e true)
-      ∙ ap (λ (x : Head). Register (sizesLine x) (listing s true 1 largestKey)) i)
+  pub dumped-register : a .number ≡ 0 → {θ C N P : ℕ} → θ ≡ word s 0 → C ≡ word s 1 → N ≡ word s 2 → P ≡ word s 3
+      → Register (SetUpLine θ C N P) (record { active = true; dump = true; at = 1; high = largestKey; count = a .count }) ≡ dumped s
+  unfolding dumped headOf
+  dumped-register z i j k l =
+      rw (eq-eqb _ 0 (number-is s 1 largestKey a e ∙ z), dumped, i, j, k, l)
+      (ap (Register (sizesLine (headOf s))) (listing-is s 1 largestKey a e true))
 
   pub dumped-refused : (a .number ≡ 0 → ⊥) → Line (Refused 6 (a .number)) ≡ dumped s
   unfolding dumped

@@ -292,14 +292,14 @@ pub dump-whole : (s : List ℕ) (S : List Item) → Holds Plots s S
     → let h = headOf s in
     outcomeBytes s (dumped s)
     ≡ replyLine (SetUpLine (h .theta) (h .capacity) (h .nodeBlocks) (h .pageBlocks)) ++ listedLines true S
-unfolding outcomeBytes lastLine
+unfolding outcomeBytes lastLine headOf
 dump-whole s S h =
     let q : largestKey < 2 ^ 32 = omega arith in
     let p : 1 ≤ largestKey = omega arith in
     let c = counted-whole s S h largestKey q 1 p in
     let z = headOf s in
     let first = replyLine (SetUpLine (z .theta) (z .capacity) (z .nodeBlocks) (z .pageBlocks)) in
-    ap (outcomeBytes s) (sym (dumped-register s _ c refl z refl))
+    ap (outcomeBytes s) (sym (dumped-register s _ c refl refl refl refl refl))
     ∙ ap (λ (l : Listing). first ++ carried s l) (listing-is s 1 largestKey _ c true)
     ∙ ap (λ (bs : List ℕ). first ++ bs)
     (carried-whole s S h largestKey q true 1 p ∙ append-nil _ ∙ ap (listedLines true) (within-whole S (h .lawful)))

@@ -244,9 +244,13 @@ fn open_dump(store: &[u32]) -> Outcome
     if a.number != 0 {
         return Outcome::Line(Reply::Refused(6, a.number));
     }
-    let head = store::head_of(store);
     Outcome::Register(
-        Reply::SetUpLine(head.theta, head.capacity, head.nodeBlocks, head.pageBlocks),
+        Reply::SetUpLine(
+            store::word(store, 0),
+            store::word(store, 1),
+            store::word(store, 2),
+            store::word(store, 3),
+        ),
         Listing {
             active: true,
             dump: true,

@@ -45,12 +45,6 @@ pub page-start-is : (f : Format) (h : Head) (p a b c d : ℕ) → a ≡ h .nodeB
 unfolding pageStart
 page-start-is f h p a b c d i j k l = rw (i, j, k, l)
 
-pub head-is : (s : List ℕ) (a b c d e g i j : ℕ) → a ≡ word s 0 → b ≡ word s 1 → c ≡ word s 2 → d ≡ word s 3
-    → e ≡ word s 4 → g ≡ word s 5 → i ≡ word s 6 → j ≡ word s 7
-    → record { theta = a; capacity = b; nodeBlocks = c; pageBlocks = d; nodesTaken = e; pagesTaken = g; root = i; levels = j } ≡ headOf s
-unfolding headOf
-head-is s a b c d e g i j p q r t u v w x = rw (p, q, r, t, u, v, w, x)
-
 pub counts-are : (f : Format) (h : Head) (a b c d e g i : Bool) → a ≡ leb 1 (h .nodesTaken) → b ≡ leb (h .nodesTaken) (h .nodeBlocks)
     → c ≡ leb (h .pagesTaken) (h .pageBlocks) → d ≡ leb 1 (h .root) → e ≡ leb (h .root) (h .nodesTaken) → g ≡ leb 1 (h .levels)
     → i ≡ leb (h .levels) (levelBound (width f) (h .theta) (h .capacity)) → (a && b && c && d && e && g && i) ≡ lawfulCounts f h
@@ -161,6 +155,11 @@ head-facts f s e =
     let b = and-true _ _ (a .0) in
     let c = and-true _ _ (b .0) in
     record { limits = sizes-limits _ _ _ _ (c .0); counts = counts-facts f (headOf s) (a .1); room = leb-true _ _ (b .1) }
+
+-- a store that keeps the rule has its head
+pub head-long : (f : Format) (s : List ℕ) → headRule f s ≡ true → 8 ≤ length s
+head-long f s e =
+    let h = headOf s in omega (arith, head-facts f s e .room, size-head f (h .theta) (h .capacity) (h .nodeBlocks) (h .pageBlocks))
 
 -- a store shorter than the head's sizes ask
 pub rule-short : (f : Format) (s : List ℕ) (h : Head) → h ≡ headOf s

@@ -105,17 +105,18 @@ pub fn is_zero(part: &[u32]) -> bool
 
 // The first eight words of a store.
 pub fn head_of(store: &[u32]) -> Head
+    requires { ⌜ 8 ≤ length (now store) ⌝ }
     ensures { λ r. ⌜ r ≡ headOf (now (store .entry)) ⌝ }
 {
     Head {
-        theta: word(store, 0),
-        capacity: word(store, 1),
-        nodeBlocks: word(store, 2),
-        pageBlocks: word(store, 3),
-        nodesTaken: word(store, 4),
-        pagesTaken: word(store, 5),
-        root: word(store, 6),
-        levels: word(store, 7),
+        theta: store[0],
+        capacity: store[1],
+        nodeBlocks: store[2],
+        pageBlocks: store[3],
+        nodesTaken: store[4],
+        pagesTaken: store[5],
+        root: store[6],
+        levels: store[7],
     }
 }
 
@@ -232,6 +233,9 @@ fn counts_ok(f: Format, head: Head) -> bool
 pub fn head_ok(store: &[u32], f: Format) -> bool
     ensures { λ r. ⌜ r ≡ headRule f (now (store .entry)) ⌝ }
 {
+    if store.len() < 16 {
+        return false;
+    }
     let head = head_of(store);
     if !sizes_ok(head.theta, head.capacity, head.nodeBlocks, head.pageBlocks) {
         return false;

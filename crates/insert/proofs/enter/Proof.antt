@@ -6,6 +6,7 @@ use Rattle.lists.specs.Keyed.{contains}
 use Rattle.lists.proofs.Tests.{passed, failed}
 use Rattle.store.specs.Head.{headRule}
 use Rattle.page.specs.Schema.{keyOf}
+use Rattle.store.proofs.HeadLaws.{head-long}
 use Rattle.insert.specs.Enter.{ownItems, undamaged}
 use Rattle.insert.proofs.Refusals.{enter-3, enter-6}
 use Rattle.insert.proofs.EnterCode.{Begun, begun-limits, begun-narrow, begun-counts, begun-long, begun-carries}
@@ -153,6 +154,6 @@ returns-7 c =
 pub enter-spec : {M : Type 1} → statement M
 enter-spec =
     tie.close
-    (tie.spec (λ c κs. search needs) (λ c. search needs) returns (λ c κs. search needs) (λ c. search needs) returns-2 (λ c κs. search needs)
-    descend-requires way-ok-requires (λ c. search needs) returns-3 held-at-requires (λ c. search needs) returns-4 plan-for-requires sub-if5
-    (λ c. search needs) returns-5 sub-if6 (λ c. search needs) returns-6 make-room-requires place-requires (λ c. search needs) returns-7)
+    (tie.spec (λ c κs. search needs) (λ c. search needs) returns (λ c κs. search needs) (λ c. search needs) returns-2
+    (λ c κs. head-long _ _ (ruled (c .before .before .before))) descend-requires way-ok-requires (λ c. search needs) returns-3
+    held-at-requires (λ c. search needs) returns-4 plan-for-requires sub-if5 (λ c. search needs) returns-5 sub-if6 (λ c. search needs) returns-6 make-room-requires place-requires (λ c. search needs) returns-7)

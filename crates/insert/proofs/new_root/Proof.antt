@@ -37,6 +37,12 @@ name-root-requires c κs =
     let l = long (x .before .before .before) in
     search needs
 
+head-of-requires : tie.Need-head-of-requires
+head-of-requires c κs =
+    let x = c .before .before .before .before .before .before .before .before .before .before .before .before .before in
+    let l = long (x .before .before .before) in
+    search needs
+
 returns : tie.Need-returns
 returns c =
     let z = c .before .before .before .before in
@@ -53,5 +59,5 @@ returns c =
 pub new-root-spec : {M : Type 1} → statement M
 new-root-spec =
     tie.close
-    (tie.spec take-node-requires (λ c. search needs) root-block-requires (λ c. search needs) name-root-requires (λ c κs. search needs)
+    (tie.spec take-node-requires (λ c. search needs) root-block-requires (λ c. search needs) name-root-requires head-of-requires
     (λ c. search needs) returns)

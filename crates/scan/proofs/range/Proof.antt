@@ -8,6 +8,7 @@ use borrow.Author.Tests.{not-true, not-false}
 use Rattle.lists.proofs.Tests.{passed, failed}
 use Rattle.store.specs.Format.{words}
 use Rattle.store.specs.Head.{headOf, headRule}
+use Rattle.store.proofs.HeadLaws.{head-long}
 use Rattle.scan.specs.Range.{ranged, listing}
 use Rattle.scan.proofs.FillLaws.{range-head, range-order, range-damaged, range-length, range-listed, records-fit}
 use Rattle.scan.proofs.range.Statement.{statement}
@@ -78,7 +79,7 @@ range-spec =
     head-ok-requires
     returns
     returns-2
-    (λ c κs. search needs)
+    (λ c κs. head-long _ _ (head-sound c))
     (λ c κs. search needs)
     (λ c. search needs)
     list-requires

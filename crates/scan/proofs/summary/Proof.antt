@@ -8,6 +8,7 @@ use borrow.Author.Tests.{not-true, not-false}
 use Rattle.lists.proofs.Tests.{passed, failed}
 use Rattle.plot.specs.Plot.{lawfulDay}
 use Rattle.store.specs.Head.{headRule}
+use Rattle.store.proofs.HeadLaws.{head-long}
 use Rattle.scan.specs.Summary.{summingReply, summaryOf}
 use Rattle.scan.proofs.SummaryLaws.{summary-head, summary-order, summary-day, summary-is, summing-bad, summing-good}
 use Rattle.scan.proofs.summary.Statement.{statement}
@@ -82,7 +83,7 @@ summary-spec =
     returns-2
     lawful-day-requires
     returns-3
-    (λ c κs. search needs)
+    (λ c κs. head-long _ _ (head-sound (ruled c)))
     (λ c κs. search needs)
     (λ c κs. search needs)
     sum-requires
