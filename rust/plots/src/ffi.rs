@@ -1,4 +1,4 @@
-//! The nine functions of `plots.h` over slices. Each returns the answer's number and writes the answer's values to the
+//! The ten functions of `plots.h` over slices. Each returns the answer's number and writes the answer's values to the
 //! front of `reply`, as far as they fit; its other words stay. [`Store`](crate::Store) is made of these.
 //!
 //! Every function is defined on any words and any arguments, so all of them are safe. What the library asks of a slice
@@ -144,4 +144,12 @@ pub fn label_of(key: u32, reply: &mut [u64]) -> u32 {
 pub fn convert(key: u32, reply: &mut [u64]) -> u32 {
     // SAFETY: the reply is lent mutably for the call.
     unsafe { exports::plots_convert(key, reply.as_mut_ptr(), reply.len()) }
+}
+
+/// The values of a reply as 32-bit numbers. Each word is read by itself: the library has just written them one by one,
+/// and a wider load would wait until all of them have left the processor.
+#[inline]
+pub(crate) fn narrow(reply: &[u64; 4]) -> [u32; 4] {
+    // SAFETY: a reference is valid for reads.
+    std::array::from_fn(|i| unsafe { std::ptr::read_volatile(&reply[i]) } as u32)
 }

@@ -84,7 +84,7 @@ impl<W: AsRef<[u32]> + AsMut<[u32]>> Store<W> {
         let mut reply = [0; 4];
         match ffi::enter(self.words.as_mut(), key, price, lease, last, &mut reply) {
             0 => {
-                let [key, levels, nodes, pages] = reply.map(|word| word as u32);
+                let [key, levels, nodes, pages] = ffi::narrow(&reply);
                 Ok(Entered { key, levels, nodes, pages })
             }
             number => Err(Refusal::of(number)),
@@ -103,7 +103,7 @@ impl<W: AsRef<[u32]>> Store<W> {
     pub fn find(&self, key: u32) -> Result<Option<Record>, Refusal> {
         let mut reply = [0; 4];
         let number = ffi::find(self.words(), key, &mut reply);
-        found(number, reply)
+        found(number, &reply)
     }
 
     /// The record with the smallest key above the given one. Refused: `HeadBroken`, `Damaged`.
@@ -128,7 +128,7 @@ impl<W: AsRef<[u32]>> Store<W> {
     pub fn next(&self, key: u32) -> Result<Option<Record>, Refusal> {
         let mut reply = [0; 4];
         let number = ffi::next(self.words(), key, &mut reply);
-        found(number, reply)
+        found(number, &reply)
     }
 
     /// The records with keys from low to high, in the order of their keys, read in parts of 64 records. It ends after a
@@ -240,9 +240,10 @@ fn part(words: &[u32], low: u32, high: u32, out: &mut [u32]) -> Result<Part, Ref
     }
 }
 
-fn found(number: u32, reply: [u64; 4]) -> Result<Option<Record>, Refusal> {
+#[inline]
+fn found(number: u32, reply: &[u64; 4]) -> Result<Option<Record>, Refusal> {
     match number {
-        0 => Ok(Some(Record::from(reply.map(|word| word as u32)))),
+        0 => Ok(Some(Record::from(ffi::narrow(reply)))),
         1 => Ok(None),
         number => Err(Refusal::of(number)),
     }
