@@ -22,10 +22,10 @@ use Rattle.store.proofs.Places.{under-limits}
 use Rattle.page.specs.Page.{flat}
 use Rattle.page.proofs.Laws.{rule-facts}
 use Rattle.search.specs.Descent.{terminal}
+use Rattle.search.specs.declared.Span.{Span}
 use Rattle.search.specs.Span.{spanOf, Rows}
 use Rattle.search.proofs.BlockLaws.{under-levels}
-use Rattle.scan.specs.declared.Walk.{Walk}
-use Rattle.scan.specs.Walk.{walkOf, lastKey, Standing, rows}
+use Rattle.scan.specs.Walk.{lastKey, Standing, rows}
 use Rattle.scan.specs.Range.{firsts}
 use Rattle.scan.proofs.FillLaws.{part-room, length-filled}
 use Rattle.scan.proofs.ChainLaws.{Follows, keyAfter, firsts-chain, firsts-part}
@@ -61,13 +61,13 @@ module _ {f : Format} {s : List ℕ} {h : Head} (u : Under f s h) (strict : Bool
       let l = under-levels u in
       span-full f s h strict k (l .0) (l .1) (spanOf f s h strict k) refl (n - 1) (rw z at full)
 
-pub record Filling (f : Format) (s : List ℕ) (h : Head) (low n : ℕ) (start out : List ℕ) (at left : ℕ) (w : Walk) : Type 0 where
+pub record Filling (f : Format) (s : List ℕ) (h : Head) (low n : ℕ) (start out : List ℕ) (at left : ℕ) (w : Span) : Type 0 where
   pub under : Under f s h
   pub room : words f * n ≤ length start
   pub its : List Item
   pub strict : Bool
   pub key : ℕ
-  pub walk : w ≡ walkOf f s h strict key
+  pub walk : w ≡ spanOf f s h strict key
   pub counted : length its + left ≡ n
   pub some : 1 ≤ left
   pub place : at ≡ words f * length its
@@ -75,13 +75,13 @@ pub record Filling (f : Format) (s : List ℕ) (h : Head) (low n : ℕ) (start o
   pub rest : its ++ firsts f s h strict key left ≡ firsts f s h false low n
   pub full : length (firsts f s h strict key left) ≡ left
 
-pub record Turned (f : Format) (s : List ℕ) (h : Head) (low n : ℕ) (start out : List ℕ) (at left : ℕ) (w : Walk) : Type 0 where
+pub record Turned (f : Format) (s : List ℕ) (h : Head) (low n : ℕ) (start out : List ℕ) (at left : ℕ) (w : Span) : Type 0 where
   pub under : Under f s h
   pub stands : Standing f s h w
   pub same-length : length out ≡ length start
   pub ends : left ≡ 0 → out ≡ flat f (firsts f s h false low n) ++ drop (words f * n) start
-  pub goes : (left ≡ 0 → ⊥) → spanOf f s h true (lastKey f s h (w .span)) .ok ≡ true
-  pub again : {v : Walk} → (left ≡ 0 → ⊥) → v ≡ walkOf f s h true (lastKey f s h (w .span)) → Filling f s h low n start out at left v
+  pub goes : (left ≡ 0 → ⊥) → spanOf f s h true (lastKey f s h w) .ok ≡ true
+  pub again : {v : Span} → (left ≡ 0 → ⊥) → v ≡ spanOf f s h true (lastKey f s h w) → Filling f s h low n start out at left v
 
 -- no record is written yet
 nothing-yet : (f : Format) (out : List ℕ) → out ≡ flat f [] ++ drop (words f * 0) out
@@ -95,8 +95,8 @@ pub fill-none : (f : Format) (s : List ℕ) (h : Head) (low n : ℕ) (out : List
 unfolding firsts
 fill-none f s h low n out z = rw z (nothing-yet f out)
 
-pub fill-begins : {f : Format} {s : List ℕ} {h : Head} {low n : ℕ} {start : List ℕ} {w : Walk} → Under f s h
-    → words f * n ≤ length start → length (firsts f s h false low n) ≡ n → 1 ≤ n → w ≡ walkOf f s h false low
+pub fill-begins : {f : Format} {s : List ℕ} {h : Head} {low n : ℕ} {start : List ℕ} {w : Span} → Under f s h
+    → words f * n ≤ length start → length (firsts f s h false low n) ≡ n → 1 ≤ n → w ≡ spanOf f s h false low
     → Filling f s h low n start start 0 n w
 fill-begins {f} {s} {h} {low} {n} {start} {w} u room full some e =
     record {
@@ -114,47 +114,42 @@ fill-begins {f} {s} {h} {low} {n} {start} {w} u room full some e =
       full = full;
     }
 
-module _ {f : Format} {s : List ℕ} {h : Head} {low n : ℕ} {start out : List ℕ} {at left : ℕ} {w : Walk}
+module _ {f : Format} {s : List ℕ} {h : Head} {low n : ℕ} {start out : List ℕ} {at left : ℕ} {w : Span}
     (x : Filling f s h low n start out at left w) where
   -- the walk's span: its page, its records, its last key
   abbrev block : List ℕ
-  block = pageAt f s h (w .span .page)
+  block = pageAt f s h (w .page)
 
   abbrev whole : List Item
-  whole = rowsOf f s h (w .span)
+  whole = rowsOf f s h w
 
   abbrev end : ℕ
-  end = lastKey f s h (w .span)
+  end = lastKey f s h w
 
   levels : (1 ≤ h .levels) × (h .levels ≤ 32)
   levels = under-levels (x .under)
 
-  is : w .span ≡ spanOf f s h (x .strict) (x .key)
-  unfolding walkOf
-  is = ap (λ (v : Walk). v .span) (x .walk)
-
-  found : (w .span .ok ≡ true) × (w .span .page ≡ 0 → ⊥)
-  found = rw is (found-some (x .under) (x .strict) (x .key) left (x .some) (x .full))
+  found : (w .ok ≡ true) × (w .page ≡ 0 → ⊥)
+  found = rw (x .walk) (found-some (x .under) (x .strict) (x .key) left (x .some) (x .full))
 
   walking : Walking f s h w
-  unfolding walkOf
-  walking = rw (x .walk) (record { strict = x .strict; span = refl; terminal = refl })
+  walking = record { strict = x .strict; key = x .key; span = x .walk }
 
-  pub fill-held : Rows f s h (w .span)
+  pub fill-held : Rows f s h w
   fill-held = walk-rows (x .under) walking (found .1)
 
   -- its records follow one another, up to its last key
   follows : Follows f s h (x .strict) (x .key) whole
   follows =
-      span-follows f s h (x .strict) (x .key) (levels .0) (levels .1) (w .span) is (found .0) (found .1)
+      span-follows f s h (x .strict) (x .key) (levels .0) (levels .1) w (x .walk) (found .0) (found .1)
 
   last : keyAfter (x .key) whole ≡ end
   last =
-      span-last f s h (x .strict) (x .key) (levels .0) (levels .1) (w .span) is (found .0) (found .1)
+      span-last f s h (x .strict) (x .key) (levels .0) (levels .1) w (x .walk) (found .0) (found .1)
 
-  sized : (length whole ≡ w .span .to - w .span .from) × (1 ≤ length whole)
+  sized : (length whole ≡ w .to - w .from) × (1 ≤ length whole)
   sized =
-      span-length f s h (x .strict) (x .key) (levels .0) (levels .1) (w .span) is (found .0) (found .1)
+      span-length f s h (x .strict) (x .key) (levels .0) (levels .1) w (x .walk) (found .0) (found .1)
 
   fits : (m : ℕ) → length (x .its) + m ≤ n → words f * (length (x .its) + m) ≤ length start
   fits m l = omega (arith, x .room, mul-le-mul-left {m = length (x .its) + m} {n = n} (words f) l)
@@ -165,7 +160,7 @@ module _ {f : Format} {s : List ℕ} {h : Head} {low n : ℕ} {start out : List 
       length-filled f (x .its) (length (x .its)) start out refl (omega (arith, fits 0 l)) (x .written)
 
   -- m records of it are written: all, or as many as are left
-  module _ {m : ℕ} (size : m ≡ min (w .span .to - w .span .from) left) where
+  module _ {m : ℕ} (size : m ≡ min (w .to - w .from) left) where
     pub fill-room : (1 ≤ m) × (m ≤ left) × (at + words f * m ≤ length out)
     fill-room =
         let l : length (x .its) + m ≤ n = omega (arith, x .counted, size) in (
@@ -176,30 +171,30 @@ module _ {f : Format} {s : List ℕ} {h : Head} {low n : ℕ} {start out : List 
 
     -- the m records, in the page
     abbrev more : List Item
-    more = rows f block (w .span .from) m
+    more = rows f block (w .from) m
 
     size-more : length more ≡ m
-    size-more = length-rows f block (w .span .from) m
+    size-more = length-rows f block (w .from) m
 
     -- they are all that are left
     all-left : left - m ≡ 0 → firsts f s h (x .strict) (x .key) left ≡ more
     all-left z =
         let e : left ≡ m = omega (arith, size) in
-        let l : left ≤ w .span .to - w .span .from = omega (arith, size) in
+        let l : left ≤ w .to - w .from = omega (arith, size) in
         firsts-part f s h (x .strict) (x .key) left whole follows (omega (arith, l, sized .0))
-        ∙ rows-take f block (w .span .from) (w .span .to - w .span .from) left l
-        ∙ ap (rows f block (w .span .from)) e
+        ∙ rows-take f block (w .from) (w .to - w .from) left l
+        ∙ ap (rows f block (w .from)) e
 
     -- or the whole span, and the walk goes on behind it
     module _ (z : left - m ≡ 0 → ⊥) where
       rest-left : firsts f s h (x .strict) (x .key) left ≡ more ++ firsts f s h true end (left - m)
       rest-left =
-          let d : w .span .to - w .span .from ≡ m = omega (arith, size, z) in
+          let d : w .to - w .from ≡ m = omega (arith, size, z) in
           let e : left ≡ length whole + (left - m) = omega (arith, size, z, sized .0) in
           ap (firsts f s h (x .strict) (x .key)) e
           ∙ firsts-chain f s h (x .strict) (x .key) (left - m) whole follows (sized .1)
           ∙ ap (λ (k : ℕ). whole ++ firsts f s h true k (left - m)) last
-          ∙ ap (λ (i : ℕ). rows f block (w .span .from) i ++ firsts f s h true end (left - m)) d
+          ∙ ap (λ (i : ℕ). rows f block (w .from) i ++ firsts f s h true end (left - m)) d
 
       rest-full : length (firsts f s h true end (left - m)) ≡ left - m
       rest-full =
@@ -215,30 +210,30 @@ module _ {f : Format} {s : List ℕ} {h : Head} {low n : ℕ} {start out : List 
       fill-goes = found-some (x .under) true end (left - m) (omega (arith, z)) rest-full .0
 
     module _ {pg : List ℕ} (page : pg ≡ block) where
-      pub fill-asks : (w .span .from + m < 2 ^ 32) × (words f * (w .span .from + m) < length pg)
+      pub fill-asks : (w .from + m < 2 ^ 32) × (words f * (w .from + m) < length pg)
           × (words f * m ≤ length (take (length out - at) (drop at out)))
       fill-asks =
           let r = fill-room in
           let held = fill-held in
           let few = rule-facts f (h .capacity) block (held .rule) .fits in
-          let l : w .span .from + m ≤ w .span .to = omega (arith, size, held .some) in
-          let e : w .span .from + m - 1 + 1 ≡ w .span .from + m = omega (arith, r .0) in (
+          let l : w .from + m ≤ w .to = omega (arith, size, held .some) in
+          let e : w .from + m - 1 + 1 ≡ w .from + m = omega (arith, r .0) in (
             omega (arith, l, held .within, few, under-limits (x .under) .capacity),
-            rw e at (rows-lie (x .under) held page (w .span .from + m - 1) (omega (arith, r .0, l)) .1),
+            rw e at (rows-lie (x .under) held page (w .from + m - 1) (omega (arith, r .0, l)) .1),
             part-room (words f * m) at out (r .2),
           )
 
       -- the output with them, after they were copied behind those written before
       module _ (below : (j : ℕ) → getD s j 0 < 2 ^ 32) {last : List ℕ}
-          (copied : last ≡ part pg (1 + words f * w .span .from) (words f * m)
+          (copied : last ≡ part pg (1 + words f * w .from) (words f * m)
           ++ drop (words f * m) (take (length out - at) (drop at out))) where
         abbrev new : List ℕ
         new = take at out ++ (last ++ drop (length out - at) (drop at out))
 
         wrote : new ≡ flat f (x .its ++ more) ++ drop (words f * (length (x .its) + m)) start
         wrote =
-            fill-rows f (x .its) block out start last (w .span .from) m (length (x .its)) at
-            (page-below f s h (w .span .page) below) (rw page at (fill-asks .1)) (x .written) refl (x .place) (rw page at copied)
+            fill-rows f (x .its) block out start last (w .from) m (length (x .its)) at
+            (page-below f s h (w .page) below) (rw page at (fill-asks .1)) (x .written) refl (x .place) (rw page at copied)
 
         counts : length (x .its ++ more) ≡ length (x .its) + m
         counts = length-append (x .its) more ∙ ap (λ (i : ℕ). length (x .its) + i) size-more
@@ -255,7 +250,7 @@ module _ {f : Format} {s : List ℕ} {h : Head} {low n : ℕ} {start out : List 
             ∙ ap (λ (l : List Item). flat f l ++ drop (words f * n) start)
             (ap (λ (l : List Item). x .its ++ l) (sym (all-left z)) ∙ x .rest)
 
-        again : {v : Walk} → (left - m ≡ 0 → ⊥) → v ≡ walkOf f s h true end
+        again : {v : Span} → (left - m ≡ 0 → ⊥) → v ≡ spanOf f s h true end
             → Filling f s h low n start new (at + words f * m) (left - m) v
         again z e =
             record {

@@ -17,29 +17,17 @@ ghost use Rattle.store.specs.Head.{Under};
 ghost use Rattle.page.specs.Page.{count, flat, Filled};
 ghost use Rattle.totals.specs.Totals.{Room, Bounded, updatedOf, totalsOf};
 ghost use Rattle.search.specs.Span.{spanOf, Rows};
-ghost use Rattle.scan.specs.Walk.{walkOf, lastKey, Standing, endOf, rows};
+ghost use Rattle.scan.specs.Walk.{lastKey, Standing, endOf, rows};
 ghost use Rattle.scan.specs.Range.{ranged, listing, listingOf, firsts, rangeReply, rangeOf};
 ghost use Rattle.scan.specs.Summary.{summed, summingOf, summaryReply, summaryOf};
 
-// A walk by next: the span of records where it stands, and the terminal node of the key from which it came there.
-pub struct Walk {
-    pub span: Span,
-    pub terminal: Terminal,
-    pub key: u64,
-}
-
-// The walk at the first records above a key, or, if not strict, at or above it.
-fn walk_from(store: &[u32], f: Format, head: Head, strict: bool, key: u64, checked: bool) -> Walk
+// The first records above a key, or, if not strict, at or above it: where a walk by next begins.
+fn walk_from(store: &[u32], f: Format, head: Head, strict: bool, key: u64, checked: bool) -> Span
     requires { ⌜ (Under f (now store) head) × (checked ≡ false → spanOf f (now store) head strict key .ok ≡ true) ⌝ }
-    ensures { λ r. ⌜ r ≡ walkOf f (now (store .entry)) head strict key ⌝ }
+    ensures { λ r. ⌜ r ≡ spanOf f (now (store .entry)) head strict key ⌝ }
 {
     let terminal = search::terminal_of(store, f, head, key, checked);
-    let span = search::span_at(store, f, head, strict, key, terminal, checked);
-    Walk {
-        span,
-        terminal,
-        key,
-    }
+    search::span_at(store, f, head, strict, key, terminal, checked)
 }
 
 // The key of the last record of a span.
@@ -52,22 +40,20 @@ fn last_key(store: &[u32], f: Format, head: Head, r: Span) -> u64
     item.key
 }
 
-// The walk after the last record of its span: on with the run behind the page, where that is known, without that record's way down.
-fn advance(store: &[u32], f: Format, head: Head, w: Walk, checked: bool) -> Walk
-    requires { ⌜ (Under f (now store) head) × (Standing f (now store) head w)
-        × (checked ≡ false → spanOf f (now store) head true (lastKey f (now store) head (w .span)) .ok ≡ true) ⌝ }
-    ensures { λ r. ⌜ r ≡ walkOf f (now (store .entry)) head true (lastKey f (now (store .entry)) head (w .span)) ⌝ }
+// The records after the last one of a span: on with the run behind its page, where that is known, without that record's way down.
+fn advance(store: &[u32], f: Format, head: Head, r: Span, checked: bool) -> Span
+    requires { ⌜ (Under f (now store) head) × (Standing f (now store) head r)
+        × (checked ≡ false → spanOf f (now store) head true (lastKey f (now store) head r) .ok ≡ true) ⌝ }
+    ensures { λ q. ⌜ q ≡ spanOf f (now (store .entry)) head true (lastKey f (now (store .entry)) head r) ⌝ }
 {
-    let from = w.span;
-    let t = w.terminal;
-    let key = last_key(store, f, head, from);
-    if from.behind != 0 {
-        let span = search::span_behind(store, f, head, true, key, t, from.behind, checked);
-        return Walk {
-            span,
-            terminal: t,
-            key,
+    let key = last_key(store, f, head, r);
+    if r.behind != 0 {
+        let t = Terminal {
+            ok: true,
+            node: r.node,
+            used: r.used,
         };
+        return search::span_behind(store, f, head, true, key, t, r.behind, checked);
     }
     walk_from(store, f, head, true, key, checked)
 }
@@ -126,9 +112,8 @@ fn list(store: &[u32], f: Format, head: Head, low: u64, high: u64, room: u64) ->
     ensures { λ r. ⌜ (r ≡ listing (ranged f (now (store .entry)) head low high room)) × (r .count ≤ room) ⌝ }
 {
     let mut count: u64 = 0;
-    let mut w = walk_from(store, f, head, false, low, true);
-    while w.span.page != 0 {
-        let r = w.span;
+    let mut r = walk_from(store, f, head, false, low, true);
+    while r.page != 0 {
         let page = store::page_at(store, f, head, r.page);
         let end = end_at(page, f, r.from, r.to, high);
         let n = (end - r.from) as u64;
@@ -145,9 +130,9 @@ fn list(store: &[u32], f: Format, head: Head, low: u64, high: u64, room: u64) ->
         if last_key(store, f, head, r) >= high {
             return listing_of(true, count);
         }
-        w = advance(store, f, head, w, true);
+        r = advance(store, f, head, r, true);
     }
-    listing_of(w.span.ok, count)
+    listing_of(r.ok, count)
 }
 
 // Copies n records of a page, from number i on, to the front of the output: their words as they stand.
@@ -186,9 +171,8 @@ fn fill(store: &[u32], f: Format, head: Head, low: u64, n: u64, out: &mut [u32])
     let words = store::words_of(f);
     let mut at: usize = 0;
     let mut left = n;
-    let mut w = walk_from(store, f, head, false, low, false);
+    let mut r = walk_from(store, f, head, false, low, false);
     loop {
-        let r = w.span;
         let page = store::page_at(store, f, head, r.page);
         let m = smaller((r.to - r.from) as u64, left);
         copy_rows(page, f, r.from, m as usize, &mut out[at..]);
@@ -197,7 +181,7 @@ fn fill(store: &[u32], f: Format, head: Head, low: u64, n: u64, out: &mut [u32])
         if left == 0 {
             return;
         }
-        w = advance(store, f, head, w, false);
+        r = advance(store, f, head, r, false);
     }
 }
 
@@ -281,18 +265,17 @@ fn sum(store: &[u32], f: Format, head: Head, low: u64, high: u64, today: u32) ->
     ensures { λ r. ⌜ r ≡ summed f (now (store .entry)) head low high today ⌝ }
 {
     let mut t = totals::no_totals();
-    let mut w = walk_from(store, f, head, false, low, true);
-    while w.span.page != 0 {
-        let r = w.span;
+    let mut r = walk_from(store, f, head, false, low, true);
+    while r.page != 0 {
         let page = store::page_at(store, f, head, r.page);
         let end = end_at(page, f, r.from, r.to, high);
         t = add_rows(page, f, r.from, end, today, t);
         if last_key(store, f, head, r) >= high {
             return summing_of(true, t);
         }
-        w = advance(store, f, head, w, true);
+        r = advance(store, f, head, r, true);
     }
-    summing_of(w.span.ok, t)
+    summing_of(r.ok, t)
 }
 
 // Counts the records from low to high, adds up their balances today, and names the earliest to end.

@@ -37,9 +37,10 @@ use Rattle.search.proofs.SpanLaws.{rows-all, rows-one, rows-begin, reac
 use Rattle.search.proofs.SpanLaws.{own-null, own-unsound, own-rows, own-after, at-terminal, span-kind, span-rows}
 
 -- a span by its numbers
-span-same : (p : ℕ) {i i′ n n′ b b′ : ℕ} → i ≡ i′ → n ≡ n′ → b ≡ b′
-    → _≡_ {A = Span} (record { ok = true; page = p; from = i; to = n; behind = b }) (record { ok = true; page = p; from = i′; to = n′; behind = b′ })
-span-same p d e g = rw (d, e, g)
+span-same : (p m u : ℕ) {i i′ n n′ b b′ : ℕ} → i ≡ i′ → n ≡ n′ → b ≡ b′
+    → _≡_ {A = Span} (record { ok = true; page = p; from = i; to = n; node = m; used = u; behind = b })
+    (record { ok = true; page = p; from = i′; to = n′; node = m; used = u; behind = b′ })
+span-same p m u d e g = rw (d, e, g)
 
 -- no span is sound that met damage
 none-not : {r : Span} → r ≡ noSpan false → r .ok ≡ true → ⊥
@@ -82,7 +83,7 @@ module _ (f : Format) (s : List ℕ) (h : Head) (k n u p : ℕ) {pg : List ℕ} 
   is-first : first ≡ keyAt f (pageAt f s h p) 0
   is-first = rw e at ef
 
-  pub rows-other : (first / 2 ^ (width f - u) ≡ k / 2 ^ (width f - u) → ⊥) → firstRow p ≡ reachedRows f s h k n u p
+  pub rows-other : (first / 2 ^ (width f - u) ≡ k / 2 ^ (width f - u) → ⊥) → firstRow n u p ≡ reachedRows f s h k n u p
   unfolding comesBack
   rows-other q = sym (rows-one f s h k n u p (rw (ne-eqb _ _ (rw is-first at q))))
 
@@ -93,7 +94,7 @@ module _ (f : Format) (s : List ℕ) (h : Head) (k n u p : ℕ) {pg : List ℕ} 
     entry-is : v ≡ ownVisit f s h (keyAt f (pageAt f s h p) 0) n u
     entry-is = ev ∙ ap (λ x. ownVisit f s h x n u) is-first
 
-    pub rows-elsewhere : (v .pointer ≡ p → ⊥) → firstRow p ≡ reachedRows f s h k n u p
+    pub rows-elsewhere : (v .pointer ≡ p → ⊥) → firstRow n u p ≡ reachedRows f s h k n u p
     unfolding comesBack
     rows-elsewhere z = sym (rows-one f s h k n u p (rw (same-bits, ne-eqb _ _ (rw entry-is at z))))
 
@@ -101,15 +102,15 @@ module _ (f : Format) (s : List ℕ) (h : Head) (k n u p : ℕ) {pg : List ℕ} 
       comes-back : eqb (ownVisit f s h (keyAt f (pageAt f s h p) 0) n u .pointer) p ≡ true
       comes-back = eq-eqb _ _ (rw entry-is at z)
 
-      pub rows-alone : agrees f pg first (u + v .depth) ≡ false → firstRow p ≡ reachedRows f s h k n u p
+      pub rows-alone : agrees f pg first (u + v .depth) ≡ false → firstRow n u p ≡ reachedRows f s h k n u p
       unfolding comesBack
       rows-alone g = sym (rows-one f s h k n u p (rw (same-bits, comes-back, rw (e, entry-is, is-first) at g)))
 
       pub rows-whole : agrees f pg first (u + v .depth) ≡ true → {c b : ℕ} → c ≡ count pg → b ≡ runBehind s h n (v .depth) (v .entry)
-          → _≡_ {A = Span} (record { ok = true; page = p; from = 0; to = c; behind = b }) (reachedRows f s h k n u p)
+          → _≡_ {A = Span} (record { ok = true; page = p; from = 0; to = c; node = n; used = u; behind = b }) (reachedRows f s h k n u p)
       unfolding comesBack
       rows-whole g ec eb =
-          span-same p refl (ec ∙ ap count e) (eb ∙ ap (λ x. runBehind s h n (x .depth) (x .entry)) entry-is)
+          span-same p n u refl (ec ∙ ap count e) (eb ∙ ap (λ x. runBehind s h n (x .depth) (x .entry)) entry-is)
           ∙ sym (rows-all f s h k n u p (rw (same-bits, comes-back, rw (e, entry-is, is-first) at g)))
 
 -- a sound span behind an entry: the way on met no damage
@@ -156,9 +157,9 @@ module _ (f : Format) (s : List ℕ) (h : Head) (strict : Bool) (k : ℕ) (t : T
       ends = rw e at en
 
       pub at-rows : i < n → {b : ℕ} → b ≡ runBehind s h (t .node) (v .depth) (v .entry)
-          → _≡_ {A = Span} (record { ok = true; page = v .pointer; from = i; to = n; behind = b }) whole
+          → _≡_ {A = Span} (record { ok = true; page = v .pointer; from = i; to = n; node = t .node; used = t .used; behind = b }) whole
       at-rows l eb =
-          span-same (v .pointer) begins ends eb
+          span-same (v .pointer) (t .node) (t .used) begins ends eb
           ∙ sym (at-own ∙ own-rows f s h strict k (t .node) (t .used) v z (rw e at p) (omega (arith, begins, ends)))
 
       pub at-after : n ≤ i → whole ≡ onwards

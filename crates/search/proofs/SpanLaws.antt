@@ -58,11 +58,19 @@ module _ (f : Format) (s : List ℕ) (h : Head) (k n u p : ℕ) where
 
   pub rows-all : comesBack f s h k n u p ≡ true
       → reachedRows f s h k n u p
-      ≡ record { ok = true; page = p; from = 0; to = count (pageAt f s h p); behind = runBehind s h n (back .depth) (back .entry) }
+      ≡ record {
+        ok = true;
+        page = p;
+        from = 0;
+        to = count (pageAt f s h p);
+        node = n;
+        used = u;
+        behind = runBehind s h n (back .depth) (back .entry);
+      }
   unfolding reachedRows
   rows-all b = rw (b, reachedRows)
 
-  pub rows-one : comesBack f s h k n u p ≡ false → reachedRows f s h k n u p ≡ firstRow p
+  pub rows-one : comesBack f s h k n u p ≡ false → reachedRows f s h k n u p ≡ firstRow n u p
   unfolding reachedRows
   rows-one b = rw (b, reachedRows)
 
@@ -159,6 +167,8 @@ module _ (f : Format) (s : List ℕ) (h : Head) (strict : Bool) (k : ℕ) where
               page = v .pointer;
               from = firstAbove f own-page strict k;
               to = count own-page;
+              node = n;
+              used = u;
               behind = runBehind s h n (v .depth) (v .entry);
             }
         unfolding ownSpan
@@ -289,6 +299,8 @@ module _ (f : Format) (s : List ℕ) (h : Head) (strict : Bool) (k : ℕ) (P : S
         page = entry .pointer;
         from = firstAbove f leaf strict k;
         to = count leaf;
+        node = there .node;
+        used = there .used;
         behind = runBehind s h (there .node) (entry .depth) (entry .entry);
       })) where
     own-kind : there .ok ≡ true → P (ownSpan f s h strict k (there .node) (there .used) entry)
@@ -350,6 +362,25 @@ module _ (f : Format) (s : List ℕ) (h : Head) (strict : Bool) (k : ℕ) where
       (λ p t o y q. reached-rows low high p t o (λ z. q (rows-page f s h k _ _ p ∙ z)))
       (λ o z p l y q.
       (record { rule = sound-rule f h _ k _ p; some = l; within = omega arith }, λ i m n. next-within f s h k i low high o z p n))
+
+  -- a span with records has the terminal node of its key
+  abbrev Named : Span → Type 0
+  Named r = (r .page ≡ 0 → ⊥) → (r .node ≡ terminal f s h k .node) × (r .used ≡ terminal f s h k .used)
+
+  none-named : (b : Bool) → Named (noSpan b)
+  unfolding noSpan
+  none-named b q = absurd (q refl)
+
+  rows-named : (p : ℕ) → let t = terminal f s h k in Named (reachedRows f s h k (t .node) (t .used) p)
+  unfolding firstRow
+  rows-named p =
+      let t = terminal f s h k in
+      by-cases (comesBack f s h k (t .node) (t .used) p)
+      (λ b. rw (rows-all f s h k (t .node) (t .used) p b) (λ z. (refl, refl)))
+      (λ b. rw (rows-one f s h k (t .node) (t .used) p b) (λ z. (refl, refl)))
+
+  pub span-named : Named (spanOf f s h strict k)
+  span-named = span-kind f s h strict k Named none-named (λ p r o. rows-named p) (λ o z p l y. (refl, refl))
 
   -- a span with records met no damage, and its terminal node is sound
   abbrev Whole : Span → Type 0

@@ -49,13 +49,16 @@ pub struct Terminal {
     pub used: u32,
 }
 
-// Records of one page that next gives in turn, numbers `from` up to `to`; page 0: none. Not ok: damage was met. After the last one next goes
-// on with the run of the terminal node that begins at entry `behind`; 0: not known.
+// Records of one page that next gives in turn, numbers `from` up to `to`; page 0: none. Not ok: damage was met. The terminal node of the key
+// that they follow is `node`, reached after the `used` bits. After the last record next goes on with the node's run that begins at entry
+// `behind`; 0: not known.
 pub struct Span {
     pub ok: bool,
     pub page: u32,
     pub from: usize,
     pub to: usize,
+    pub node: u32,
+    pub used: u32,
     pub behind: usize,
 }
 
@@ -463,19 +466,23 @@ fn no_span(ok: bool) -> Span
         page: 0,
         from: 0,
         to: 0,
+        node: 0,
+        used: 0,
         behind: 0,
     }
 }
 
-// The first record of page p.
-fn first_row(p: u32) -> Span
-    ensures { λ r. ⌜ r ≡ firstRow p ⌝ }
+// The first record of page p, reached from the terminal node t.
+fn first_row(t: Terminal, p: u32) -> Span
+    ensures { λ r. ⌜ r ≡ firstRow (t .node) (t .used) p ⌝ }
 {
     Span {
         ok: true,
         page: p,
         from: 0,
         to: 1,
+        node: t.node,
+        used: t.used,
         behind: 0,
     }
 }
@@ -491,20 +498,22 @@ fn reached_rows(store: &[u32], f: Format, head: Head, key: u64, t: Terminal, p: 
     let item = page::read_one(page, f, 0);
     let low = store::width_of(f) - t.used;
     if page::prefix(item.key, low) != page::prefix(key, low) {
-        return first_row(p);
+        return first_row(t, p);
     }
     let v = own_entry(store, f, head, item.key, t.node, t.used);
     if v.pointer != p {
-        return first_row(p);
+        return first_row(t, p);
     }
     if !page::keys_agree(page, f, item.key, t.used + v.depth) {
-        return first_row(p);
+        return first_row(t, p);
     }
     Span {
         ok: true,
         page: p,
         from: 0,
         to: page::count_of(page),
+        node: t.node,
+        used: t.used,
         behind: run_behind(store, f, head, t.node, v),
     }
 }
@@ -600,6 +609,8 @@ pub fn span_at(
                 page: p,
                 from,
                 to,
+                node: t.node,
+                used: t.used,
                 behind,
             };
         }

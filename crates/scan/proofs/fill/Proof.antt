@@ -12,10 +12,10 @@ use Rattle.scan.proofs.fill.Statement.{statement}
 use Rattle.scan.proofs.fill.Tie as tie
 
 abbrev Inv-loop : tie.InvT-loop
-Inv-loop store f head low n out₀ words at₀ left₀ w₀ out at left w = Filling f store head low n out₀ out at left w
+Inv-loop store f head low n out₀ words at₀ left₀ r₀ out at left r = Filling f store head low n out₀ out at left r
 
 abbrev μ-loop : tie.MeasureT-loop
-μ-loop store f head low n out₀ words at₀ left₀ w₀ out at left w = left
+μ-loop store f head low n out₀ words at₀ left₀ r₀ out at left r = left
 
 -- the store's words are words
 below : (c : tie.After-shared-slice-known Inv-loop μ-loop) (j : ℕ) → getD (c .before .args .store .now) j 0 < 2 ^ 32
@@ -39,22 +39,22 @@ loop-holds c =
     fill-begins (p .0) (p .1) (p .2) (omega (arith, c .before .before .if1 .left)) (c .walk-from .ensures)
 
 page-at-requires : tie.Need-page-at-requires Inv-loop μ-loop
-page-at-requires c κs = under-page (c .before .loop .inv .under)
+page-at-requires c κs = under-page (c .loop .inv .under)
 
 sub-smaller : tie.Need-sub-smaller Inv-loop μ-loop
 sub-smaller c =
-    let l = c .before .before .before .loop in
-    let e : l .w .span .from ≤ l .w .span .to = omega (arith, fill-held (l .inv) .some) in
+    let l = c .before .before .loop in
+    let e : l .r .from ≤ l .r .to = omega (arith, fill-held (l .inv) .some) in
     e
 
 -- there is room for the records that are copied
 room : (c : tie.After-smaller Inv-loop μ-loop)
-    → let l = c .before .before .before .before in
+    → let l = c .before .before .before in
     let a = l .before .before .before .before .before .before .args in
     let m = c .smaller .result in
     (1 ≤ m) × (m ≤ l .loop .left) × (l .loop .at + words (a .f) * m ≤ length (l .loop .out)) × (length (l .loop .out) * 4 < 2 ^ 63)
 room c =
-    let l = c .before .before .before .before in
+    let l = c .before .before .before in
     let r = fill-room (l .loop .inv) (c .smaller .ensures) in
     (r .0, r .1, r .2, omega (arith, fill-length (l .loop .inv), short (l .before .before .before .before)))
 
@@ -73,17 +73,17 @@ part-copy-rows-end c = let r = room c in search needs
 copy-rows-requires : tie.Need-copy-rows-requires Inv-loop μ-loop
 copy-rows-requires c κs =
     let t = c .before .before .before in
-    fill-asks (t .before .before .loop .inv) (c .before .smaller .ensures) (t .page-at .ensures)
+    fill-asks (t .before .loop .inv) (c .before .smaller .ensures) (t .page-at .ensures)
 
 -- the words behind those that are copied, as the code counts them
 place : (c : tie.After-slice-known2 Inv-loop μ-loop)
     → let s = c .before .before .before .before in
-    let l = s .before .before .before .before in
+    let l = s .before .before .before in
     l .loop .at + l .before .before .words-of .result * s .smaller .result < 2 ^ 63
 place c =
     let s = c .before .before .before .before in
     let r = room s in
-    rw (s .before .before .before .before .before .before .words-of .ensures .0) (omega (arith, r .2, r .3))
+    rw (s .before .before .before .before .before .words-of .ensures .0) (omega (arith, r .2, r .3))
 
 mul-at : tie.Need-mul-at Inv-loop μ-loop
 mul-at c = let z = place c in search needs
@@ -98,16 +98,16 @@ sub-left c = room (c .before .before .before .before) .1
 turned : (c : tie.After-slice-known2 Inv-loop μ-loop)
     → let y = c .before .before in
     let s = y .before .before in
-    let l = s .before .before .before .before .loop in
-    let w = s .before .before .before .before .before .before in
+    let l = s .before .before .before .loop in
+    let w = s .before .before .before .before .before in
     let a = w .before .before .before .before .args in
     Turned (a .f) (a .store .now) (a .head) (a .low) (a .n) (a .out .now)
     (take (l .at) (l .out) ++ (y .copy-rows .last .1 .1 .1 .1 .0 ++ drop (length (l .out) - l .at) (drop (l .at) (l .out))))
-    (l .at + w .words-of .result * s .smaller .result) (l .left - s .smaller .result) (l .w)
+    (l .at + w .words-of .result * s .smaller .result) (l .left - s .smaller .result) (l .r)
 turned c =
     let y = c .before .before in
     let s = y .before .before in
-    let l = s .before .before .before .before in
+    let l = s .before .before .before in
     let w = l .before .before in
     fill-turns (l .loop .inv) (s .smaller .ensures) (s .before .before .page-at .ensures) (below (w .before .before .before))
     (y .copy-rows .ensures) (w .words-of .ensures .0)

@@ -15,10 +15,10 @@ use Rattle.scan.proofs.list.Statement.{statement}
 use Rattle.scan.proofs.list.Tie as tie
 
 abbrev Inv-loop : tie.InvT-loop
-Inv-loop store f head low high room count₀ w₀ count w = Listed f store head low high room w count
+Inv-loop store f head low high room count₀ r₀ count r = Listed f store head low high room r count
 
 abbrev μ-loop : tie.MeasureT-loop
-μ-loop store f head low high room count₀ w₀ count w = room - count
+μ-loop store f head low high room count₀ r₀ count r = room - count
 
 -- the places of a turn: the call, the loop's top, its span with records, where those up to high end, the room for them
 abbrev call : tie.At-loop Inv-loop μ-loop → tie.Start Inv-loop μ-loop
@@ -28,7 +28,7 @@ abbrev turn : tie.Then1 Inv-loop μ-loop → tie.At-loop Inv-loop μ-loop
 turn i = i .before .before
 
 abbrev held : tie.After-end-at Inv-loop μ-loop → tie.Then1 Inv-loop μ-loop
-held c = c .before .before .before
+held c = c .before .before
 
 abbrev ended : tie.Else2 Inv-loop μ-loop → tie.After-end-at Inv-loop μ-loop
 ended c = c .before .before
@@ -43,21 +43,21 @@ loop-holds : tie.Need-loop-holds Inv-loop μ-loop
 loop-holds c = list-first _ _ _ _ _ _ (c .before .before .pre .1) (c .walk-from .ensures)
 
 page-at-requires : tie.Need-page-at-requires Inv-loop μ-loop
-page-at-requires c κs = under-page (call (turn (c .before)) .pre .0)
+page-at-requires c κs = under-page (call (turn c) .pre .0)
 
 -- there are records
-some : (i : tie.Then1 Inv-loop μ-loop) → turn i .loop .w .span .page ≡ 0 → ⊥
+some : (i : tie.Then1 Inv-loop μ-loop) → turn i .loop .r .page ≡ 0 → ⊥
 some i = i .if1 .taken
 
 -- they lie in the page
 end-at-requires : tie.Need-end-at-requires Inv-loop μ-loop
 end-at-requires c κs =
-    let i = c .before .before in
+    let i = c .before in
     end-asked (call (turn i) .pre .0) (turn i .loop .inv .ahead .at) (some i) (c .page-at .ensures)
 
 -- where those up to high end
 abbrev stop : tie.Then1 Inv-loop μ-loop → ℕ
-stop i = let a = call (turn i) .args in stopOf (a .f) (a .store .now) (a .head) (turn i .loop .w .span) (a .high)
+stop i = let a = call (turn i) .args in stopOf (a .f) (a .store .now) (a .head) (turn i .loop .r) (a .high)
 
 stops : (c : tie.After-end-at Inv-loop μ-loop) → c .end-at .result ≡ stop (held c)
 stops c = rw (c .before .page-at .ensures) at (c .end-at .ensures .0)
@@ -74,7 +74,7 @@ sub-first c = sub-if2 (c .before)
 -- the first record not written is one of them
 lies : (c : tie.Then2 Inv-loop μ-loop)
     → let l = turn (held (c .before .before)) in
-    l .loop .w .span .from + (call l .args .room - l .loop .count) < l .loop .w .span .to
+    l .loop .r .from + (call l .args .room - l .loop .count) < l .loop .r .to
 lies c = omega (arith, c .if2 .taken, c .before .before .end-at .ensures .2)
 
 add-first : tie.Need-add-first Inv-loop μ-loop
@@ -98,7 +98,7 @@ returns c =
 -- there is room for them
 room : (c : tie.Else2 Inv-loop μ-loop)
     → let i = held (ended c) in
-    stop i - turn i .loop .w .span .from ≤ call (turn i) .args .room - turn i .loop .count
+    stop i - turn i .loop .r .from ≤ call (turn i) .args .room - turn i .loop .count
 room c = rw (stops (ended c)) at (c .if2 .left)
 
 add-count : tie.Need-add-count Inv-loop μ-loop
@@ -116,8 +116,8 @@ returns-2 c =
     let i = held (ended r) in
     let l = turn i .loop in
     let e = c .listing-of .ensures in
-    let m = listing-most true (l .count + (ended r .end-at .result - l .w .span .from)) in (
-      e ∙ ap (λ n. listingOf true (l .count + (n - l .w .span .from))) (stops (ended r))
+    let m = listing-most true (l .count + (ended r .end-at .result - l .r .from)) in (
+      e ∙ ap (λ n. listingOf true (l .count + (n - l .r .from))) (stops (ended r))
           ∙ list-over _ _ _ _ _ (call (turn i) .pre .0) _ (l .inv) (some i)
           (rw (c .before .before .last-key .ensures) at (c .before .if3 .taken)) (room r),
       rw e (omega (arith, m, r .if2 .left, l .inv .within)),
@@ -133,7 +133,7 @@ advance-requires c κs =
 below : (c : tie.Else3 Inv-loop μ-loop)
     → let l = turn (held (ended (fitting c))) in
     let a = call l .args in
-    lastKey (a .f) (a .store .now) (a .head) (l .loop .w .span) < a .high
+    lastKey (a .f) (a .store .now) (a .head) (l .loop .r) < a .high
 below c = rw (c .before .last-key .ensures) at (c .if3 .left)
 
 loop-less : tie.Need-loop-less Inv-loop μ-loop
@@ -163,7 +163,7 @@ returns-3 c =
     let l = c .before .before .before in
     let e = c .listing-of2 .ensures in (
       e ∙ list-done _ _ _ _ _ (call l .pre .0) _ (l .loop .inv) (c .before .if1 .left),
-      rw e (omega (arith, listing-most (l .loop .w .span .ok) (l .loop .count), l .loop .inv .within)),
+      rw e (omega (arith, listing-most (l .loop .r .ok) (l .loop .count), l .loop .inv .within)),
     )
 
 pub list-spec : {M : Type 1} → statement M

@@ -16,10 +16,10 @@ use Rattle.scan.proofs.sum.Statement.{statement}
 use Rattle.scan.proofs.sum.Tie as tie
 
 abbrev Inv-loop : tie.InvT-loop
-Inv-loop store f head low high today t₀ w₀ t w = Summed f store head low high today w t
+Inv-loop store f head low high today t₀ r₀ t r = Summed f store head low high today r t
 
 abbrev μ-loop : tie.MeasureT-loop
-μ-loop store f head low high today t₀ w₀ t w = 2 ^ 32 + 1 - t .count
+μ-loop store f head low high today t₀ r₀ t r = 2 ^ 32 + 1 - t .count
 
 -- the places of a turn: the call, the loop's top, its span with records, where those up to high end
 abbrev call : tie.At-loop Inv-loop μ-loop → tie.Start Inv-loop μ-loop
@@ -29,7 +29,7 @@ abbrev turn : tie.Then1 Inv-loop μ-loop → tie.At-loop Inv-loop μ-loop
 turn i = i .before .before
 
 abbrev held : tie.After-end-at Inv-loop μ-loop → tie.Then1 Inv-loop μ-loop
-held c = c .before .before .before
+held c = c .before .before
 
 abbrev ended : tie.Else2 Inv-loop μ-loop → tie.After-end-at Inv-loop μ-loop
 ended c = c .before .before .before
@@ -41,27 +41,27 @@ loop-holds : tie.Need-loop-holds Inv-loop μ-loop
 loop-holds c = sum-first _ _ _ _ _ _ (c .before .before .before .pre .1) (c .walk-from .ensures) (c .before .no-totals .ensures)
 
 page-at-requires : tie.Need-page-at-requires Inv-loop μ-loop
-page-at-requires c κs = under-page (call (turn (c .before)) .pre .0)
+page-at-requires c κs = under-page (call (turn c) .pre .0)
 
 -- there are records
-some : (i : tie.Then1 Inv-loop μ-loop) → turn i .loop .w .span .page ≡ 0 → ⊥
+some : (i : tie.Then1 Inv-loop μ-loop) → turn i .loop .r .page ≡ 0 → ⊥
 some i = i .if1 .taken
 
 -- they lie in the page
 end-at-requires : tie.Need-end-at-requires Inv-loop μ-loop
 end-at-requires c κs =
-    let i = c .before .before in
+    let i = c .before in
     end-asked (call (turn i) .pre .0) (turn i .loop .inv .ahead .at) (some i) (c .page-at .ensures)
 
 -- where those up to high end
 abbrev stop : tie.Then1 Inv-loop μ-loop → ℕ
-stop i = let a = call (turn i) .args in stopOf (a .f) (a .store .now) (a .head) (turn i .loop .w .span) (a .high)
+stop i = let a = call (turn i) .args in stopOf (a .f) (a .store .now) (a .head) (turn i .loop .r) (a .high)
 
 stops : (c : tie.After-end-at Inv-loop μ-loop) → c .end-at .result ≡ stop (held c)
 stops c = rw (c .before .page-at .ensures) at (c .end-at .ensures .0)
 
 -- there is room for them
-room : (i : tie.Then1 Inv-loop μ-loop) → let l = turn i .loop in l .t .count + (stop i - l .w .span .from) ≤ 2 ^ 32
+room : (i : tie.Then1 Inv-loop μ-loop) → let l = turn i .loop in l .t .count + (stop i - l .r .from) ≤ 2 ^ 32
 room i = sum-room _ _ _ _ _ (call (turn i) .pre .0) _ (turn i .loop .inv) (some i) (call (turn i) .pre .2)
 
 add-rows-requires : tie.Need-add-rows-requires Inv-loop μ-loop
@@ -81,7 +81,7 @@ last-key-requires c κs =
 added : (c : tie.After-add-rows Inv-loop μ-loop)
     → let l = turn (held (c .before)) in
     let a = call l .args in
-    c .add-rows .result ≡ totalsOf (l .loop .t) (upTo (a .f) (a .store .now) (a .head) (l .loop .w .span) (a .high)) (a .today)
+    c .add-rows .result ≡ totalsOf (l .loop .t) (upTo (a .f) (a .store .now) (a .head) (l .loop .r) (a .high)) (a .today)
 added c = rw (c .before .before .page-at .ensures, stops (c .before)) at (c .add-rows .ensures .0)
 
 returns : tie.Need-returns Inv-loop μ-loop
@@ -102,14 +102,14 @@ advance-requires c κs =
 below : (c : tie.Else2 Inv-loop μ-loop)
     → let l = turn (held (ended c)) in
     let a = call l .args in
-    lastKey (a .f) (a .store .now) (a .head) (l .loop .w .span) < a .high
+    lastKey (a .f) (a .store .now) (a .head) (l .loop .r) < a .high
 below c = rw (c .before .last-key .ensures) at (c .if2 .left)
 
 -- so all records of the span are added
 counted : (c : tie.Else2 Inv-loop μ-loop)
     → let l = turn (held (ended c)) in
     let a = call l .args in
-    c .before .before .add-rows .result .count ≡ l .loop .t .count + length (rowsOf (a .f) (a .store .now) (a .head) (l .loop .w .span))
+    c .before .before .add-rows .result .count ≡ l .loop .t .count + length (rowsOf (a .f) (a .store .now) (a .head) (l .loop .r))
 counted c =
     let i = held (ended c) in
     let m = taken-count (call (turn i) .pre .0) (turn i .loop .inv .ahead .at) (some i) (call (turn i) .args .high) (below c) in

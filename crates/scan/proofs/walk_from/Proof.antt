@@ -1,6 +1,6 @@
 -- The terminal node, then the span.
+use mathlib.Core.Path.{_∙_}
 use Rattle.search.proofs.SpanLaws.{terminal-whole}
-use Rattle.scan.specs.Walk.{walkOf}
 use Rattle.scan.proofs.walk_from.Statement.{statement}
 use Rattle.scan.proofs.walk_from.Tie as tie
 
@@ -14,8 +14,7 @@ span-at-requires c κs =
     (p .0, e, λ z. rw e (p .1 z))
 
 returns : tie.Need-returns
-unfolding walkOf
-returns c = rw (c .span-at .ensures, c .before .terminal-of .ensures)
+returns c = rw (c .before .terminal-of .ensures) at (c .span-at .ensures)
 
 pub walk-from-spec : {M : Type 1} → statement M
 walk-from-spec = tie.close (tie.spec terminal-of-requires span-at-requires returns)
