@@ -40,6 +40,21 @@ fn last_key(store: &[u32], f: Format, head: Head, r: Span) -> u64
     item.key
 }
 
+// A span, field by field: copied as a whole it would wait for the stores of its fields.
+fn copied(r: Span) -> Span
+    ensures { λ q. ⌜ q ≡ r ⌝ }
+{
+    Span {
+        ok: r.ok,
+        page: r.page,
+        from: r.from,
+        node: r.node,
+        to: r.to,
+        used: r.used,
+        behind: r.behind,
+    }
+}
+
 // The records after the last one of a span: on with the run behind its page, where that is known, without that record's way down.
 fn advance(store: &[u32], f: Format, head: Head, r: Span, checked: bool) -> Span
     requires { ⌜ (Under f (now store) head) × (Standing f (now store) head r)
@@ -53,9 +68,9 @@ fn advance(store: &[u32], f: Format, head: Head, r: Span, checked: bool) -> Span
             node: r.node,
             used: r.used,
         };
-        return search::span_behind(store, f, head, true, key, t, r.behind, checked);
+        return copied(search::span_behind(store, f, head, true, key, t, r.behind, checked));
     }
-    walk_from(store, f, head, true, key, checked)
+    copied(walk_from(store, f, head, true, key, checked))
 }
 
 // Where the records of a span that are not above high end.

@@ -56,8 +56,8 @@ pub struct Span {
     pub ok: bool,
     pub page: u32,
     pub from: usize,
-    pub to: usize,
     pub node: u32,
+    pub to: usize,
     pub used: u32,
     pub behind: usize,
 }

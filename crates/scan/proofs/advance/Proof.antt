@@ -1,4 +1,5 @@
 -- From the last record of the span: the span behind its page, or else its way from the root.
+use borrow.Author.Needs.{needs}
 use mathlib.Core.Path.{_≡_, refl, ap, _∙_}
 use mathlib.Core.Bool.{true}
 use mathlib.Core.List.{List}
@@ -39,7 +40,8 @@ span-behind-requires c κs =
 
 returns : tie.Need-returns
 returns c =
-    span-is _ _ _ (c .span-behind .ensures) (known (c .before) .terminal) (c .before .before .before .last-key .ensures)
+    let b = c .before in
+    span-is _ _ _ (c .copied .ensures ∙ b .span-behind .ensures) (known (b .before) .terminal) (b .before .before .before .last-key .ensures)
 
 walk-from-requires : tie.Need-walk-from-requires
 walk-from-requires c κs =
@@ -47,7 +49,9 @@ walk-from-requires c κs =
     let p = call k .pre in (p .0, λ z. rw (k .last-key .ensures) (p .2 z))
 
 returns-2 : tie.Need-returns-2
-returns-2 c = c .walk-from .ensures ∙ ap (spanOf _ _ _ true) (c .before .before .before .last-key .ensures)
+returns-2 c =
+    let b = c .before in
+    c .copied2 .ensures ∙ b .walk-from .ensures ∙ ap (spanOf _ _ _ true) (b .before .before .before .last-key .ensures)
 
 pub advance-spec : {M : Type 1} → statement M
-advance-spec = tie.close (tie.spec last-key-requires span-behind-requires returns walk-from-requires returns-2)
+advance-spec = tie.close (tie.spec last-key-requires span-behind-requires (λ c κs. search needs) returns walk-from-requires (λ c κs. search needs) returns-2)
