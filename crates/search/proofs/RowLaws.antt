@@ -1,6 +1,6 @@
 -- Spans as the code has them: its tests, one by one, and what a sound answer says of the blocks behind it.
 --   Low r == the span r begins within the capacity; Small r == the run behind it has a small number
-use mathlib.Core.Path.{_≡_, refl, sym, ap, _∙_, subst}
+use mathlib.Core.Path.{_≡_, refl, sym, ap, ap₂, _∙_, subst}
 use mathlib.Core.Bool.{Bool, true, false, _&&_, false≢true}
 use mathlib.Core.List.{List}
 use Prim.Native.Nat.{ℕ, _+_, _-_, _*_, _/_, _^_, _≤_, _<_}
@@ -37,10 +37,10 @@ use Rattle.search.proofs.SpanLaws.{rows-all, rows-one, rows-begin, reac
 use Rattle.search.proofs.SpanLaws.{own-null, own-unsound, own-rows, own-after, at-terminal, span-kind, span-rows}
 
 -- a span by its numbers
-span-same : (p m u : ℕ) {i i′ n n′ b b′ : ℕ} → i ≡ i′ → n ≡ n′ → b ≡ b′
-    → _≡_ {A = Span} (record { ok = true; page = p; from = i; to = n; node = m; used = u; behind = b })
-    (record { ok = true; page = p; from = i′; to = n′; node = m; used = u; behind = b′ })
-span-same p m u d e g = rw (d, e, g)
+span-same : (p m u : ℕ) {i i′ n n′ k k′ b b′ : ℕ} → i ≡ i′ → n ≡ n′ → k ≡ k′ → b ≡ b′
+    → _≡_ {A = Span} (record { ok = true; page = p; from = i; to = n; last = k; node = m; used = u; behind = b })
+    (record { ok = true; page = p; from = i′; to = n′; last = k′; node = m; used = u; behind = b′ })
+span-same p m u d e j g = rw (d, e, j, g)
 
 -- no span is sound that met damage
 none-not : {r : Span} → r ≡ noSpan false → r .ok ≡ true → ⊥
@@ -83,9 +83,9 @@ module _ (f : Format) (s : List ℕ) (h : Head) (k n u p : ℕ) {pg : List ℕ} 
   is-first : first ≡ keyAt f (pageAt f s h p) 0
   is-first = rw e at ef
 
-  pub rows-other : (first / 2 ^ (width f - u) ≡ k / 2 ^ (width f - u) → ⊥) → firstRow n u p ≡ reachedRows f s h k n u p
+  pub rows-other : (first / 2 ^ (width f - u) ≡ k / 2 ^ (width f - u) → ⊥) → firstRow n u p first ≡ reachedRows f s h k n u p
   unfolding comesBack
-  rows-other q = sym (rows-one f s h k n u p (rw (ne-eqb _ _ (rw is-first at q))))
+  rows-other q = ap (firstRow n u p) is-first ∙ sym (rows-one f s h k n u p (rw (ne-eqb _ _ (rw is-first at q))))
 
   module _ (q : first / 2 ^ (width f - u) ≡ k / 2 ^ (width f - u)) {v : Visit} (ev : v ≡ ownVisit f s h first n u) where
     same-bits : eqb (keyAt f (pageAt f s h p) 0 / 2 ^ (width f - u)) (k / 2 ^ (width f - u)) ≡ true
@@ -94,23 +94,25 @@ module _ (f : Format) (s : List ℕ) (h : Head) (k n u p : ℕ) {pg : List ℕ} 
     entry-is : v ≡ ownVisit f s h (keyAt f (pageAt f s h p) 0) n u
     entry-is = ev ∙ ap (λ x. ownVisit f s h x n u) is-first
 
-    pub rows-elsewhere : (v .pointer ≡ p → ⊥) → firstRow n u p ≡ reachedRows f s h k n u p
+    pub rows-elsewhere : (v .pointer ≡ p → ⊥) → firstRow n u p first ≡ reachedRows f s h k n u p
     unfolding comesBack
-    rows-elsewhere z = sym (rows-one f s h k n u p (rw (same-bits, ne-eqb _ _ (rw entry-is at z))))
+    rows-elsewhere z = ap (firstRow n u p) is-first ∙ sym (rows-one f s h k n u p (rw (same-bits, ne-eqb _ _ (rw entry-is at z))))
 
     module _ (z : v .pointer ≡ p) where
       comes-back : eqb (ownVisit f s h (keyAt f (pageAt f s h p) 0) n u .pointer) p ≡ true
       comes-back = eq-eqb _ _ (rw entry-is at z)
 
-      pub rows-alone : agrees f pg first (u + v .depth) ≡ false → firstRow n u p ≡ reachedRows f s h k n u p
+      pub rows-alone : agrees f pg first (u + v .depth) ≡ false → firstRow n u p first ≡ reachedRows f s h k n u p
       unfolding comesBack
-      rows-alone g = sym (rows-one f s h k n u p (rw (same-bits, comes-back, rw (e, entry-is, is-first) at g)))
+      rows-alone g = ap (firstRow n u p) is-first ∙ sym (rows-one f s h k n u p (rw (same-bits, comes-back, rw (e, entry-is, is-first) at g)))
 
-      pub rows-whole : agrees f pg first (u + v .depth) ≡ true → {c b : ℕ} → c ≡ count pg → b ≡ runBehind s h n (v .depth) (v .entry)
-          → _≡_ {A = Span} (record { ok = true; page = p; from = 0; to = c; node = n; used = u; behind = b }) (reachedRows f s h k n u p)
+      pub rows-whole : agrees f pg first (u + v .depth) ≡ true → {c l b : ℕ} → c ≡ count pg → l ≡ keyAt f pg (c - 1)
+          → b ≡ runBehind s h n (v .depth) (v .entry)
+          → _≡_ {A = Span} (record { ok = true; page = p; from = 0; to = c; last = l; node = n; used = u; behind = b })
+          (reachedRows f s h k n u p)
       unfolding comesBack
-      rows-whole g ec eb =
-          span-same p n u refl (ec ∙ ap count e) (eb ∙ ap (λ x. runBehind s h n (x .depth) (x .entry)) entry-is)
+      rows-whole g ec el eb =
+          span-same p n u refl (ec ∙ ap count e) (el ∙ ap₂ (λ x y. keyAt f x (y - 1)) e (ec ∙ ap count e)) (eb ∙ ap (λ x. runBehind s h n (x .depth) (x .entry)) entry-is)
           ∙ sym (rows-all f s h k n u p (rw (same-bits, comes-back, rw (e, entry-is, is-first) at g)))
 
 -- a sound span behind an entry: the way on met no damage
@@ -156,10 +158,11 @@ module _ (f : Format) (s : List ℕ) (h : Head) (strict : Bool) (k : ℕ) (t : T
       ends : n ≡ count (pageAt f s h (v .pointer))
       ends = rw e at en
 
-      pub at-rows : i < n → {b : ℕ} → b ≡ runBehind s h (t .node) (v .depth) (v .entry)
-          → _≡_ {A = Span} (record { ok = true; page = v .pointer; from = i; to = n; node = t .node; used = t .used; behind = b }) whole
-      at-rows l eb =
-          span-same (v .pointer) (t .node) (t .used) begins ends eb
+      pub at-rows : i < n → {x b : ℕ} → x ≡ keyAt f pg (n - 1) → b ≡ runBehind s h (t .node) (v .depth) (v .entry)
+          → _≡_ {A = Span} (record { ok = true; page = v .pointer; from = i; to = n; last = x; node = t .node; used = t .used; behind = b })
+          whole
+      at-rows l ex eb =
+          span-same (v .pointer) (t .node) (t .used) begins ends (ex ∙ ap₂ (λ x y. keyAt f x (y - 1)) e ends) eb
           ∙ sym (at-own ∙ own-rows f s h strict k (t .node) (t .used) v z (rw e at p) (omega (arith, begins, ends)))
 
       pub at-after : n ≤ i → whole ≡ onwards

@@ -63,6 +63,7 @@ module _ (f : Format) (s : List ℕ) (h : Head) (k n u p : ℕ) where
         page = p;
         from = 0;
         to = count (pageAt f s h p);
+        last = keyAt f (pageAt f s h p) (count (pageAt f s h p) - 1);
         node = n;
         used = u;
         behind = runBehind s h n (back .depth) (back .entry);
@@ -70,7 +71,7 @@ module _ (f : Format) (s : List ℕ) (h : Head) (k n u p : ℕ) where
   unfolding reachedRows
   rows-all b = rw (b, reachedRows)
 
-  pub rows-one : comesBack f s h k n u p ≡ false → reachedRows f s h k n u p ≡ firstRow n u p
+  pub rows-one : comesBack f s h k n u p ≡ false → reachedRows f s h k n u p ≡ firstRow n u p (keyAt f (pageAt f s h p) 0)
   unfolding reachedRows
   rows-one b = rw (b, reachedRows)
 
@@ -167,6 +168,7 @@ module _ (f : Format) (s : List ℕ) (h : Head) (strict : Bool) (k : ℕ) where
               page = v .pointer;
               from = firstAbove f own-page strict k;
               to = count own-page;
+              last = keyAt f own-page (count own-page - 1);
               node = n;
               used = u;
               behind = runBehind s h n (v .depth) (v .entry);
@@ -299,6 +301,7 @@ module _ (f : Format) (s : List ℕ) (h : Head) (strict : Bool) (k : ℕ) (P : S
         page = entry .pointer;
         from = firstAbove f leaf strict k;
         to = count leaf;
+        last = keyAt f leaf (count leaf - 1);
         node = there .node;
         used = there .used;
         behind = runBehind s h (there .node) (entry .depth) (entry .entry);
@@ -363,9 +366,12 @@ module _ (f : Format) (s : List ℕ) (h : Head) (strict : Bool) (k : ℕ) where
       (λ o z p l y q.
       (record { rule = sound-rule f h _ k _ p; some = l; within = omega arith }, λ i m n. next-within f s h k i low high o z p n))
 
-  -- a span with records has the terminal node of its key
+  -- a span with records has the terminal node of its key, and names the key of its last record
   abbrev Named : Span → Type 0
-  Named r = (r .page ≡ 0 → ⊥) → (r .node ≡ terminal f s h k .node) × (r .used ≡ terminal f s h k .used)
+  Named r =
+      (r .page ≡ 0 → ⊥)
+      → (r .node ≡ terminal f s h k .node) × (r .used ≡ terminal f s h k .used)
+      × (r .last ≡ keyAt f (pageAt f s h (r .page)) (r .to - 1))
 
   none-named : (b : Bool) → Named (noSpan b)
   unfolding noSpan
@@ -376,11 +382,11 @@ module _ (f : Format) (s : List ℕ) (h : Head) (strict : Bool) (k : ℕ) where
   rows-named p =
       let t = terminal f s h k in
       by-cases (comesBack f s h k (t .node) (t .used) p)
-      (λ b. rw (rows-all f s h k (t .node) (t .used) p b) (λ z. (refl, refl)))
-      (λ b. rw (rows-one f s h k (t .node) (t .used) p b) (λ z. (refl, refl)))
+      (λ b. rw (rows-all f s h k (t .node) (t .used) p b) (λ z. (refl, refl, refl)))
+      (λ b. rw (rows-one f s h k (t .node) (t .used) p b) (λ z. (refl, refl, refl)))
 
   pub span-named : Named (spanOf f s h strict k)
-  span-named = span-kind f s h strict k Named none-named (λ p r o. rows-named p) (λ o z p l y. (refl, refl))
+  span-named = span-kind f s h strict k Named none-named (λ p r o. rows-named p) (λ o z p l y. (refl, refl, refl))
 
   -- a span with records met no damage, and its terminal node is sound
   abbrev Whole : Span → Type 0

@@ -2,7 +2,7 @@
 --   noSpan ok          == no record; ok: no damage was met
 --   comesBack f s h k n u p == the first key of page p, which is reached from the terminal node n of the key k, leads back to it from n, and
 --     so do the page's other keys
---   firstRow n u p     == the first record of page p, reached from the terminal node n
+--   firstRow n u p k   == the first record of page p, whose key is k, reached from the terminal node n
 --   reachedRows f s h k n u p == the records of page p that follow one another, p being reached from the terminal node n of the key k
 --   reachedSpan f s h strict k n u a == the records of the page that was reached after the sought key's own
 --   ownSpan f s h strict k n u v == the records that follow the key k, whose entry in its terminal node n is v
@@ -34,7 +34,7 @@ use Rattle.search.specs.Find.{soundPage}
 use Rattle.search.specs.Next.{runBehind, reach, behind}
 
 unfoldable pub noSpan : Bool → Span
-noSpan ok = record { ok = ok; page = 0; from = 0; to = 0; node = 0; used = 0; behind = 0 }
+noSpan ok = record { ok = ok; page = 0; from = 0; to = 0; last = 0; node = 0; used = 0; behind = 0 }
 
 -- Next from the page's first key begins anew at the root. If the key agrees with k in the u bits used before the terminal node n, and its own
 -- entry there leads to this page, it comes back here.
@@ -44,8 +44,8 @@ comesBack f s h k n u p =
     && eqb (ownVisit f s h (keyAt f (pageAt f s h p) 0) n u .pointer) p
     && agrees f (pageAt f s h p) (keyAt f (pageAt f s h p) 0) (u + ownVisit f s h (keyAt f (pageAt f s h p) 0) n u .depth)
 
-unfoldable pub firstRow : ℕ → ℕ → ℕ → Span
-firstRow n u p = record { ok = true; page = p; from = 0; to = 1; node = n; used = u; behind = 0 }
+unfoldable pub firstRow : ℕ → ℕ → ℕ → ℕ → Span
+firstRow n u p k = record { ok = true; page = p; from = 0; to = 1; last = k; node = n; used = u; behind = 0 }
 
 -- Where its keys come back all records follow, and after the last one the run behind; else the first one stands alone.
 unfoldable pub reachedRows : Format → List ℕ → Head → ℕ → ℕ → ℕ → ℕ → Span
@@ -58,11 +58,12 @@ reachedRows f s h k n u p =
             page = p;
             from = 0;
             to = count (pageAt f s h p);
+            last = keyAt f (pageAt f s h p) (count (pageAt f s h p) - 1);
             node = n;
             used = u;
             behind = runBehind s h n (v .depth) (v .entry);
           }
-      | false ↦ firstRow n u p
+      | false ↦ firstRow n u p (keyAt f (pageAt f s h p) 0)
     ]
 
 -- Of the page's keys, which ascend, the first speaks for all.
@@ -92,6 +93,7 @@ ownSpan f s h strict k n u v =
                         page = v .pointer;
                         from = firstAbove f (pageAt f s h (v .pointer)) strict k;
                         to = count (pageAt f s h (v .pointer));
+                        last = keyAt f (pageAt f s h (v .pointer)) (count (pageAt f s h (v .pointer)) - 1);
                         node = n;
                         used = u;
                         behind = runBehind s h n (v .depth) (v .entry);

@@ -49,8 +49,8 @@ pub struct Terminal {
     pub used: u32,
 }
 
-// Records of one page that next gives in turn, numbers `from` up to `to`; page 0: none. Not ok: damage was met. The terminal node of the key
-// that they follow is `node`, reached after the `used` bits. After the last record next goes on with the node's run that begins at entry
+// Records of one page that next gives in turn, numbers `from` up to `to`, the key of the last one; page 0: none. Not ok: damage was met. The
+// terminal node of the key that they follow is `node`, reached after the `used` bits. After the last record next goes on with the node's run that begins at entry
 // `behind`; 0: not known.
 pub struct Span {
     pub ok: bool,
@@ -60,6 +60,7 @@ pub struct Span {
     pub to: usize,
     pub used: u32,
     pub behind: usize,
+    pub last: u64,
 }
 
 pub enum Sought {
@@ -466,21 +467,23 @@ fn no_span(ok: bool) -> Span
         page: 0,
         from: 0,
         to: 0,
+        last: 0,
         node: 0,
         used: 0,
         behind: 0,
     }
 }
 
-// The first record of page p, reached from the terminal node t.
-fn first_row(t: Terminal, p: u32) -> Span
-    ensures { λ r. ⌜ r ≡ firstRow (t .node) (t .used) p ⌝ }
+// The first record of page p, with this key, reached from the terminal node t.
+fn first_row(t: Terminal, p: u32, key: u64) -> Span
+    ensures { λ r. ⌜ r ≡ firstRow (t .node) (t .used) p key ⌝ }
 {
     Span {
         ok: true,
         page: p,
         from: 0,
         to: 1,
+        last: key,
         node: t.node,
         used: t.used,
         behind: 0,
@@ -498,20 +501,23 @@ fn reached_rows(store: &[u32], f: Format, head: Head, key: u64, t: Terminal, p: 
     let item = page::read_one(page, f, 0);
     let low = store::width_of(f) - t.used;
     if page::prefix(item.key, low) != page::prefix(key, low) {
-        return first_row(t, p);
+        return first_row(t, p, item.key);
     }
     let v = own_entry(store, f, head, item.key, t.node, t.used);
     if v.pointer != p {
-        return first_row(t, p);
+        return first_row(t, p, item.key);
     }
     if !page::keys_agree(page, f, item.key, t.used + v.depth) {
-        return first_row(t, p);
+        return first_row(t, p, item.key);
     }
+    let to = page::count_of(page);
+    let last = page::read_one(page, f, to - 1);
     Span {
         ok: true,
         page: p,
         from: 0,
-        to: page::count_of(page),
+        to,
+        last: last.key,
         node: t.node,
         used: t.used,
         behind: run_behind(store, f, head, t.node, v),
@@ -604,11 +610,13 @@ pub fn span_at(
         let from = page::first_above(page, f, strict, key);
         let to = page::count_of(page);
         if from < to {
+            let last = page::read_one(page, f, to - 1);
             return Span {
                 ok: true,
                 page: p,
                 from,
                 to,
+                last: last.key,
                 node: t.node,
                 used: t.used,
                 behind,

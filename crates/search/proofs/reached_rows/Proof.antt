@@ -101,21 +101,34 @@ returns-3 c =
     ∙ rows-alone _ _ _ _ _ _ _ (r .before .page-at .ensures) (first-is r) (agreed (v .before)) (v .own-entry .ensures) (second k .if2 .left)
     (failed (k .keys-agree .ensures) (c .before .if3 .taken))
 
+-- the page, from its count on, and its last record
+abbrev counted : tie.After-count-of → tie.After-page-at
+counted c = read (second (c .before .before) .before .before .before) .before
+
+sub-read-one : tie.Need-sub-read-one
+sub-read-one c = omega (arith, some (counted c), c .count-of .ensures .0)
+
+read-one-requires-2 : tie.Need-read-one-requires-2
+read-one-requires-2 c κs =
+    (search needs, record-inside (full (counted c)) (omega (arith, some (counted c), c .count-of .ensures .0)))
+
 run-behind-requires : tie.Need-run-behind-requires
 run-behind-requires c κs =
-    let p = call (read (second (c .before .before) .before .before .before)) .pre in (p .0, at-node _ _ _ _ (p .0) (p .1) (p .2))
+    let p = counted (c .before) .before .before .pre in (p .0, at-node _ _ _ _ (p .0) (p .1) (p .2))
 
 returns-4 : tie.Need-returns-4
 returns-4 c =
-    let k = c .before .before .before in
+    let n = c .before .before in
+    let k = n .before .before in
     let v = second k .before .before in
     let r = read (v .before) in
     rows-whole _ _ _ _ _ _ _ (r .before .page-at .ensures) (first-is r) (agreed (v .before)) (v .own-entry .ensures) (second k .if2 .left)
-    (passed (k .keys-agree .ensures) (c .before .before .if3 .left)) (c .before .count-of .ensures .0) (c .run-behind .ensures .0)
+    (passed (k .keys-agree .ensures) (n .before .if3 .left)) (n .count-of .ensures .0)
+    (ap (λ (x : Item). x .key) (c .before .read-one2 .ensures)) (c .run-behind .ensures .0)
 
 pub reached-rows-spec : {M : Type 1} → statement M
 reached-rows-spec =
     tie.close
     (tie.spec page-at-requires read-one-requires (λ c κs. search needs) sub-low (λ c κs. search needs) (λ c κs. search needs)
     (λ c κs. search needs) returns own-entry-requires (λ c κs. search needs) returns-2 add-keys-agree keys-agree-requires
-    (λ c κs. search needs) returns-3 (λ c κs. search needs) run-behind-requires returns-4)
+    (λ c κs. search needs) returns-3 (λ c κs. search needs) sub-read-one read-one-requires-2 run-behind-requires returns-4)

@@ -3,12 +3,15 @@ use borrow.Author.Needs.{needs}
 use mathlib.Core.Path.{_≡_, sym, ap, _∙_}
 use mathlib.Core.Bool.{true}
 use mathlib.Core.Logic.{inl, inr}
-use Prim.Native.Nat.{_+_, _≤_}
+use Prim.Native.Nat.{_+_, _-_, _≤_, _<_}
 use native.Mathlib.Omega.{arith}
 use borrow.Author.Tests.{not-true, not-false}
 use Rattle.lists.proofs.Tests.{passed, failed}
 use Rattle.store.specs.Format.{width}
 use Rattle.store.proofs.HeadLaws.{width-within}
+use Rattle.store.specs.declared.Item.{Item}
+use Rattle.page.specs.Page.{count}
+use Rattle.page.proofs.Inside.{record-inside}
 use Rattle.search.specs.Find.{soundPage}
 use Rattle.search.specs.Next.{reach, behind}
 use Rattle.search.specs.Span.{reachedSpan, GoesBehind}
@@ -98,13 +101,22 @@ first-above-requires : tie.Need-first-above-requires
 first-above-requires c κs =
     page-filled (call (entry (page c)) .pre .0) _ (page c .page-at .ensures) (sound-rule _ _ _ _ _ (sound c))
 
+-- its last record
+last : (c : tie.Then4) → c .before .count-of .result - 1 < count (page (c .before .before .before) .page-at .result .now)
+last c = omega (arith, c .if4 .taken, c .before .count-of .ensures .0)
+
+read-one-requires : tie.Need-read-one-requires
+read-one-requires c κs = (search needs, record-inside (first-above-requires (c .before .before .before) κs) (last c))
+
 returns-3 : tie.Need-returns-3
 returns-3 c =
-    let e = c .before .before .before in
+    let t = c .before in
+    let e = t .before .before .before in
     let p = page e in
     let v = entry p in
     at-rows _ _ _ _ _ _ (ok (v .before)) (v .own-entry .ensures) (p .before .if2 .taken) (p .page-at .ensures) (sound e)
-    (c .before .before .first-above .ensures .0) (c .before .count-of .ensures .0) (c .if4 .taken) (p .before .before .run-behind .ensures .0)
+    (t .before .before .first-above .ensures .0) (t .before .count-of .ensures .0) (t .if4 .taken)
+    (ap (λ (x : Item). x .key) (c .read-one .ensures)) (p .before .before .run-behind .ensures .0)
 
 span-behind-requires : tie.Need-span-behind-requires
 span-behind-requires c κs =
@@ -118,4 +130,5 @@ pub span-at-spec : {M : Type 1} → statement M
 span-at-spec =
     tie.close
     (tie.spec (λ c κs. search needs) returns own-entry-requires run-behind-requires page-at-requires add-page-sound page-sound-requires
-    (λ c κs. search needs) returns-2 first-above-requires (λ c κs. search needs) returns-3 span-behind-requires returns-4)
+    (λ c κs. search needs) returns-2 first-above-requires (λ c κs. search needs) (λ c. search needs) read-one-requires returns-3
+    span-behind-requires returns-4)
