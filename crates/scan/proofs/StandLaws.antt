@@ -41,6 +41,10 @@ pub record Walking (f : Format) (s : List ℕ) (h : Head) (w : Span) : Type 0 wh
   pub key : ℕ
   pub span : w ≡ spanOf f s h strict key
 
+-- the page of a span with records, which the code has as pg
+pub rows-filled : {f : Format} {s : List ℕ} {h : Head} {r : Span} {pg : List ℕ} → Rows f s h r → pg ≡ pageAt f s h (r .page) → Filled f pg
+rows-filled {f} {s} {h} {r} w e = rw e (filled f (h .capacity) (pageAt f s h (r .page)) (w .rule) (page-lent f s h (r .page)))
+
 -- a terminal node by its numbers
 terminal-same : {t : Terminal} {b : Bool} {n m : ℕ} → b ≡ t .ok → n ≡ t .node → m ≡ t .used → record { ok = b; node = n; used = m } ≡ t
 terminal-same d e g = rw (d, e, g)
@@ -59,11 +63,12 @@ module _ {f : Format} {s : List ℕ} {h : Head} (u : Under f s h) {w : Span} (a 
       let l = under-levels u in
       span-held f s h (a .strict) (a .key) (l .0) (l .1) w (a .span) walk-ok some
 
-  -- the terminal node that it names is that of its key
+  -- the terminal node that it names is that of its key, and the key that of its last record
+  names : (w .node ≡ terminal f s h (a .key) .node) × (w .used ≡ terminal f s h (a .key) .used) × (w .last ≡ lastKey f s h w)
+  names = span-named f s h (a .strict) (a .key) (a .span) some
+
   named : terminalOf w ≡ terminal f s h (a .key)
-  named =
-      let e = span-named f s h (a .strict) (a .key) (λ z. some (ap (λ r. r .page) (a .span) ∙ z)) in
-      terminal-same (sym (whole .1)) (ap (λ r. r .node) (a .span) ∙ e .0) (ap (λ r. r .used) (a .span) ∙ e .1)
+  named = terminal-same (sym (whole .1)) (names .0) (names .1)
 
   goes-behind : (w .behind ≡ 0 → ⊥) → Behind f s h w
   goes-behind z =
@@ -76,12 +81,12 @@ module _ {f : Format} {s : List ℕ} {h : Head} (u : Under f s h) {w : Span} (a 
       }
 
   pub standing : Standing f s h w
-  standing = record { rows = walk-rows; behind = goes-behind }
+  standing = record { rows = walk-rows; last = names .2; behind = goes-behind }
 
   -- what is asked where its page, which the code has as pg, is searched
   module _ {pg : List ℕ} (e : pg ≡ pageAt f s h (w .page)) where
     pub page-filled : Filled f pg
-    page-filled = rw e (filled f (h .capacity) (pageAt f s h (w .page)) (walk-rows .rule) (page-lent f s h (w .page)))
+    page-filled = rows-filled walk-rows e
 
     pub end-asked : Filled f pg × (w .from < w .to) × (w .to ≤ count pg) × (w .to < 2 ^ 32)
     end-asked =

@@ -3,8 +3,8 @@
 --   lastKey f s h r       == the key of the last record of a span
 --   terminalOf r          == the terminal node that a span names
 --   Behind f s h r        == next from the last record of the span r goes on with the run behind its page, in the same terminal node
---   Standing f s h r      == the walk stands at the records of r, and where the run behind their page is known, next from the last one goes on
---     there
+--   Standing f s h r      == the walk stands at the records of r, which names the key of the last one; where the run behind their page is
+--     known, next from there goes on with it
 --   endOf f pg from to high == where those of the records from number `from` up to `to` end that are not above high
 --   rows f pg i n         == n records of a page, from number i on
 use mathlib.Core.Path.{_≡_}
@@ -36,6 +36,7 @@ pub record Behind (f : Format) (s : List ℕ) (h : Head) (r : Span) : Type 0 whe
 
 pub record Standing (f : Format) (s : List ℕ) (h : Head) (r : Span) : Type 0 where
   pub rows : Rows f s h r
+  pub last : r .last ≡ lastKey f s h r
   pub behind : (r .behind ≡ 0 → ⊥) → Behind f s h r
 
 unfoldable pub endOf : Format → List ℕ → ℕ → ℕ → ℕ → ℕ

@@ -13,7 +13,7 @@ ghost use lib.ListN.{length, drop};
 ghost use Rattle.lists.specs.Lists.{part};
 ghost use Rattle.plot.specs.Plot.{lawfulDay};
 ghost use Rattle.store.specs.Format.{words};
-ghost use Rattle.store.specs.Head.{Under};
+ghost use Rattle.store.specs.Head.{pageAt, Under};
 ghost use Rattle.page.specs.Page.{count, flat, Filled};
 ghost use Rattle.totals.specs.Totals.{Room, Bounded, updatedOf, totalsOf};
 ghost use Rattle.search.specs.Span.{spanOf, Rows};
@@ -30,16 +30,6 @@ fn walk_from(store: &[u32], f: Format, head: Head, strict: bool, key: u64, check
     search::span_at(store, f, head, strict, key, terminal, checked)
 }
 
-// The key of the last record of a span.
-fn last_key(store: &[u32], f: Format, head: Head, r: Span) -> u64
-    requires { ⌜ (Under f (now store) head) × (Rows f (now store) head r) ⌝ }
-    ensures { λ k. ⌜ k ≡ lastKey f (now (store .entry)) head r ⌝ }
-{
-    let page = store::page_at(store, f, head, r.page);
-    let item = page::read_one(page, f, r.to - 1);
-    item.key
-}
-
 // A span, field by field: copied as a whole it would wait for the stores of its fields.
 fn copied(r: Span) -> Span
     ensures { λ q. ⌜ q ≡ r ⌝ }
@@ -52,6 +42,7 @@ fn copied(r: Span) -> Span
         to: r.to,
         used: r.used,
         behind: r.behind,
+        last: r.last,
     }
 }
 
@@ -61,30 +52,29 @@ fn advance(store: &[u32], f: Format, head: Head, r: Span, checked: bool) -> Span
         × (checked ≡ false → spanOf f (now store) head true (lastKey f (now store) head r) .ok ≡ true) ⌝ }
     ensures { λ q. ⌜ q ≡ spanOf f (now (store .entry)) head true (lastKey f (now (store .entry)) head r) ⌝ }
 {
-    let key = last_key(store, f, head, r);
     if r.behind != 0 {
         let t = Terminal {
             ok: true,
             node: r.node,
             used: r.used,
         };
-        return copied(search::span_behind(store, f, head, true, key, t, r.behind, checked));
+        return copied(search::span_behind(store, f, head, true, r.last, t, r.behind, checked));
     }
-    copied(walk_from(store, f, head, true, key, checked))
+    copied(walk_from(store, f, head, true, r.last, checked))
 }
 
 // Where the records of a span that are not above high end.
-fn end_at(page: &[u32], f: Format, from: usize, to: usize, high: u64) -> usize
-    requires { ⌜ (Filled f (now page)) × (from < to) × (to ≤ count (now page)) × (to < 2 ^ 32) ⌝ }
-    ensures { λ r. ⌜ (r ≡ endOf f (now (page .entry)) from to high) × (from ≤ r) × (r ≤ to) ⌝ }
+fn end_of(store: &[u32], f: Format, head: Head, r: Span, high: u64) -> usize
+    requires { ⌜ (Under f (now store) head) × (Standing f (now store) head r) ⌝ }
+    ensures { λ e. ⌜ (e ≡ endOf f (pageAt f (now (store .entry)) head (r .page)) (r .from) (r .to) high) × (r .from ≤ e) × (e ≤ r .to) ⌝ }
 {
-    let item = page::read_one(page, f, to - 1);
-    if item.key <= high {
-        return to;
+    if r.last <= high {
+        return r.to;
     }
+    let page = store::page_at(store, f, head, r.page);
     let end = page::first_above(page, f, true, high);
-    if end < from {
-        return from;
+    if end < r.from {
+        return r.from;
     }
     end
 }
@@ -129,10 +119,10 @@ fn list(store: &[u32], f: Format, head: Head, low: u64, high: u64, room: u64) ->
     let mut count: u64 = 0;
     let mut r = walk_from(store, f, head, false, low, true);
     while r.page != 0 {
-        let page = store::page_at(store, f, head, r.page);
-        let end = end_at(page, f, r.from, r.to, high);
+        let end = end_of(store, f, head, r, high);
         let n = (end - r.from) as u64;
         if n > room - count {
+            let page = store::page_at(store, f, head, r.page);
             let first = r.from + (room - count) as usize;
             let item = page::read_one(page, f, first);
             return Listing {
@@ -142,7 +132,7 @@ fn list(store: &[u32], f: Format, head: Head, low: u64, high: u64, room: u64) ->
             };
         }
         count += n;
-        if last_key(store, f, head, r) >= high {
+        if r.last >= high {
             return listing_of(true, count);
         }
         r = advance(store, f, head, r, true);
@@ -283,9 +273,9 @@ fn sum(store: &[u32], f: Format, head: Head, low: u64, high: u64, today: u32) ->
     let mut r = walk_from(store, f, head, false, low, true);
     while r.page != 0 {
         let page = store::page_at(store, f, head, r.page);
-        let end = end_at(page, f, r.from, r.to, high);
+        let end = end_of(store, f, head, r, high);
         t = add_rows(page, f, r.from, end, today, t);
-        if last_key(store, f, head, r) >= high {
+        if r.last >= high {
             return summing_of(true, t);
         }
         r = advance(store, f, head, r, true);

@@ -385,8 +385,8 @@ module _ (f : Format) (s : List ℕ) (h : Head) (strict : Bool) (k : ℕ) where
       (λ b. rw (rows-all f s h k (t .node) (t .used) p b) (λ z. (refl, refl, refl)))
       (λ b. rw (rows-one f s h k (t .node) (t .used) p b) (λ z. (refl, refl, refl)))
 
-  pub span-named : Named (spanOf f s h strict k)
-  span-named = span-kind f s h strict k Named none-named (λ p r o. rows-named p) (λ o z p l y. (refl, refl, refl))
+  pub span-named : {r : Span} → r ≡ spanOf f s h strict k → Named r
+  span-named e = subst Named (sym e) (span-kind f s h strict k Named none-named (λ p r o. rows-named p) (λ o z p l y. (refl, refl, refl)))
 
   -- a span with records met no damage, and its terminal node is sound
   abbrev Whole : Span → Type 0

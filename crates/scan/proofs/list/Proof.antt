@@ -6,10 +6,10 @@ use Prim.Native.Nat.{ℕ, _+_, _-_, _≤_, _<_}
 use native.Mathlib.Omega.{arith}
 use Rattle.page.proofs.Inside.{record-inside}
 use Rattle.search.proofs.BlockLaws.{under-page}
-use Rattle.scan.specs.Walk.{lastKey}
+use Rattle.scan.specs.Walk.{lastKey, Standing}
 use Rattle.scan.specs.Range.{listingOf}
 use Rattle.scan.proofs.WalkLaws.{stopOf}
-use Rattle.scan.proofs.StandLaws.{Listed, standing, walk-rows, end-asked, list-first, list-done, list-full, list-over, list-next}
+use Rattle.scan.proofs.StandLaws.{Listed, standing, end-asked, list-first, list-done, list-full, list-over, list-next}
 use Rattle.scan.proofs.StandLaws.{rows-some, taken-count, listing-most}
 use Rattle.scan.proofs.list.Statement.{statement}
 use Rattle.scan.proofs.list.Tie as tie
@@ -27,10 +27,10 @@ call l = l .before .before .before
 abbrev turn : tie.Then1 Inv-loop μ-loop → tie.At-loop Inv-loop μ-loop
 turn i = i .before .before
 
-abbrev held : tie.After-end-at Inv-loop μ-loop → tie.Then1 Inv-loop μ-loop
-held c = c .before .before
+abbrev held : tie.After-end-of Inv-loop μ-loop → tie.Then1 Inv-loop μ-loop
+held c = c .before
 
-abbrev ended : tie.Else2 Inv-loop μ-loop → tie.After-end-at Inv-loop μ-loop
+abbrev ended : tie.Else2 Inv-loop μ-loop → tie.After-end-of Inv-loop μ-loop
 ended c = c .before .before
 
 abbrev fitting : tie.Else3 Inv-loop μ-loop → tie.Else2 Inv-loop μ-loop
@@ -42,56 +42,60 @@ walk-from-requires c κs = (c .before .pre .0, λ z. absurd (true≢false z))
 loop-holds : tie.Need-loop-holds Inv-loop μ-loop
 loop-holds c = list-first _ _ _ _ _ _ (c .before .before .pre .1) (c .walk-from .ensures)
 
-page-at-requires : tie.Need-page-at-requires Inv-loop μ-loop
-page-at-requires c κs = under-page (call (turn c) .pre .0)
-
 -- there are records
 some : (i : tie.Then1 Inv-loop μ-loop) → turn i .loop .r .page ≡ 0 → ⊥
 some i = i .if1 .taken
 
--- they lie in the page
-end-at-requires : tie.Need-end-at-requires Inv-loop μ-loop
-end-at-requires c κs =
-    let i = c .before in
-    end-asked (call (turn i) .pre .0) (turn i .loop .inv .ahead .at) (some i) (c .page-at .ensures)
+-- the walk stands at them
+stands : (i : tie.Then1 Inv-loop μ-loop) → let a = call (turn i) .args in Standing (a .f) (a .store .now) (a .head) (turn i .loop .r)
+stands i = standing (call (turn i) .pre .0) (turn i .loop .inv .ahead .at) (some i)
+
+end-of-requires : tie.Need-end-of-requires Inv-loop μ-loop
+end-of-requires c κs = (call (turn c) .pre .0, stands c)
 
 -- where those up to high end
 abbrev stop : tie.Then1 Inv-loop μ-loop → ℕ
 stop i = let a = call (turn i) .args in stopOf (a .f) (a .store .now) (a .head) (turn i .loop .r) (a .high)
 
-stops : (c : tie.After-end-at Inv-loop μ-loop) → c .end-at .result ≡ stop (held c)
-stops c = rw (c .before .page-at .ensures) at (c .end-at .ensures .0)
+stops : (c : tie.After-end-of Inv-loop μ-loop) → c .end-of .result ≡ stop (held c)
+stops c = c .end-of .ensures .0
 
 sub-n : tie.Need-sub-n Inv-loop μ-loop
-sub-n c = c .before .end-at .ensures .1
+sub-n c = c .before .end-of .ensures .1
 
 sub-if2 : tie.Need-sub-if2 Inv-loop μ-loop
 sub-if2 c = turn (held (c .before)) .loop .inv .within
 
 sub-first : tie.Need-sub-first Inv-loop μ-loop
-sub-first c = sub-if2 (c .before)
+sub-first c = sub-if2 (c .before .before)
 
 -- the first record not written is one of them
 lies : (c : tie.Then2 Inv-loop μ-loop)
     → let l = turn (held (c .before .before)) in
     l .loop .r .from + (call l .args .room - l .loop .count) < l .loop .r .to
-lies c = omega (arith, c .if2 .taken, c .before .before .end-at .ensures .2)
+lies c = omega (arith, c .if2 .taken, c .before .before .end-of .ensures .2)
 
 add-first : tie.Need-add-first Inv-loop μ-loop
-add-first c = let l = lies (c .before) in search needs
+add-first c = let l = lies (c .before .before) in search needs
+
+page-at-requires : tie.Need-page-at-requires Inv-loop μ-loop
+page-at-requires c κs = under-page (call (turn (held (c .before .before))) .pre .0)
 
 read-one-requires : tie.Need-read-one-requires Inv-loop μ-loop
 read-one-requires c κs =
-    let l = lies (c .before) in
-    let e = end-at-requires (c .before .before .before .before) κs in
+    let p = c .before in
+    let l = lies (p .before) in
+    let i = held (p .before .before .before) in
+    let e = end-asked (call (turn i) .pre .0) (turn i .loop .inv .ahead .at) (some i) (p .page-at .ensures) in
     (omega (arith, l, e .3), record-inside (e .0) (omega (arith, l, e .2)))
 
 returns : tie.Need-returns Inv-loop μ-loop
 returns c =
-    let e = c .before .before .before .before in
+    let p = c .before .before in
+    let e = p .before .before .before in
     let l = turn (held e) in (
-      rw (ap (λ x. x .key) (c .read-one .ensures), e .before .page-at .ensures)
-          (list-full _ _ _ _ _ (call l .pre .0) _ (l .loop .inv) (some (held e)) (rw (stops e) at (c .before .before .if2 .taken))),
+      rw (ap (λ x. x .key) (c .read-one .ensures), p .page-at .ensures)
+          (list-full _ _ _ _ _ (call l .pre .0) _ (l .loop .inv) (some (held e)) (rw (stops e) at (p .before .if2 .taken))),
       omega arith,
     )
 
@@ -104,22 +108,16 @@ room c = rw (stops (ended c)) at (c .if2 .left)
 add-count : tie.Need-add-count Inv-loop μ-loop
 add-count c = omega (arith, c .if2 .left, sub-if2 (c .before))
 
-last-key-requires : tie.Need-last-key-requires Inv-loop μ-loop
-last-key-requires c κs =
-    let i = held (ended c) in
-    let u = call (turn i) .pre .0 in
-    (u, walk-rows u (turn i .loop .inv .ahead .at) (some i))
-
 returns-2 : tie.Need-returns-2 Inv-loop μ-loop
 returns-2 c =
     let r = c .before .before .before in
     let i = held (ended r) in
     let l = turn i .loop in
     let e = c .listing-of .ensures in
-    let m = listing-most true (l .count + (ended r .end-at .result - l .r .from)) in (
+    let m = listing-most true (l .count + (ended r .end-of .result - l .r .from)) in (
       e ∙ ap (λ n. listingOf true (l .count + (n - l .r .from))) (stops (ended r))
           ∙ list-over _ _ _ _ _ (call (turn i) .pre .0) _ (l .inv) (some i)
-          (rw (c .before .before .last-key .ensures) at (c .before .if3 .taken)) (room r),
+          (rw (stands i .last) at (c .before .if3 .taken)) (room r),
       rw e (omega (arith, m, r .if2 .left, l .inv .within)),
     )
 
@@ -127,14 +125,14 @@ advance-requires : tie.Need-advance-requires Inv-loop μ-loop
 advance-requires c κs =
     let i = held (ended (fitting c)) in
     let u = call (turn i) .pre .0 in
-    (u, standing u (turn i .loop .inv .ahead .at) (some i), λ z. absurd (true≢false z))
+    (u, stands i, λ z. absurd (true≢false z))
 
 -- the last key is below high
 below : (c : tie.Else3 Inv-loop μ-loop)
     → let l = turn (held (ended (fitting c))) in
     let a = call l .args in
     lastKey (a .f) (a .store .now) (a .head) (l .loop .r) < a .high
-below c = rw (c .before .last-key .ensures) at (c .if3 .left)
+below c = rw (stands (held (ended (fitting c))) .last) at (c .if3 .left)
 
 loop-less : tie.Need-loop-less Inv-loop μ-loop
 loop-less c =
@@ -169,6 +167,6 @@ returns-3 c =
 pub list-spec : {M : Type 1} → statement M
 list-spec =
     tie.close
-    (tie.spec Inv-loop μ-loop walk-from-requires loop-holds page-at-requires end-at-requires sub-n sub-if2 sub-first add-first
-    read-one-requires returns add-count last-key-requires (λ c κs. search needs) returns-2 advance-requires loop-less loop-again
+    (tie.spec Inv-loop μ-loop walk-from-requires loop-holds end-of-requires sub-n sub-if2 page-at-requires sub-first add-first
+    read-one-requires returns add-count (λ c κs. search needs) returns-2 advance-requires loop-less loop-again
     (λ c κs. search needs) returns-3)

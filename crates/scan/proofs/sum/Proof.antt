@@ -7,10 +7,10 @@ use native.Mathlib.Omega.{arith}
 use lib.ListN.{length}
 use Rattle.search.proofs.BlockLaws.{under-page}
 use Rattle.totals.specs.Totals.{totalsOf}
-use Rattle.scan.specs.Walk.{lastKey}
+use Rattle.scan.specs.Walk.{lastKey, Standing}
 use Rattle.scan.specs.Summary.{summingOf}
 use Rattle.scan.proofs.WalkLaws.{rowsOf, stopOf, upTo}
-use Rattle.scan.proofs.StandLaws.{Summed, standing, walk-rows, end-asked, sum-first, sum-done, sum-room, sum-over, sum-next}
+use Rattle.scan.proofs.StandLaws.{Summed, standing, end-asked, sum-first, sum-done, sum-room, sum-over, sum-next}
 use Rattle.scan.proofs.StandLaws.{rows-some, taken-count}
 use Rattle.scan.proofs.sum.Statement.{statement}
 use Rattle.scan.proofs.sum.Tie as tie
@@ -28,10 +28,10 @@ call l = l .before .before .before .before
 abbrev turn : tie.Then1 Inv-loop μ-loop → tie.At-loop Inv-loop μ-loop
 turn i = i .before .before
 
-abbrev held : tie.After-end-at Inv-loop μ-loop → tie.Then1 Inv-loop μ-loop
+abbrev held : tie.After-end-of Inv-loop μ-loop → tie.Then1 Inv-loop μ-loop
 held c = c .before .before
 
-abbrev ended : tie.Else2 Inv-loop μ-loop → tie.After-end-at Inv-loop μ-loop
+abbrev ended : tie.Else2 Inv-loop μ-loop → tie.After-end-of Inv-loop μ-loop
 ended c = c .before .before .before
 
 walk-from-requires : tie.Need-walk-from-requires Inv-loop μ-loop
@@ -47,18 +47,19 @@ page-at-requires c κs = under-page (call (turn c) .pre .0)
 some : (i : tie.Then1 Inv-loop μ-loop) → turn i .loop .r .page ≡ 0 → ⊥
 some i = i .if1 .taken
 
--- they lie in the page
-end-at-requires : tie.Need-end-at-requires Inv-loop μ-loop
-end-at-requires c κs =
-    let i = c .before in
-    end-asked (call (turn i) .pre .0) (turn i .loop .inv .ahead .at) (some i) (c .page-at .ensures)
+-- the walk stands at them
+stands : (i : tie.Then1 Inv-loop μ-loop) → let a = call (turn i) .args in Standing (a .f) (a .store .now) (a .head) (turn i .loop .r)
+stands i = standing (call (turn i) .pre .0) (turn i .loop .inv .ahead .at) (some i)
+
+end-of-requires : tie.Need-end-of-requires Inv-loop μ-loop
+end-of-requires c κs = let i = c .before in (call (turn i) .pre .0, stands i)
 
 -- where those up to high end
 abbrev stop : tie.Then1 Inv-loop μ-loop → ℕ
 stop i = let a = call (turn i) .args in stopOf (a .f) (a .store .now) (a .head) (turn i .loop .r) (a .high)
 
-stops : (c : tie.After-end-at Inv-loop μ-loop) → c .end-at .result ≡ stop (held c)
-stops c = rw (c .before .page-at .ensures) at (c .end-at .ensures .0)
+stops : (c : tie.After-end-of Inv-loop μ-loop) → c .end-of .result ≡ stop (held c)
+stops c = c .end-of .ensures .0
 
 -- there is room for them
 room : (i : tie.Then1 Inv-loop μ-loop) → let l = turn i .loop in l .t .count + (stop i - l .r .from) ≤ 2 ^ 32
@@ -66,16 +67,11 @@ room i = sum-room _ _ _ _ _ (call (turn i) .pre .0) _ (turn i .loop .inv) (some 
 
 add-rows-requires : tie.Need-add-rows-requires Inv-loop μ-loop
 add-rows-requires c κs =
-    let l = turn (held c) in
-    let e = end-at-requires (c .before) κs in
-    let w = c .end-at .ensures .2 in
+    let i = held c in
+    let l = turn i in
+    let e = end-asked (call l .pre .0) (l .loop .inv .ahead .at) (some i) (c .before .page-at .ensures) in
+    let w = c .end-of .ensures .2 in
     (e .0, omega (arith, w, e .2), omega (arith, w, e .3), call l .pre .3, l .loop .inv .bounded, rw (stops c) (room (held c)))
-
-last-key-requires : tie.Need-last-key-requires Inv-loop μ-loop
-last-key-requires c κs =
-    let i = held (c .before) in
-    let u = call (turn i) .pre .0 in
-    (u, walk-rows u (turn i .loop .inv .ahead .at) (some i))
 
 -- the totals with the records up to high
 added : (c : tie.After-add-rows Inv-loop μ-loop)
@@ -90,20 +86,20 @@ returns c =
     let i = held (r .before) in
     c .summing-of .ensures ∙ ap (summingOf true) (added r)
     ∙ sum-over _ _ _ _ _ (call (turn i) .pre .0) _ (turn i .loop .inv) (some i)
-    (rw (c .before .before .last-key .ensures) at (c .before .if2 .taken))
+    (rw (stands i .last) at (c .before .if2 .taken))
 
 advance-requires : tie.Need-advance-requires Inv-loop μ-loop
 advance-requires c κs =
     let i = held (ended c) in
     let u = call (turn i) .pre .0 in
-    (u, standing u (turn i .loop .inv .ahead .at) (some i), λ z. absurd (true≢false z))
+    (u, stands i, λ z. absurd (true≢false z))
 
 -- the last key is below high
 below : (c : tie.Else2 Inv-loop μ-loop)
     → let l = turn (held (ended c)) in
     let a = call l .args in
     lastKey (a .f) (a .store .now) (a .head) (l .loop .r) < a .high
-below c = rw (c .before .last-key .ensures) at (c .if2 .left)
+below c = rw (stands (held (ended c)) .last) at (c .if2 .left)
 
 -- so all records of the span are added
 counted : (c : tie.Else2 Inv-loop μ-loop)
@@ -135,5 +131,5 @@ returns-2 c =
 pub sum-spec : {M : Type 1} → statement M
 sum-spec =
     tie.close
-    (tie.spec Inv-loop μ-loop (λ c κs. search needs) walk-from-requires loop-holds page-at-requires end-at-requires add-rows-requires
-    last-key-requires (λ c κs. search needs) returns advance-requires loop-less loop-again (λ c κs. search needs) returns-2)
+    (tie.spec Inv-loop μ-loop (λ c κs. search needs) walk-from-requires loop-holds page-at-requires end-of-requires add-rows-requires
+    (λ c κs. search needs) returns advance-requires loop-less loop-again (λ c κs. search needs) returns-2)
