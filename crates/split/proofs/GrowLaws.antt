@@ -1,38 +1,36 @@
 -- What the operations on a node block read of it: its four words and the entries in use. So they make the same of two blocks that agree
--- there, and of a node by value what its arrays say.
+-- there, and words with a run written, doubled or halved are what the operation makes of them.
 --   ReadAs ws H level back forward e == the block ws has these four words, and the 2^H entries e
 --   runAt H e i          == how many entries the run of entry i has
 --   runBy H e i g        == the entries e with the run of entry i written by g, which is told its length and its local depth
 --   startOf H b          == where the half begins whose first bit is b
 --   depthOf H e b        == the largest local depth in that half, less by one
 --   halfOf H e b         == the entries of that half
---   filled a n x xs      == xs with its n elements from a on set to x
 use mathlib.Core.Path.{_≡_, refl, sym, ap, ap₂, _∙_, subst}
 use mathlib.Core.Bool.{Bool, true, false, _&&_}
 use mathlib.Core.List.{List}
 use Prim.Native.Nat.{ℕ, zero, suc, pred, _+_, _-_, _*_, _/_, _%_, _^_, _≤_, _<_}
-use native.Mathlib.Nat.{add-sub-of-le, mod-le}
+use native.Mathlib.Nat.{add-zero, add-sub-of-le, mod-le}
 use native.Mathlib.Numerals.{add-one}
 use native.Mathlib.Omega.{arith}
 use native.Mathlib.Decide.{decLe, decLt}
 use lib.Dec.{leb, ltb}
-use lib.Pow.{pow-pos, pow-mono, ones-lt, shl-lt, shl-shr}
-use lib.ListN.{length, getD, drop, replicate, length-replicate, getD-replicate}
+use lib.Pow.{pow-pos, ones-lt, shl-lt, shl-shr}
+use lib.ListN.{length, drop}
 use borrow.Author.Tests.{lt-ltb, le-ltb}
 use Rattle.lists.specs.Bits.{bits, index}
-use Rattle.lists.specs.Lists.{greatest, replaced}
+use Rattle.lists.specs.Lists.{greatest}
 use Rattle.lists.proofs.Tests.{greatest-ext, greatest-le, greatest-at}
 use Rattle.lists.proofs.BitLaws.{index-lt, index-add, index-own}
 use Rattle.lists.proofs.Powers.{pow-split, pow-join, run-lt}
-use Rattle.lists.proofs.Parts.{length-replaced, replaced-in, replaced-below, replaced-above}
 use Rattle.tree.specs.Trie.{Key}
 use Rattle.tree.specs.Node.{Entry, lowered}
+use Rattle.store.specs.Head.{nodeWords}
 use Rattle.node.specs.Node.{depthWord, levelWord, backWord, forwardWord, entryDepth, entryOf}
-use Rattle.split.specs.declared.Node.{Node}
 use Rattle.split.specs.Block.{block, like, overRun, halves, number, runLength, halveRun, double, grow, halfStart, fallen}
 use Rattle.split.specs.Block.{halfDepth, half, aim}
-use Rattle.split.specs.Value.{entryIn, blockOf, own, Holder}
-use Rattle.split.proofs.ValueLaws.{block-ext, steps-within}
+use Rattle.split.specs.Value.{filled, Entries, parted, Shallow, Holder}
+use Rattle.split.proofs.ValueLaws.{block-ext, length-filled, filled-in, filled-below, filled-above}
 use Rattle.split.proofs.EntryLaws.{block-entry, over-in, over-below, over-above}
 
 -- blocks are equal by the entries in use
@@ -51,6 +49,10 @@ module _ (n i : ℕ) (g e : ℕ → Entry ℕ) (j : ℕ) where
   unfolding overRun
   over-rest f same =
       ap {B = Entry ℕ} (λ x. elim (leb (i - i % n) j && ltb j (i - i % n + n)) [ true ↦ g (j - (i - i % n)) | false ↦ x ]) same
+
+  over-new : (f : ℕ → Entry ℕ) → g (j - (i - i % n)) ≡ f (j - (i - i % n)) → overRun n i g e j ≡ overRun n i f e j
+  unfolding overRun
+  over-new f same = ap {B = Entry ℕ} (λ x. elim (leb (i - i % n) j && ltb j (i - i % n + n)) [ true ↦ x | false ↦ e j ]) same
 
   over-of : (x : Entry ℕ) → (i - i % n ≤ j → j < i - i % n + n → x ≡ g (j - (i - i % n))) → (j < i - i % n → x ≡ e j)
       → (i - i % n + n ≤ j → x ≡ e j) → x ≡ overRun n i g e j
@@ -85,6 +87,10 @@ module _ (H : ℕ) (e : ℕ → Entry ℕ) where
 pow-pred : (H : ℕ) → 1 ≤ H → 2 ^ H ≡ 2 ^ pred H + 2 ^ pred H
 pow-pred zero some = absurd (omega arith)
 pow-pred (suc H) some = omega arith
+
+pub half-room : (H : ℕ) (b : Bool) → 1 ≤ H → startOf H b + 2 ^ pred H ≤ 2 ^ H
+half-room H false some = omega (arith, pow-pred H some)
+half-room H true some = omega (arith, pow-pred H some)
 
 in-half : (H : ℕ) (b : Bool) (j : ℕ) → 1 ≤ H → j < 2 ^ pred H → startOf H b + j < 2 ^ H
 in-half H false j some l = omega (arith, pow-pred H some)
@@ -130,16 +136,8 @@ block-read θ H level back forward e high =
     }
 
 -- any words as they stand
-plain-read : (ws : List ℕ) → ReadAs ws (depthWord ws 0) (levelWord ws 0) (backWord ws 0) (forwardWord ws 0) (entryOf ws 0)
+pub plain-read : (ws : List ℕ) → ReadAs ws (depthWord ws 0) (levelWord ws 0) (backWord ws 0) (forwardWord ws 0) (entryOf ws 0)
 plain-read ws = record { depth-is = refl; level-is = refl; back-is = refl; forward-is = refl; entry = λ j l. refl }
-
--- a node by value
-pub value-read : (θ : ℕ) (n : Node) → n .depth ≤ θ → ReadAs (blockOf θ n) (n .depth) (n .level) (n .back) (n .forward) (entryIn n)
-unfolding blockOf
-value-read θ n high = block-read θ (n .depth) (n .level) (n .back) (n .forward) (entryIn n) high
-
-pub value-entry : (θ : ℕ) (n : Node) (j : ℕ) → n .depth ≤ θ → j < 2 ^ n .depth → entryOf (blockOf θ n) 0 j ≡ entryIn n j
-value-entry θ n j high l = value-read θ n high .entry j l
 
 module _ {ws : List ℕ} {H level back forward : ℕ} {e : ℕ → Entry ℕ} (r : ReadAs ws H level back forward e) (θ : ℕ) where
   like-read : (K : ℕ) (f : ℕ → Entry ℕ) → like θ ws K f ≡ block θ K level back forward f
@@ -210,161 +208,88 @@ module _ {ws : List ℕ} {H level back forward : ℕ} {e : ℕ → Entry ℕ} (r
         ap₂ (λ d n. fallen ws b (j * 2 ^ (pred d - n))) (r .depth-is) depth-read
         ∙ fallen-read (j * 2 ^ (pred H - depthOf H e b)) (step-lt H e some low b j l))
 
--- what an operation makes of a node's words it makes of the block that they are read as
-own-read : (θ : ℕ) (ws : List ℕ) → depthWord ws 0 ≤ θ
-    → ReadAs (own θ ws) (depthWord ws 0) (levelWord ws 0) (backWord ws 0) (forwardWord ws 0) (entryOf ws 0)
-unfolding own
-own-read θ ws high = block-read θ (depthWord ws 0) (levelWord ws 0) (backWord ws 0) (forwardWord ws 0) (entryOf ws 0) high
-
-module _ (θ : ℕ) (ws : List ℕ) (high : depthWord ws 0 ≤ θ) where
-  pub own-aim : (k : Key) (q : ℕ) → aim θ (own θ ws) k q ≡ aim θ ws k q
-  own-aim k q = aim-read (own-read θ ws high) θ k q ∙ sym (aim-read (plain-read ws) θ k q)
-
-  pub own-grow : (k : Key) (a c : ℕ) → grow θ (own θ ws) k a c ≡ grow θ ws k a c
-  own-grow k a c =
-      let o = own-read θ ws high in
-      let w = plain-read ws in
-      elim (decLt (entryDepth ws 0 (number ws k)) (depthWord ws 0)) [
-        | yes h ↦
-            grow-slack-read o θ k a c h ∙ halve-read o θ k a c ∙ sym (halve-read w θ k a c) ∙ sym (grow-slack-read w θ k a c h)
-        | no h ↦
-            grow-full-read o θ k a c (omega arith)
-            ∙ ap (λ t. halveRun θ t k a c) (double-read o θ ∙ sym (double-read w θ))
-            ∙ sym (grow-full-read w θ k a c (omega arith))
-      ]
-
-  pub own-half : 1 ≤ depthWord ws 0 → ((j : ℕ) → j < 2 ^ depthWord ws 0 → entryDepth ws 0 j ≤ depthWord ws 0) → (b : Bool)
-      → half θ (own θ ws) b ≡ half θ ws b
-  own-half some low b = half-read (own-read θ ws high) θ some low b ∙ sym (half-read (plain-read ws) θ some low b)
-
--- the run of an entry is within the 64 entries
-pub run-room : (H x i n : ℕ) → H ≤ 6 → i < 2 ^ H → n ≡ 2 ^ (H - x) → (i % n ≤ i) × (i - i % n + n ≤ 64)
-run-room H x i n small l e =
+-- the run of an entry is within the entries in use
+pub run-room : (H x i n : ℕ) → i < 2 ^ H → n ≡ 2 ^ (H - x) → (i % n ≤ i) × (i - i % n + n ≤ 2 ^ H)
+run-room H x i n l e =
     let m : ℕ = H - x in
-    (mod-le i n, rw e (omega (arith, run-lt H m i (2 ^ m - 1) (omega arith) l (ones-lt m), ones-lt m, pow-mono {i = H} {j = 6} small)))
-
--- n elements from a on set to x
-abbrev pub filled : ℕ → ℕ → ℕ → List ℕ → List ℕ
-filled a n x xs = replaced a n (replicate n x) xs
-
-module _ (a n x : ℕ) (xs : List ℕ) (fits : a + n ≤ length xs) where
-  length-filled : length (filled a n x xs) ≡ length xs
-  length-filled = length-replaced a n (replicate n x) xs fits (length-replicate n x)
-
-  module _ (j : ℕ) where
-    filled-in : a ≤ j → j < a + n → getD (filled a n x xs) j 0 ≡ x
-    filled-in p q =
-        let m : ℕ = j - a in
-        let e : j ≡ a + m = omega arith in
-        ap (λ i. getD (filled a n x xs) i 0) e
-        ∙ replaced-in a n (replicate n x) xs fits (length-replicate n x) 0 m (omega arith)
-        ∙ getD-replicate n m x 0 (omega arith)
-
-    filled-below : j < a → getD (filled a n x xs) j 0 ≡ getD xs j 0
-    filled-below p = replaced-below a n (replicate n x) xs fits (length-replicate n x) 0 j p
-
-    filled-above : a + n ≤ j → getD (filled a n x xs) j 0 ≡ getD xs j 0
-    filled-above p = replaced-above a n (replicate n x) xs fits (length-replicate n x) 0 j p
+    (mod-le i n, rw e (omega (arith, run-lt H m i (2 ^ m - 1) (omega arith) l (ones-lt m), ones-lt m)))
 
 module _ (n h a c j : ℕ) where
-  halves-left : j < n / 2 → halves n h a c j ≡ (h + 1, a)
-  unfolding halves
-  halves-left l = rw (lt-ltb j (n / 2) l, halves, add-one h)
+  parted-left : j < n / 2 → parted n h a c j ≡ (h, a)
+  unfolding parted
+  parted-left l = rw (lt-ltb j (n / 2) l, parted)
 
-  halves-right : n / 2 ≤ j → halves n h a c j ≡ (h + 1, c)
-  unfolding halves
-  halves-right l = rw (le-ltb j (n / 2) l, halves, add-one h)
+  parted-right : n / 2 ≤ j → parted n h a c j ≡ (h, c)
+  unfolding parted
+  parted-right l = rw (le-ltb j (n / 2) l, parted)
 
--- the two arrays of a node, the run of n entries around i filled
-module _ (n i x : ℕ) (h p : List ℕ) (room-h : i - i % n + n ≤ length h) (room-p : i - i % n + n ≤ length p) (j : ℕ) where
-  abbrev s : ℕ
-  s = i - i % n
+-- the two halves of the run of entry i filled
+run-filled : (ws : List ℕ) (n i h a c j : ℕ) → 4 + 2 * (i - i % n + n) ≤ length ws
+    → entryOf (filled (filled ws (i - i % n) (n / 2) (h, a)) (i - i % n + n / 2) (n - n / 2) (h, c)) 0 j
+    ≡ overRun n i (parted n h a c) (entryOf ws 0) j
+run-filled ws n i h a c j room =
+    over-of n i (parted n h a c) (entryOf ws 0) j _
+    (λ l r.
+    elim (decLt j (s + n / 2)) [
+      | yes q ↦
+          filled-below left (s + n / 2) (h, c) (n - n / 2) j q ∙ filled-in ws s (h, a) (n / 2) j (omega arith) l q
+          ∙ sym (parted-left n h a c (j - s) (omega arith))
+      | no q ↦
+          filled-in left (s + n / 2) (h, c) (n - n / 2) j (omega (arith, length-filled ws s (h, a) (n / 2))) (omega arith) (omega arith)
+          ∙ sym (parted-right n h a c (j - s) (omega arith))
+    ])
+    (λ l. filled-below left (s + n / 2) (h, c) (n - n / 2) j (omega arith) ∙ filled-below ws s (h, a) (n / 2) j l)
+    (λ l. filled-above left (s + n / 2) (h, c) (n - n / 2) j (omega arith) ∙ filled-above ws s (h, a) (n / 2) j (omega arith))
+  where
+    s : ℕ
+    s = i - i % n
 
-  aimed-entry : (q : ℕ)
-      → (getD (filled s n x h) j 0, getD (filled s n q p) j 0) ≡ overRun n i (λ _. (x, q)) (λ m. (getD h m 0, getD p m 0)) j
-  aimed-entry q =
-      over-of n i (λ _. (x, q)) (λ m. (getD h m 0, getD p m 0)) j _
-      (λ l r. ap₂ (λ y z. (y, z)) (filled-in s n x h room-h j l r) (filled-in s n q p room-p j l r))
-      (λ l. ap₂ (λ y z. (y, z)) (filled-below s n x h room-h j l) (filled-below s n q p room-p j l))
-      (λ l. ap₂ (λ y z. (y, z)) (filled-above s n x h room-h j l) (filled-above s n q p room-p j l))
+    left : List ℕ
+    left = filled ws s (n / 2) (h, a)
 
-  halved-entry : (a c : ℕ)
-      → (getD (filled s n (x + 1) h) j 0, getD (filled (s + n / 2) (n - n / 2) c (filled s (n / 2) a p)) j 0)
-      ≡ overRun n i (halves n x a c) (λ m. (getD h m 0, getD p m 0)) j
-  halved-entry a c =
-      over-of n i (halves n x a c) (λ m. (getD h m 0, getD p m 0)) j _
-      (λ l r.
-      elim (decLt j (s + n / 2)) [
-        | yes q ↦
-            ap₂ (λ y z. (y, z)) (filled-in s n (x + 1) h room-h j l r)
-            (filled-below (s + n / 2) (n - n / 2) c left room j q ∙ filled-in s (n / 2) a p room-a j l q)
-            ∙ sym (halves-left n x a c (j - s) (omega arith))
-        | no q ↦
-            ap₂ (λ y z. (y, z)) (filled-in s n (x + 1) h room-h j l r)
-            (filled-in (s + n / 2) (n - n / 2) c left room j (omega arith) (omega arith))
-            ∙ sym (halves-right n x a c (j - s) (omega arith))
-      ])
-      (λ l.
-      ap₂ (λ y z. (y, z)) (filled-below s n (x + 1) h room-h j l)
-      (filled-below (s + n / 2) (n - n / 2) c left room j (omega arith) ∙ filled-below s (n / 2) a p room-a j l))
-      (λ l.
-      ap₂ (λ y z. (y, z)) (filled-above s n (x + 1) h room-h j l)
-      (filled-above (s + n / 2) (n - n / 2) c left room j (omega arith) ∙ filled-above s (n / 2) a p room-a j (omega arith)))
+-- a node's words with the run of entry i, n entries from s on, written
+pub run-written : (θ : ℕ) (ws : List ℕ) (i n s h a c : ℕ) {one two : List ℕ} → n ≡ runLength ws i → s ≡ i - i % n
+    → 4 + 2 * (s + n) ≤ length ws → one ≡ filled ws s (n / 2) (h, a) → two ≡ filled one (s + n / 2) (n - n / 2) (h, c)
+    → like θ ws (depthWord ws 0) (entryOf two 0)
+    ≡ like θ ws (depthWord ws 0) (overRun (runLength ws i) i (parted (runLength ws i) h a c) (entryOf ws 0))
+run-written θ ws i n s h a c {one} {two} run start room first second =
+    block-same θ _ _ _ _ _ refl
+    (λ j l.
+    ap (λ vs. entryOf vs 0 j)
+    (second ∙ ap (λ vs. filled vs (s + n / 2) (n - n / 2) (h, c)) first
+    ∙ ap (λ x. filled (filled ws x (n / 2) (h, a)) (x + n / 2) (n - n / 2) (h, c)) start)
+    ∙ run-filled ws n i h a c j (omega arith)
+    ∙ ap (λ m. overRun m i (parted m h a c) (entryOf ws 0) j) run)
+
+-- that is the run halved, or aimed, at a key that takes the entry
+module _ (θ : ℕ) (ws : List ℕ) (i : ℕ) (k : Key) (at-key : number ws k ≡ i) where
+  abbrev written : ℕ → ℕ → ℕ → List ℕ
+  written h a c = like θ ws (depthWord ws 0) (overRun (runLength ws i) i (parted (runLength ws i) h a c) (entryOf ws 0))
+
+  pub halved-words : (a c : ℕ) {vs : List ℕ} → vs ≡ written (entryDepth ws 0 i + 1) a c → vs ≡ halveRun θ ws k a c
+  unfolding halveRun halves parted
+  halved-words a c new =
+      new ∙ ap (λ x. written x a c) (add-one (entryDepth ws 0 i))
+      ∙ ap (λ x. like θ ws (depthWord ws 0) (overRun (runLength ws x) x (halves (runLength ws x) (entryDepth ws 0 x) a c) (entryOf ws 0)))
+      (sym at-key)
+
+  pub aimed-words : (q : ℕ) {vs : List ℕ} → vs ≡ written (entryDepth ws 0 i + 0) q q → vs ≡ aim θ ws k q
+  unfolding aim
+  aimed-words q new =
+      new ∙ ap (λ x. written x q q) (add-zero (entryDepth ws 0 i))
+      ∙ block-same θ _ _ _ _ _ refl
+      (λ j l. over-new (runLength ws i) i _ (entryOf ws 0) j _ (both (runLength ws i) (entryDepth ws 0 i) q _))
+      ∙ ap (λ x. like θ ws (depthWord ws 0) (overRun (runLength ws x) x (λ j. (entryDepth ws 0 x, q)) (entryOf ws 0))) (sym at-key)
     where
-      left : List ℕ
-      left = filled s (n / 2) a p
+      both : (n h q j : ℕ) → parted n h q q j ≡ (h, q)
+      both n h q j =
+          elim (decLt j (n / 2)) [ yes l ↦ parted-left n h q q j l | no l ↦ parted-right n h q q j (omega arith) ]
 
-      room-a : s + n / 2 ≤ length p
-      room-a = omega arith
-
-      room : s + n / 2 + (n - n / 2) ≤ length left
-      room = omega (arith, length-filled s (n / 2) a p room-a)
-
--- a node by value, with the run of entry i, m entries from s on, written by g into its arrays
-module _ (θ : ℕ) (n : Node) (i m s : ℕ) (high : n .depth ≤ θ) (run : m ≡ 2 ^ (n .depth - getD (n .h) i 0)) (start : s ≡ i - i % m)
-    (room : s + m ≤ 64) (long-h : length (n .h) ≡ 64) (long-p : length (n .p) ≡ 64) (k : Key) (at-key : index (n .depth) k ≡ i) where
-  abbrev valued : List ℕ → List ℕ → List ℕ
-  valued h p = block θ (n .depth) (n .level) (n .back) (n .forward) (λ j. (getD h j 0, getD p j 0))
-
-  run-value : (g : ℕ → ℕ → ℕ → Entry ℕ) (h p : List ℕ)
-      → ((j : ℕ) → (getD h j 0, getD p j 0) ≡ overRun m i (g m (getD (n .h) i 0)) (entryIn n) j)
-      → valued h p ≡ block θ (n .depth) (n .level) (n .back) (n .forward) (runBy (n .depth) (entryIn n) (index (n .depth) k) g)
-  run-value g h p at =
-      block-same θ _ _ _ _ _ refl
-      (λ j l.
-      at j ∙ ap (λ w. overRun w i (g w (getD (n .h) i 0)) (entryIn n) j) run
-      ∙ ap (λ x. runBy (n .depth) (entryIn n) x g j) (sym at-key))
-
-  pub aimed-value : (q : ℕ) (h p : List ℕ) → h ≡ filled s m (getD (n .h) i 0) (n .h) → p ≡ filled s m q (n .p)
-      → valued h p ≡ aim θ (blockOf θ n) k q
-  aimed-value q h p eh ep =
-      run-value (λ w x j. (x, q)) h p
-      (λ j.
-      ap₂ (λ y z. (getD y j 0, getD z j 0)) (eh ∙ ap (λ t. filled t m (getD (n .h) i 0) (n .h)) start)
-      (ep ∙ ap (λ t. filled t m q (n .p)) start)
-      ∙ aimed-entry m i (getD (n .h) i 0) (n .h) (n .p) (omega arith) (omega arith) j q)
-      ∙ sym (aim-read (value-read θ n high) θ k q)
-
-  pub halved-value : (a c : ℕ) (h l p : List ℕ) → h ≡ filled s m (getD (n .h) i 0 + 1) (n .h)
-      → l ≡ filled s (m / 2) a (n .p) → p ≡ filled (s + m / 2) (m - m / 2) c l
-      → valued h p ≡ halveRun θ (blockOf θ n) k a c
-  halved-value a c h l p eh el ep =
-      run-value (λ w x. halves w x a c) h p
-      (λ j.
-      ap₂ (λ y z. (getD y j 0, getD z j 0)) (eh ∙ ap (λ t. filled t m (getD (n .h) i 0 + 1) (n .h)) start)
-      (ep ∙ ap (λ z. filled (s + m / 2) (m - m / 2) c z) el
-      ∙ ap (λ t. filled (t + m / 2) (m - m / 2) c (filled t (m / 2) a (n .p))) start)
-      ∙ halved-entry m i (getD (n .h) i 0) (n .h) (n .p) (omega arith) (omega arith) j a c)
-      ∙ sym (halve-read (value-read θ n high) θ k a c)
-
--- a node with each entry twice
-pub doubled-value : (θ : ℕ) (n : Node) (m : ℕ) (h p : List ℕ) → n .depth ≤ θ → m ≡ 2 ^ n .depth
-    → ((j : ℕ) → j < 2 * m → getD h j 0 ≡ getD (n .h) (j / 2) 0)
-    → ((j : ℕ) → j < 2 * m → getD p j 0 ≡ getD (n .p) (j / 2) 0)
-    → block θ (n .depth + 1) (n .level) (n .back) (n .forward) (λ j. (getD h j 0, getD p j 0)) ≡ double θ (blockOf θ n)
-doubled-value θ n m h p high em eh ep =
-    block-same θ _ _ _ _ _ (add-one (n .depth)) (λ j l. ap₂ (λ y z. (y, z)) (eh j (omega arith)) (ep j (omega arith)))
-    ∙ sym (double-read (value-read θ n high) θ)
+-- each entry twice
+pub doubled-words : (θ : ℕ) (ws vs : List ℕ) (m : ℕ) → m ≡ 2 ^ depthWord ws 0 → Entries vs (2 * m) (λ j. entryOf ws 0 (j / 2))
+    → like θ ws (depthWord ws 0 + 1) (entryOf vs 0) ≡ double θ ws
+unfolding double
+doubled-words θ ws vs m em twice = block-same θ _ _ _ _ _ (add-one (depthWord ws 0)) (λ j l. twice .at j (omega arith))
 
 -- one bit more of a key: the two entries that one entry became
 index-half : (H : ℕ) (k : Key) → index (suc H) k / 2 ≡ index H k
@@ -380,110 +305,117 @@ run-near H e x y g j same one =
     ∙ over-start (2 ^ (suc H - e (y / 2) .0)) x (g (2 ^ (suc H - e (y / 2) .0)) (e (y / 2) .0)) (λ m. e (m / 2)) j y
     (rw two (omega arith))
 
--- a node by value after a growth: its run halved; or the run of the doubled node d, at either of the two entries
-module _ (θ : ℕ) (n : Node) (i a c : ℕ) (ws : List ℕ) where
-  pub slack-value : n .depth ≤ θ → getD (n .h) i 0 < n .depth
-      → ((k : Key) → index (n .depth) k ≡ i → ws ≡ halveRun θ (blockOf θ n) k a c)
-      → (k : Key) → index (n .depth) k ≡ i → ws ≡ grow θ (blockOf θ n) k a c
-  slack-value high test made k e =
-      made k e ∙ sym (grow-slack-read (value-read θ n high) θ k a c (subst (λ x. getD (n .h) x 0 < n .depth) (sym e) test))
+-- a node's words after a growth: its run halved; or the run of the doubled node, at either of the two entries
+module _ (θ : ℕ) (ws : List ℕ) (i a c : ℕ) (k : Key) (at-key : number ws k ≡ i) {vs : List ℕ} where
+  pub grown-slack : entryDepth ws 0 i < depthWord ws 0 → vs ≡ halveRun θ ws k a c → vs ≡ grow θ ws k a c
+  grown-slack test made =
+      made ∙ sym (grow-slack-read (plain-read ws) θ k a c (subst (λ x. entryDepth ws 0 x < depthWord ws 0) (sym at-key) test))
 
-  pub full-value : (d : Node) → n .depth < θ → i < 2 ^ n .depth → getD (n .h) i 0 ≡ n .depth → blockOf θ d ≡ double θ (blockOf θ n)
-      → d .depth ≡ n .depth + 1
-      → ((k : Key) → index (d .depth) k ≡ 2 * i → ws ≡ halveRun θ (blockOf θ d) k a c)
-      → (k : Key) → index (n .depth) k ≡ i → ws ≡ grow θ (blockOf θ n) k a c
-  full-value d less below one twice deep made k e =
-      let H : ℕ = n .depth in
-      let r = value-read θ n (omega arith) in
+  pub grown-full : depthWord ws 0 < θ → i < 2 ^ depthWord ws 0 → entryDepth ws 0 i ≡ depthWord ws 0 → {d : List ℕ} → d ≡ double θ ws
+      → ((m : Key) → number d m ≡ 2 * i → vs ≡ halveRun θ d m a c) → vs ≡ grow θ ws k a c
+  grown-full less below one twice made =
+      let H : ℕ = depthWord ws 0 in
+      let r = plain-read ws in
       let two = twice-read r θ less in
       let m : Key = bits (suc H) (2 * i) in
       let em : index (suc H) m ≡ 2 * i = index-own (suc H) (2 * i) (omega arith) in
       let near : index (suc H) m / 2 ≡ index (suc H) k / 2 = omega (arith, index-half H k) in
-      let here : getD (n .h) (index (suc H) k / 2) 0 ≡ H = ap (λ x. getD (n .h) x 0) (index-half H k ∙ e) ∙ one in
-      made m (ap (λ x. index x m) (deep ∙ add-one H) ∙ em)
+      let here : entryDepth ws 0 (index (suc H) k / 2) ≡ H = ap (entryDepth ws 0) (index-half H k ∙ at-key) ∙ one in
+      made m (ap (λ x. index x m) (ap (λ t. depthWord t 0) twice ∙ two .depth-is) ∙ em)
       ∙ ap (λ t. halveRun θ t m a c) twice
       ∙ halve-read two θ m a c
       ∙ block-same θ _ _ _ _ _ refl
-      (λ j l. run-near H (entryIn n) (index (suc H) m) (index (suc H) k) (λ w x. halves w x a c) j near here)
+      (λ j l. run-near H (entryOf ws 0) (index (suc H) m) (index (suc H) k) (λ w x. halves w x a c) j near here)
       ∙ sym (halve-read two θ k a c)
-      ∙ sym (grow-full-read r θ k a c (omega (arith, ap (λ x. getD (n .h) x 0) e)))
+      ∙ sym (grow-full-read r θ k a c (omega (arith, ap (entryDepth ws 0) at-key)))
+
+-- entry 2i of the doubled node is entry i
+pub twice-at : (θ : ℕ) (ws : List ℕ) (i : ℕ) {d : List ℕ} → depthWord ws 0 < θ → i < 2 ^ depthWord ws 0 → d ≡ double θ ws
+    → (depthWord d 0 ≤ θ) × (2 * i < 2 ^ depthWord d 0) × (entryDepth d 0 (2 * i) ≡ entryDepth ws 0 i)
+twice-at θ ws i less below twice =
+    let H : ℕ = depthWord ws 0 in
+    let two = twice-read (plain-read ws) θ less in
+    let l : 2 * i < 2 ^ suc H = omega arith in
+    let e : 2 * i / 2 ≡ i = omega arith in
+    let deep = ap (λ t. depthWord t 0) twice ∙ two .depth-is in (
+      omega (arith, deep),
+      subst (λ x. 2 * i < 2 ^ x) (sym deep) l,
+      ap (λ t. entryDepth t 0 (2 * i)) twice ∙ ap (λ x. x .0) (two .entry (2 * i) l) ∙ ap (entryDepth ws 0) e,
+    )
 
 -- how far apart the entries stand that a half keeps, of n entries m
-pub half-step : (L K n m : ℕ) → K ≤ L → L ≤ 6 → n ≡ 2 ^ L → m ≡ 2 ^ K → (n / m ≡ 2 ^ (L - K)) × (1 ≤ n / m) × (m * (n / m) ≤ 64)
-half-step L K n m fits small en em =
+pub half-step : (L K n m : ℕ) → K ≤ L → n ≡ 2 ^ L → m ≡ 2 ^ K → (n / m ≡ 2 ^ (L - K)) × (1 ≤ n / m) × (m * (n / m) ≡ n)
+half-step L K n m fits en em =
     let e : n / m ≡ 2 ^ (L - K) = ap₂ (λ x y. x / y) (en ∙ sym (pow-join fits)) em ∙ shl-shr (2 ^ (L - K)) K in
-    let p : m * (n / m) ≡ 2 ^ L = ap₂ (λ x y. x * y) em e ∙ pow-split fits in
-    (e, omega (arith, pow-pos (L - K)), omega (arith, pow-mono {i = L} {j = 6} small))
+    let p : m * (n / m) ≡ n = ap₂ (λ x y. x * y) em e ∙ pow-split fits ∙ sym en in
+    (e, omega (arith, pow-pos (L - K)), p)
 
--- a node by value, halved: n entries from s on lowered into the arrays l and q, of which every n / m-th is kept
-pub half-value : (θ : ℕ) (x : Node) (b : Bool) → x .depth ≤ 6 → x .depth ≤ θ → 1 ≤ x .depth
-    → ((j : ℕ) → j < 2 ^ x .depth → getD (x .h) j 0 ≤ x .depth)
-    → (s n K m : ℕ) → s ≡ startOf (x .depth) b → n ≡ 2 ^ pred (x .depth) → K ≡ depthOf (x .depth) (entryIn x) b → m ≡ 2 ^ K
-    → (l q h p : List ℕ)
-    → ((j : ℕ) → j < n → (getD l j 0 ≡ pred (getD (x .h) (s + j) 0)) × (getD q j 0 ≡ getD (x .p) (s + j) 0))
-    → ((j : ℕ) → j < m → getD h j 0 ≡ getD l (j * (n / m)) 0)
-    → ((j : ℕ) → j < m → getD p j 0 ≡ getD q (j * (n / m)) 0)
-    → block θ K (x .level) (x .back) (x .forward) (λ j. (getD h j 0, getD p j 0)) ≡ half θ (blockOf θ x) b
-half-value θ x b small high some low s n K m es en eK em l q h p lowers thins thins-p =
-    let H : ℕ = x .depth in
-    let e : ℕ → Entry ℕ = entryIn x in
-    let deep : depthOf H e b ≤ pred H = depth-low H e some low b in
-    let mid : m ≡ 2 ^ depthOf H e b = em ∙ ap (λ d. 2 ^ d) eK in
-    let step : n / m ≡ 2 ^ (pred H - depthOf H e b) = half-step (pred H) (depthOf H e b) n m deep (omega arith) en mid .0 in
-    block-same θ _ _ _ _ _ eK
-    (λ j r.
-    let in-m : j < m = omega arith in
-    let at : j * (n / m) < n = rw (step, en) (step-lt H e some low b j r) in
-    ap₂ (λ y z. (y, z)) (thins j in-m ∙ lowers (j * (n / m)) at .0) (thins-p j in-m ∙ lowers (j * (n / m)) at .1)
-    ∙ ap₂ (λ y w. lowered (e (y + j * w))) es step)
-    ∙ sym (half-read (value-read θ x high) θ some low b)
+-- a node's words, halved
+module _ (θ : ℕ) (ws : List ℕ) (some : 1 ≤ depthWord ws 0) (shallow : Shallow θ ws) (b : Bool) where
+  abbrev H : ℕ
+  H = depthWord ws 0
 
--- no depth of a half is over its largest
-pub half-kept : (L K n m s : ℕ) (x l h : List ℕ) → K ≤ L → L ≤ 6 → n ≡ 2 ^ L → m ≡ 2 ^ K → K ≡ greatest n (λ j. pred (getD x (s + j) 0))
-    → ((j : ℕ) → j < n → getD l j 0 ≡ pred (getD x (s + j) 0)) → ((j : ℕ) → j < m → getD h j 0 ≡ getD l (j * (n / m)) 0)
-    → (j : ℕ) → j < 2 ^ K → getD h j 0 ≤ K
-half-kept L K n m s x l h le small en em eK lowers thins j r =
-    let step = half-step L K n m le small en em in
-    let whole : m * (n / m) ≡ n = ap₂ (λ a b. a * b) em (step .0) ∙ pow-split le ∙ sym en in
-    let in-m : j < m = omega arith in
-    let at : j * (n / m) < n = omega (arith, steps-within j m (n / m) in-m (step .1) .0, whole) in
-    let e : getD h j 0 ≡ pred (getD x (s + j * (n / m)) 0) = thins j in-m ∙ lowers (j * (n / m)) at in
-    omega (arith, e, eK, greatest-at n (λ i. pred (getD x (s + i) 0)) (j * (n / m)) at)
+  abbrev K : ℕ
+  K = depthOf H (entryOf ws 0) b
 
--- a node that was loaded from its block
-pub record Loaded (θ : ℕ) (ws : List ℕ) (x : Node) : Type 0 where
-  pub depth-is : x .depth ≡ depthWord ws 0
-  pub back-is : x .back ≡ backWord ws 0
-  pub forward-is : x .forward ≡ forwardWord ws 0
-  pub locals : (j : ℕ) → j < 2 ^ depthWord ws 0 → getD (x .h) j 0 ≡ entryDepth ws 0 j
+  pub half-deep : K ≤ pred H
+  half-deep = depth-low H (entryOf ws 0) some (shallow .all) b
 
-module _ (θ : ℕ) (x : Node) {ws : List ℕ} (e : blockOf θ x ≡ ws) where
-  first-word : x .depth ≡ depthWord ws 0
-  unfolding blockOf block
-  first-word = ap (λ b. depthWord b 0) e
+  -- n entries from s on lowered into the words l, of which every n / m-th is kept
+  pub half-words : (s n D m : ℕ) → s ≡ startOf H b → n ≡ 2 ^ pred H → D ≡ K → m ≡ 2 ^ D → (l t : List ℕ)
+      → Entries l n (λ j. lowered (entryOf ws 0 (s + j))) → Entries t m (λ j. entryOf l 0 (j * (n / m)))
+      → like θ ws D (entryOf t 0) ≡ half θ ws b
+  half-words s n D m es en eD em l t lowers thins =
+      let mid : m ≡ 2 ^ K = em ∙ ap (λ d. 2 ^ d) eD in
+      let step : n / m ≡ 2 ^ (pred H - K) = half-step (pred H) K n m half-deep en mid .0 in
+      block-same θ _ _ _ _ _ eD
+      (λ j r.
+      let at : j * (n / m) < n = rw (step, en) (step-lt H (entryOf ws 0) some (shallow .all) b j r) in
+      thins .at j (omega arith) ∙ lowers .at (j * (n / m)) at
+      ∙ ap₂ (λ y w. lowered (entryOf ws 0 (y + j * w))) es step)
+      ∙ sym (half-read (plain-read ws) θ some (shallow .all) b)
 
-  pub link-words : (x .back ≡ backWord ws 0) × (x .forward ≡ forwardWord ws 0)
-  unfolding blockOf block
-  link-words = (ap (λ b. backWord b 0) e, ap (λ b. forwardWord b 0) e)
+  half-is : ReadAs (half θ ws b) K (levelWord ws 0) (backWord ws 0) (forwardWord ws 0) (halfOf H (entryOf ws 0) b)
+  half-is =
+      subst (λ t. ReadAs t K (levelWord ws 0) (backWord ws 0) (forwardWord ws 0) (halfOf H (entryOf ws 0) b))
+      (sym (half-read (plain-read ws) θ some (shallow .all) b))
+      (block-read θ K (levelWord ws 0) (backWord ws 0) (forwardWord ws 0) (halfOf H (entryOf ws 0) b)
+      (omega (arith, half-deep, shallow .low)))
 
-pub loaded-is : (θ : ℕ) (ws : List ℕ) (x : Node) → depthWord ws 0 ≤ θ → blockOf θ x ≡ own θ ws → Loaded θ ws x
-loaded-is θ ws x high e =
-    let d : x .depth ≡ depthWord ws 0 = first-word θ x e ∙ own-read θ ws high .depth-is in
-    let low : x .depth ≤ θ = omega arith in
-    record {
-      depth-is = d;
-      back-is = link-words θ x e .0 ∙ own-read θ ws high .back-is;
-      forward-is = link-words θ x e .1 ∙ own-read θ ws high .forward-is;
-      locals = λ j l.
-          ap (λ y. y .0)
-          (sym (value-entry θ x j low (subst (λ n. j < 2 ^ n) (sym d) l)) ∙ ap (λ b. entryOf b 0 j) e ∙ own-read θ ws high .entry j l);
-    }
+  -- its depth is less, and no local depth is over it
+  pub half-less : depthWord (half θ ws b) 0 < H
+  half-less = omega (arith, half-is .depth-is, half-deep)
 
--- the local depth of the key's entry in it
-pub loaded-local : (θ : ℕ) (ws : List ℕ) (x : Node) (k : Key) {i : ℕ} → Loaded θ ws x → index (x .depth) k ≡ i
-    → getD (x .h) i 0 ≡ entryDepth ws 0 (number ws k)
-loaded-local θ ws x k l e =
-    ap (λ j. getD (x .h) j 0) (sym e ∙ ap (λ d. index d k) (l .depth-is)) ∙ l .locals (number ws k) (index-lt (depthWord ws 0) k)
+  pub half-shallow : Shallow θ (half θ ws b)
+  half-shallow =
+      record {
+        low = omega (arith, half-less, shallow .low);
+        all = λ j l.
+            let r : j < 2 ^ K = subst (λ d. j < 2 ^ d) (half-is .depth-is) l in
+            let at = step-lt H (entryOf ws 0) some (shallow .all) b j r in
+            omega (
+              arith,
+              ap (λ x. x .0) (half-is .entry j r),
+              half-is .depth-is,
+              greatest-at (2 ^ pred H) (λ i. pred (entryDepth ws 0 (startOf H b + i))) (j * 2 ^ (pred H - K)) at,
+            );
+      }
+
+-- what the run of entry i needs to be aimed, or halved
+abbrev pub Aimable : ℕ → ℕ → List ℕ → Type 0
+Aimable θ i ws = (length ws ≡ nodeWords θ) × (depthWord ws 0 ≤ θ) × (i < 2 ^ depthWord ws 0) × (entryDepth ws 0 i ≤ θ)
+
+abbrev pub Growable : ℕ → ℕ → List ℕ → Type 0
+Growable θ i ws =
+    (length ws ≡ nodeWords θ) × (depthWord ws 0 ≤ θ) × (i < 2 ^ depthWord ws 0) × (entryDepth ws 0 i < θ)
+    × (entryDepth ws 0 i ≤ depthWord ws 0)
+
+pub half-growable : (θ : ℕ) (ws : List ℕ) → 1 ≤ depthWord ws 0 → Shallow θ ws → (b : Bool) (i : ℕ) {vs : List ℕ} → vs ≡ half θ ws b
+    → length vs ≡ nodeWords θ → i < 2 ^ depthWord vs 0 → Growable θ i vs
+half-growable θ ws some shallow b i {vs} made long l =
+    let e : Shallow θ vs = subst (Shallow θ) (sym made) (half-shallow θ ws some shallow b) in
+    let less : depthWord vs 0 < depthWord ws 0 = subst (λ t. depthWord t 0 < depthWord ws 0) (sym made) (half-less θ ws some shallow b) in
+    (long, e .low, l, omega (arith, e .all i l, less, shallow .low), e .all i l)
 
 -- the key's depth is at most the node's
 pub here-low : (θ : ℕ) (ws : List ℕ) (k : Key) (h : ℕ) → Holder θ ws k h → h ≤ depthWord ws 0

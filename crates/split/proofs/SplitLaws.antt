@@ -1,7 +1,6 @@
 -- A split node, by the next bit of the key: that bit is the entry that the key takes in a node of depth 1.
 use mathlib.Core.Path.{_≡_, refl, sym, ap, _∙_, subst}
 use lib.Dec.{ltb}
-use lib.ListN.{getD}
 use mathlib.Core.Bool.{Bool, true, false}
 use mathlib.Core.List.{List, [], _∷_}
 use mathlib.Core.Logic.{inl, inr}
@@ -9,16 +8,18 @@ use Prim.Native.Nat.{ℕ, suc, _+_, _-_, _^_, _≤_, _<_}
 use native.Mathlib.Omega.{arith}
 use Rattle.lists.specs.Bits.{bit, bits, index}
 use Rattle.lists.proofs.Cases.{bool-cases}
-use Rattle.lists.proofs.BitLaws.{length-bits}
+use Rattle.lists.proofs.BitLaws.{length-bits, index-lt}
+use lib.ListN.{length, set}
 use Rattle.tree.specs.Trie.{Key}
 use Rattle.store.specs.declared.Format.{Format}
 use Rattle.store.specs.Format.{width}
+use Rattle.store.specs.Head.{nodeWords}
 use Rattle.node.specs.Node.{depthWord, backWord, forwardWord, entryDepth, entryNumber}
 use Rattle.node.proofs.EntryNumber.{entry-left}
-use Rattle.split.specs.Block.{block, number, halveRun, double, grow, half, lower, upper}
-use Rattle.split.specs.declared.Node.{Node}
-use Rattle.split.specs.Value.{blockOf, own, Reached}
-use Rattle.split.proofs.GrowLaws.{Loaded, own-half, link-words}
+use Rattle.split.specs.Block.{block, number, halveRun, double, grow, half, lower, upper, linked}
+use Rattle.split.proofs.ValueLaws.{back-only, forward-only}
+use Rattle.split.specs.Value.{Shallow, localAt, Reached}
+use Rattle.split.proofs.GrowLaws.{Aimable, Growable}
 
 -- the entry that a key takes, by the bits that are left
 pub entry-at : (W k used H : ℕ) {i : ℕ} → H ≤ W - used → i ≡ entryNumber W k used H → index H (bits (W - used) k) ≡ i
@@ -65,47 +66,32 @@ module _ (W k used : ℕ) (l : used < W) {i : ℕ} (e : i ≡ entryNumber W k us
     unfolding upper
     upper-set z = rw (set-bit z) refl
 
--- the half that grows
-pub grown-half : (θ : ℕ) (k : Key) (a c : ℕ) {x y ws z : List ℕ} → y ≡ grow θ x k a c → x ≡ ws → z ≡ grow θ ws k a c → y ≡ z
-grown-half θ k a c e g h = e ∙ ap (λ b. grow θ b k a c) g ∙ sym h
-
 -- a node takes no more bits than are left
 pub reached-width : (f : Format) (θ : ℕ) (ws : List ℕ) (key used : ℕ) → Reached f θ ws key used → depthWord ws 0 ≤ width f - used
 reached-width f θ ws key used r = omega (arith, r .left, length-bits (width f - used) key)
 
--- a full node of the store, split: the halves of its words are those of the block that they are read as
-module _ (f : Format) (θ : ℕ) (ws : List ℕ) (key used : ℕ) (some : 1 ≤ θ) (full : depthWord ws 0 ≡ θ) (r : Reached f θ ws key used) where
-  pub splittable : (x : Node) → Loaded θ ws x
-      → (x .depth ≡ θ) × (used + θ ≤ width f) × ((j : ℕ) → j < 2 ^ x .depth → getD (x .h) j 0 ≤ x .depth)
-  splittable x l = (
-    l .depth-is ∙ full,
-    omega (arith, reached-width f θ ws key used r, full, some),
-    λ j h.
-        let q = subst (λ d. j < 2 ^ d) (l .depth-is) h in
-        omega (arith, l .locals j q, l .depth-is, r .all j q),
-  )
+-- the entry that a key takes in a node that it came to
+pub reached-at : (f : Format) (θ : ℕ) (ws : List ℕ) (key used : ℕ) → Reached f θ ws key used → {H i : ℕ} → H ≡ depthWord ws 0
+    → i ≡ entryNumber (width f) key used H → number ws (bits (width f - used) key) ≡ i
+reached-at f θ ws key used r deep e =
+    entry-at (width f) key used (depthWord ws 0) (reached-width f θ ws key used r) (e ∙ ap (entryNumber (width f) key used) deep)
 
-  same : (b : Bool) → half θ (own θ ws) b ≡ half θ ws b
-  same b = own-half θ ws (r .low) (omega arith) (r .all) b
+-- it is one of those in use, and no deeper than the node
+module _ (f : Format) (θ : ℕ) (ws : List ℕ) (key used : ℕ) (r : Reached f θ ws key used) {i : ℕ}
+    (at-key : number ws (bits (width f - used) key) ≡ i) (long : length ws ≡ nodeWords θ) where
+  within : i < 2 ^ depthWord ws 0
+  within = subst (λ x. x < 2 ^ depthWord ws 0) at-key (index-lt (depthWord ws 0) (bits (width f - used) key))
 
-  own-lower : (k : Key) (a c : ℕ) → lower θ (own θ ws) k a c ≡ lower θ ws k a c
-  unfolding lower
-  own-lower [] a c = ap (λ b. grow θ b [] a c) (same false)
-  own-lower (false ∷ k) a c = ap (λ b. grow θ b k a c) (same false)
-  own-lower (true ∷ k) a c = same false
+  pub reached-aimable : {vs : List ℕ} → vs ≡ ws → Aimable θ i vs
+  reached-aimable e = subst (Aimable θ i) (sym e) (long, r .low, within, omega (arith, r .all i within, r .low))
 
-  own-upper : (k : Key) (a c : ℕ) → upper θ (own θ ws) k a c ≡ upper θ ws k a c
-  unfolding upper
-  own-upper [] a c = same true
-  own-upper (false ∷ k) a c = same true
-  own-upper (true ∷ k) a c = ap (λ b. grow θ b k a c) (same true)
+  pub reached-growable : localAt ws (bits (width f - used) key) < θ → {vs : List ℕ} → vs ≡ ws → Growable θ i vs
+  reached-growable less e =
+      let local = ap (entryDepth ws 0) at-key in
+      subst (Growable θ i) (sym e) (long, r .low, within, omega (arith, local), r .all i within)
 
-  module _ (k : Key) (a c : ℕ) {x y : List ℕ} where
-    pub lower-of : y ≡ lower θ x k a c → x ≡ own θ ws → y ≡ lower θ ws k a c
-    lower-of e g = e ∙ ap (λ b. lower θ b k a c) g ∙ own-lower k a c
-
-    pub upper-of : y ≡ upper θ x k a c → x ≡ own θ ws → y ≡ upper θ ws k a c
-    upper-of e g = e ∙ ap (λ b. upper θ b k a c) g ∙ own-upper k a c
+pub reached-shallow : (f : Format) (θ : ℕ) (ws : List ℕ) (key used : ℕ) → Reached f θ ws key used → Shallow θ ws
+reached-shallow f θ ws key used r = record { low = r .low; all = r .all }
 
 -- a run halved, and a half, keep the links
 abbrev SameLinks : List ℕ → List ℕ → Type 0
@@ -143,8 +129,10 @@ module _ (θ : ℕ) (a c : ℕ) where
   upper-links ws (false ∷ k) = half-links ws true
   upper-links ws (true ∷ k) = both-links ws true k
 
-  pub lower-back : (ws : List ℕ) (k : Key) (x : Node) → blockOf θ x ≡ lower θ ws k a c → x .back ≡ backWord ws 0
-  lower-back ws k x e = link-words θ x e .0 ∙ lower-links ws k .0
+  -- so each half lacks one link of its own
+  module _ (ws : List ℕ) (k : Key) where
+    pub lower-linked : (m : ℕ) → set (lower θ ws k a c) 3 m ≡ linked (lower θ ws k a c) (backWord ws 0) m
+    lower-linked m = sym (forward-only (lower θ ws k a c) m) ∙ ap (λ x. linked (lower θ ws k a c) x m) (lower-links ws k .0)
 
-  pub upper-forward : (ws : List ℕ) (k : Key) (x : Node) → blockOf θ x ≡ upper θ ws k a c → x .forward ≡ forwardWord ws 0
-  upper-forward ws k x e = link-words θ x e .1 ∙ upper-links ws k .1
+    pub upper-linked : (n : ℕ) → set (upper θ ws k a c) 2 n ≡ linked (upper θ ws k a c) n (forwardWord ws 0)
+    upper-linked n = sym (back-only (upper θ ws k a c) n) ∙ ap (linked (upper θ ws k a c) n) (upper-links ws k .1)

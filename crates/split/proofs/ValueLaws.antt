@@ -1,33 +1,32 @@
--- A node block by value: arrays filled from the front, entries written two words at a time, and the block that these make.
+-- A node block's words, changed where they stand: entries set, the block settled, and its part lent from the store.
+--   spare        == the words of an array for the largest block, before it is lent
 --   Front xs n f == the first n elements of xs are f 0, f 1, ..
---   headed n ws  == the words ws with the first four of the node n
---   inUse n      == the words of the node n as far as its entries in use
-use mathlib.Core.Path.{_≡_, refl, sym, ap, ap₂, _∙_}
-use mathlib.Core.List.{List, [], _∷_, _++_, append-assoc, append-nil}
-use Prim.Native.Nat.{ℕ, zero, suc, _+_, _-_, _*_, _^_, _≤_, _<_, max}
-use native.Mathlib.Nat.{mul-le-mul-left, mul-le-mul-right}
+use mathlib.Core.Path.{_≡_, refl, sym, ap, ap₂, _∙_, subst}
+use mathlib.Core.List.{List, [], _∷_, _++_, append-nil}
+use Prim.Native.Nat.{ℕ, zero, suc, _+_, _-_, _*_, _/_, _^_, _≤_, _<_, max}
+use native.Mathlib.Nat.{add-zero, mul-le-mul-left, mul-le-mul-right}
 use native.Mathlib.Decide.{decLt}
 use native.Mathlib.Numerals.{add-one}
 use native.Mathlib.Omega.{arith}
 use borrow.Author.Count.{below-more}
-use lib.ListN.{length, getD, take, drop, set, replicate, length-append, length-replicate, length-drop, length-set}
-use lib.ListN.{replicate-append-replicate, drop-of-length-le}
-use lib.Seq.{length-take-le, take-all, take-at, drop-at, drop-drop, drop-cons, set-at, getD-set-same, getD-set-other, set-getD}
+use lib.Pow.{pow-mono}
+use lib.ListN.{length, getD, take, drop, set, replicate, length-append, length-drop, length-set}
+use lib.ListN.{drop-of-length-le, take-append-drop}
+use lib.Seq.{length-take-le, take-set-lt, take-all, take-at, drop-at, drop-drop, getD-set-same}
+use lib.Seq.{getD-set-other, getD-take, getD-drop, set-getD}
 use borrow.Rule.Slice.PartMut.{set-mid-at}
 use Rattle.lists.specs.Lists.{tab, greatest, replaced}
 use Rattle.lists.proofs.Parts.{part-in, length-part}
-use Rattle.lists.proofs.Tests.{length-tab, tab-ext, tab-last}
+use Rattle.lists.proofs.Tests.{tab-ext}
 use Rattle.tree.specs.Node.{Entry}
 use Rattle.store.specs.declared.Head.{Head}
-use Rattle.store.specs.Head.{word, nodeStart, nodeWords, nodeAt}
+use Rattle.store.specs.Head.{nodeStart, nodeWords, nodeAt}
 use Rattle.page.proofs.Flat.{set-four}
-use Rattle.node.specs.Node.{forwardWord, entryOf}
+use Rattle.node.specs.Node.{depthWord, backWord, forwardWord, entryOf}
 use Rattle.represent.specs.Image.{entryWords}
-use Rattle.represent.proofs.ImageLaws.{length-entryWords}
-use Rattle.split.specs.declared.Node.{Node}
 use Rattle.split.specs.Block.{kept, block, halves, linked, top}
-use Rattle.split.specs.Value.{entryIn, blockOf, own}
-use Rattle.split.proofs.EntryLaws.{kept-in, kept-out, block-entries, entryWords-append}
+use Rattle.split.specs.Value.{withEntry, filled, Entries}
+use Rattle.split.proofs.EntryLaws.{kept-in, kept-out, block-entries}
 
 pub record Front (xs : List ℕ) (n : ℕ) (f : ℕ → ℕ) : Type 0 where
   pub at : (i : ℕ) → i < n → getD xs i 0 ≡ f i
@@ -52,45 +51,144 @@ pub greatest-more : (n : ℕ) (f : ℕ → ℕ) {m x : ℕ} → m ≡ greatest n
 unfolding greatest
 greatest-more n f e l = ap₂ max e l ∙ ap (λ k. greatest k f) (sym (add-one n))
 
--- the element after a new front is stored
-set-next : (p xs : List ℕ) (n x : ℕ) → length p ≡ n → n < length xs → set (p ++ drop n xs) n x ≡ (p ++ x ∷ []) ++ drop (n + 1) xs
-set-next p xs n x e h =
-    ap (λ l. set (p ++ l) n x) (drop-cons xs n 0 h) ∙ set-at p (getD xs n 0) (drop (suc n) xs) x n e
-    ∙ ap (λ k. p ++ x ∷ drop k xs) (sym (add-one n)) ∙ sym (append-assoc p (x ∷ []) (drop (n + 1) xs))
+-- an entry that is set, and the others
+pub length-with : (ws : List ℕ) (j : ℕ) (e : Entry ℕ) → length (withEntry ws j e) ≡ length ws
+unfolding withEntry
+length-with ws j e = simp length-set
 
--- one more of n elements that are all x
-pub fill-next : (a n x : ℕ) (xs : List ℕ) → a + n < length xs
-    → set (replaced a n (replicate n x) xs) (a + n) x ≡ replaced a (n + 1) (replicate (n + 1) x) xs
-unfolding replaced
-fill-next a n x xs h =
-    let p : List ℕ = take a xs ++ replicate n x in
-    let long : length p ≡ a + n =
-    length-append (take a xs) (replicate n x) ∙ omega (arith, length-take-le a xs (omega arith), length-replicate n x) in
-    let more : a + n + 1 ≡ a + (n + 1) = omega arith in
-    ap (λ l. set l (a + n) x) (sym (append-assoc (take a xs) (replicate n x) (drop (a + n) xs)))
-    ∙ set-next p xs (a + n) x long h
-    ∙ ap (λ l. l ++ drop (a + n + 1) xs) (append-assoc (take a xs) (replicate n x) (x ∷ []))
-    ∙ append-assoc (take a xs) (replicate n x ++ x ∷ []) (drop (a + n + 1) xs)
-    ∙ ap (λ l. take a xs ++ (l ++ drop (a + n + 1) xs)) (replicate-append-replicate n 1 x)
-    ∙ ap (λ k. take a xs ++ (replicate (n + 1) x ++ drop k xs)) more
+pub with-same : (ws : List ℕ) (j : ℕ) (e : Entry ℕ) → 5 + 2 * j < length ws → entryOf (withEntry ws j e) 0 j ≡ e
+unfolding withEntry
+with-same ws j e h =
+    let long : 5 + 2 * j < length (set ws (4 + 2 * j) (e .0)) = simp length-set h in
+    ap₂ (λ x y. (x, y))
+    (getD-set-other (set ws (4 + 2 * j) (e .0)) (5 + 2 * j) (4 + 2 * j) (e .1) 0 (λ q. omega arith)
+    ∙ getD-set-same ws (4 + 2 * j) (e .0) 0 (omega arith))
+    (getD-set-same (set ws (4 + 2 * j) (e .0)) (5 + 2 * j) (e .1) 0 long)
 
--- the two words of one more entry
-pub entry-next : (e : ℕ → Entry ℕ) (n : ℕ) (ws : List ℕ) → 2 * n + 1 < length ws
-    → set (set (entryWords (tab n e) ++ drop (2 * n) ws) (2 * n) (e n .0)) (2 * n + 1) (e n .1)
-    ≡ entryWords (tab (n + 1) e) ++ drop (2 * (n + 1)) ws
-entry-next e n ws h =
-    let p : List ℕ = entryWords (tab n e) in
-    let x : ℕ = e n .0 in
-    let y : ℕ = e n .1 in
-    let long : length p ≡ 2 * n = omega (arith, length-entryWords (tab n e), length-tab n e) in
-    let longer : length (p ++ x ∷ []) ≡ 2 * n + 1 = length-append p (x ∷ []) ∙ omega arith in
-    let two : 2 * n + 1 + 1 ≡ 2 * (n + 1) = omega arith in
-    ap (λ l. set l (2 * n + 1) y) (set-next p ws (2 * n) x long (omega arith))
-    ∙ set-next (p ++ x ∷ []) ws (2 * n + 1) y longer h
-    ∙ ap (λ l. l ++ drop (2 * n + 1 + 1) ws) (append-assoc p (x ∷ []) (y ∷ []) ∙ sym (entryWords-append (tab n e) (e n ∷ [])))
-    ∙ ap (λ l. entryWords l ++ drop (2 * n + 1 + 1) ws) (sym (tab-last n e))
-    ∙ ap (λ k. entryWords (tab k e) ++ drop (2 * n + 1 + 1) ws) (sym (add-one n))
-    ∙ ap (λ k. entryWords (tab (n + 1) e) ++ drop k ws) two
+pub with-other : (ws : List ℕ) (j : ℕ) (e : Entry ℕ) (i : ℕ) → (i ≡ j → ⊥) → entryOf (withEntry ws j e) 0 i ≡ entryOf ws 0 i
+unfolding withEntry
+with-other ws j e i apart =
+    ap₂ (λ x y. (x, y))
+    (getD-set-other (set ws (4 + 2 * j) (e .0)) (5 + 2 * j) (4 + 2 * i) (e .1) 0 (λ q. omega arith)
+    ∙ getD-set-other ws (4 + 2 * j) (4 + 2 * i) (e .0) 0 (λ q. apart (omega arith)))
+    (getD-set-other (set ws (4 + 2 * j) (e .0)) (5 + 2 * j) (5 + 2 * i) (e .1) 0 (λ q. apart (omega arith))
+    ∙ getD-set-other ws (4 + 2 * j) (5 + 2 * i) (e .0) 0 (λ q. omega arith))
+
+-- the same of several entries
+module _ (ws : List ℕ) (start : ℕ) (e : Entry ℕ) where
+  pub length-filled : (n : ℕ) → length (filled ws start n e) ≡ length ws
+  unfolding filled
+  length-filled zero = refl
+  length-filled (suc n) = length-with (filled ws start n e) (start + n) e ∙ length-filled n
+
+  pub filled-none : filled ws start 0 e ≡ ws
+  unfolding filled
+  filled-none = refl
+
+  pub filled-more : (n : ℕ) {vs : List ℕ} → vs ≡ filled ws start n e → withEntry vs (start + n) e ≡ filled ws start (n + 1) e
+  unfolding filled
+  filled-more n g = ap (λ vs. withEntry vs (start + n) e) g ∙ ap (λ m. filled ws start m e) (sym (add-one n))
+
+  pub filled-below : (n j : ℕ) → j < start → entryOf (filled ws start n e) 0 j ≡ entryOf ws 0 j
+  unfolding filled
+  filled-below zero j l = refl
+  filled-below (suc n) j l = with-other (filled ws start n e) (start + n) e j (λ q. omega arith) ∙ filled-below n j l
+
+  pub filled-above : (n j : ℕ) → start + n ≤ j → entryOf (filled ws start n e) 0 j ≡ entryOf ws 0 j
+  unfolding filled
+  filled-above zero j l = refl
+  filled-above (suc n) j l = with-other (filled ws start n e) (start + n) e j (λ q. omega arith) ∙ filled-above n j (omega arith)
+
+  pub filled-in : (n j : ℕ) → 4 + 2 * (start + n) ≤ length ws → start ≤ j → j < start + n → entryOf (filled ws start n e) 0 j ≡ e
+  unfolding filled
+  filled-in zero j room l r = absurd (omega arith)
+  filled-in (suc n) j room l r =
+      elim (decLt j (start + n)) [
+        | yes q ↦
+            with-other (filled ws start n e) (start + n) e j (λ w. omega arith) ∙ filled-in n j (omega arith) l q
+        | no q ↦
+            let at : j ≡ start + n = omega arith in
+            ap (entryOf (filled ws start (suc n) e) 0) at
+            ∙ with-same (filled ws start n e) (start + n) e (omega (arith, length-filled n))
+      ]
+
+-- the first entries, one more of them
+pub entries-none : {ws : List ℕ} {e : ℕ → Entry ℕ} → Entries ws 0 e
+entries-none = record { at = λ j h. absurd (omega arith) }
+
+pub entries-next : {ws vs : List ℕ} {n : ℕ} {e : ℕ → Entry ℕ} {x : Entry ℕ} → vs ≡ withEntry ws n x → Entries ws n e
+    → 5 + 2 * n < length ws → x ≡ e n → Entries vs (n + 1) e
+entries-next {ws} {vs} {n} {e} {x} new old h g =
+    record {
+      at = below-more (λ j. entryOf vs 0 j ≡ e j) n
+          (λ j l. ap (λ v. entryOf v 0 j) new ∙ with-other ws n x j (λ q. omega arith) ∙ old .at j l)
+          (ap (λ v. entryOf v 0 n) new ∙ with-same ws n x h ∙ g);
+    }
+
+-- entries kept, from n on: these a loop has not come to
+pub record Later (ws vs : List ℕ) (n : ℕ) : Type 0 where
+  pub at : (j : ℕ) → n ≤ j → entryOf vs 0 j ≡ entryOf ws 0 j
+
+pub later-all : {ws : List ℕ} {n : ℕ} → Later ws ws n
+later-all = record { at = λ j h. refl }
+
+pub later-next : {ws vs us : List ℕ} {n : ℕ} (x : Entry ℕ) → us ≡ withEntry vs n x → Later ws vs n → Later ws us (n + 1)
+later-next {ws} {vs} {us} {n} x new old =
+    record {
+      at = λ j h. ap (λ v. entryOf v 0 j) new ∙ with-other vs n x j (λ q. omega arith) ∙ old .at j (omega arith);
+    }
+
+-- entries spread from the top down, as far as entry j
+pub record Spread (ws vs : List ℕ) (n j : ℕ) : Type 0 where
+  pub before : (i : ℕ) → i < j → entryOf vs 0 i ≡ entryOf ws 0 i
+  pub after : (i : ℕ) → 2 * j ≤ i → i < 2 * n → entryOf vs 0 i ≡ entryOf ws 0 (i / 2)
+
+pub spread-none : (ws : List ℕ) (n : ℕ) → Spread ws ws n n
+spread-none ws n = record { before = λ i h. refl; after = λ i h l. absurd (omega arith) }
+
+spread-more : (ws vs : List ℕ) (n j : ℕ) (e : Entry ℕ) → j < n → 4 + 4 * n ≤ length vs → Spread ws vs n (suc j) → e ≡ entryOf vs 0 j
+    → Spread ws (withEntry (withEntry vs (2 * j) e) (2 * j + 1) e) n j
+spread-more ws vs n j e l room s g =
+    record {
+      before = λ i h.
+          with-other one (2 * j + 1) e i (λ q. omega arith) ∙ with-other vs (2 * j) e i (λ q. omega arith)
+          ∙ s .before i (omega arith);
+      after = λ i h r. elim (decLt i (2 * suc j)) [ yes q ↦ new i h q | no q ↦ old i (omega arith) r ];
+    }
+  where
+    one : List ℕ
+    one = withEntry vs (2 * j) e
+
+    is : e ≡ entryOf ws 0 j
+    is = g ∙ s .before j (omega arith)
+
+    old : (i : ℕ) → 2 * suc j ≤ i → i < 2 * n → entryOf (withEntry one (2 * j + 1) e) 0 i ≡ entryOf ws 0 (i / 2)
+    old i h r =
+        with-other one (2 * j + 1) e i (λ q. omega arith) ∙ with-other vs (2 * j) e i (λ q. omega arith) ∙ s .after i h r
+
+    new : (i : ℕ) → 2 * j ≤ i → i < 2 * suc j → entryOf (withEntry one (2 * j + 1) e) 0 i ≡ entryOf ws 0 (i / 2)
+    new i h r =
+        let half : j ≡ i / 2 = omega arith in
+        elim (decLt i (2 * j + 1)) [
+          | yes q ↦
+              let at : i ≡ 2 * j = omega arith in
+              with-other one (2 * j + 1) e i (λ w. omega arith) ∙ ap (entryOf one 0) at ∙ with-same vs (2 * j) e (omega arith)
+              ∙ is ∙ ap (entryOf ws 0) half
+          | no q ↦
+              let at : i ≡ 2 * j + 1 = omega arith in
+              ap (entryOf (withEntry one (2 * j + 1) e) 0) at
+              ∙ with-same one (2 * j + 1) e (omega (arith, length-with vs (2 * j) e)) ∙ is ∙ ap (entryOf ws 0) half
+        ]
+
+pub spread-turn : (ws vs : List ℕ) (n j : ℕ) (one two : List ℕ) → 1 ≤ j → j ≤ n → 4 + 4 * n ≤ length vs → Spread ws vs n j
+    → one ≡ withEntry vs (2 * (j - 1)) (entryOf vs 0 (j - 1)) → two ≡ withEntry one (2 * (j - 1) + 1) (entryOf vs 0 (j - 1))
+    → Spread ws two n (j - 1)
+spread-turn ws vs n j one two some l room s first second =
+    let m : ℕ = j - 1 in
+    let e : j ≡ suc m = omega arith in
+    let x : Entry ℕ = entryOf vs 0 m in
+    subst (λ v. Spread ws v n m) (sym (second ∙ ap (λ v. withEntry v (2 * m + 1) x) first))
+    (spread-more ws vs n m x (omega arith) room (subst (Spread ws vs n) e s) refl)
 
 -- a block asks its entries only below 2^H, and below 2^θ
 pub block-ext : (θ H level back forward : ℕ) (e e′ : ℕ → Entry ℕ) → ((j : ℕ) → j < 2 ^ H → j < 2 ^ θ → e j ≡ e′ j)
@@ -110,9 +208,6 @@ block-ext θ H level back forward e e′ same =
 rest-all : (a : ℕ) (xs : List ℕ) → take (length xs - a) (drop a xs) ≡ drop a xs
 rest-all a xs = take-all (length xs - a) (drop a xs) (omega (arith, length-drop a xs))
 
-pub length-rest : (a : ℕ) (xs : List ℕ) → length (take (length xs - a) (drop a xs)) ≡ length xs - a
-length-rest a xs = ap length (rest-all a xs) ∙ length-drop a xs
-
 rest-back : (a : ℕ) (xs ys : List ℕ) → take a xs ++ (ys ++ drop (length xs - a) (drop a xs)) ≡ take a xs ++ ys
 rest-back a xs ys =
     ap (λ l. take a xs ++ (ys ++ l)) (drop-of-length-le (drop a xs) {i = length xs - a} (omega (arith, length-drop a xs)))
@@ -127,60 +222,134 @@ rest-cleared a p q xs ys e long zeros =
     ∙ ap₂ (λ l m. l ++ m) (ap (take a) e ∙ take-at p q a long)
     (zeros ∙ ap (λ l. replicate (length l) 0) (rest-all a xs ∙ ap (drop a) e ∙ drop-at p q a long))
 
-abbrev pub headed : Node → List ℕ → List ℕ
-headed n ws = set (set (set (set ws 0 (n .depth)) 1 (n .level)) 2 (n .back)) 3 (n .forward)
+-- words in pairs
+pairs-are : (n : ℕ) (ws : List ℕ) → 2 * n ≤ length ws
+    → take (2 * n) ws ≡ entryWords (tab n (λ j. (getD ws (2 * j) 0, getD ws (2 * j + 1) 0)))
+unfolding tab
+pairs-are zero ws h = refl
+pairs-are (suc n) [] h = absurd (omega arith)
+pairs-are (suc n) (x ∷ []) h = absurd (omega arith)
+pairs-are (suc n) (x ∷ y ∷ ws) h =
+    let two : 2 * suc n ≡ suc (suc (2 * n)) = omega arith in
+    ap (λ m. take m (x ∷ y ∷ ws)) two
+    ∙ ap (λ l. x ∷ y ∷ l)
+    (pairs-are n ws (omega arith)
+    ∙ ap entryWords (tab-ext n _ _ (λ j l. ap₂ (λ a b. (getD (x ∷ y ∷ ws) a 0, getD (x ∷ y ∷ ws) b 0)) (even j) (odd j))))
+  where
+    even : (j : ℕ) → suc (suc (2 * j)) ≡ 2 * suc j
+    even j = omega arith
 
-pub length-headed : (n : Node) (ws : List ℕ) → length (headed n ws) ≡ length ws
-length-headed n ws = simp length-set
+    odd : (j : ℕ) → suc (suc (2 * j + 1)) ≡ 2 * suc j + 1
+    odd j = omega arith
 
-abbrev pub inUse : Node → List ℕ
-inUse n = n .depth ∷ n .level ∷ n .back ∷ n .forward ∷ entryWords (tab (2 ^ n .depth) (entryIn n))
+-- the entries of words after the first four
+pub entries-are : (n : ℕ) (ws : List ℕ) → 4 + 2 * n ≤ length ws → take (2 * n) (drop 4 ws) ≡ entryWords (tab n (entryOf ws 0))
+entries-are n [] h = absurd (omega arith)
+entries-are n (a ∷ []) h = absurd (omega arith)
+entries-are n (a ∷ b ∷ []) h = absurd (omega arith)
+entries-are n (a ∷ b ∷ c ∷ []) h = absurd (omega arith)
+entries-are n (a ∷ b ∷ c ∷ d ∷ ws) h =
+    pairs-are n ws (omega arith)
+    ∙ ap entryWords (tab-ext n _ _ (λ j l. ap₂ (λ x y. (getD (a ∷ b ∷ c ∷ d ∷ ws) x 0, getD (a ∷ b ∷ c ∷ d ∷ ws) y 0)) (even j) (odd j)))
+  where
+    even : (j : ℕ) → suc (suc (suc (suc (2 * j)))) ≡ 4 + 2 * j
+    even j = omega arith
 
-pub length-inUse : (n : Node) → length (inUse n) ≡ 4 + 2 * 2 ^ n .depth
-length-inUse n = let es = tab (2 ^ n .depth) (entryIn n) in omega (arith, length-entryWords es, length-tab (2 ^ n .depth) (entryIn n))
+    odd : (j : ℕ) → suc (suc (suc (suc (2 * j + 1)))) ≡ 5 + 2 * j
+    odd j = omega arith
 
--- the four words, and the entries after them
-pub entries-put : (n : Node) (k : ℕ) (ws ys : List ℕ) → 4 ≤ length ws → k ≡ 2 ^ n .depth
-    → ys ≡ entryWords (tab k (entryIn n)) ++ drop (2 * k) (take (length (headed n ws) - 4) (drop 4 (headed n ws)))
-    → take 4 (headed n ws) ++ (ys ++ drop (length (headed n ws) - 4) (drop 4 (headed n ws))) ≡ inUse n ++ drop (2 * k) (drop 4 ws)
-entries-put n k ws ys long e new =
-    rest-back 4 (headed n ws) ys
-    ∙ ap (λ l. take 4 (headed n ws) ++ l) (new ∙ ap (λ l. entryWords (tab k (entryIn n)) ++ drop (2 * k) l) (rest-all 4 (headed n ws)))
-    ∙ ap (λ l. take 4 l ++ (entryWords (tab k (entryIn n)) ++ drop (2 * k) (drop 4 l)))
-    (set-four ws (n .depth) (n .level) (n .back) (n .forward) long)
-    ∙ ap (λ m. n .depth ∷ n .level ∷ n .back ∷ n .forward ∷ (entryWords (tab m (entryIn n)) ++ drop (2 * k) (drop 4 ws))) e
+-- words with another front of four
+abbrev pub headed : ℕ → ℕ → ℕ → ℕ → List ℕ → List ℕ
+headed H level back forward ws = set (set (set (set ws 0 H) 1 level) 2 back) 3 forward
 
--- with zeros after them these are the node's block
-pub block-is : (θ : ℕ) (n : Node) (m : ℕ) → n .depth ≤ θ → m ≡ 2 * (2 ^ θ - 2 ^ n .depth) → inUse n ++ replicate m 0 ≡ blockOf θ n
-unfolding blockOf block
-block-is θ n m low e =
-    ap (λ l. n .depth ∷ n .level ∷ n .back ∷ n .forward ∷ l)
-    (ap (λ m. entryWords (tab (2 ^ n .depth) (entryIn n)) ++ replicate m 0) e ∙ sym (block-entries θ (n .depth) (entryIn n) low))
+pub length-headed : (H level back forward : ℕ) (ws : List ℕ) → length (headed H level back forward ws) ≡ length ws
+length-headed H level back forward ws = simp length-set
 
--- the arrays that the entries of a block are read into
-pub loaded : (θ : ℕ) (ws : List ℕ) {h p : List ℕ} → Front h (2 ^ θ) (λ j. word ws (4 + 2 * j)) → Front p (2 ^ θ) (λ j. word ws (5 + 2 * j))
-    → blockOf θ (record { depth = word ws 0; level = word ws 1; back = word ws 2; forward = word ws 3; h = h; p = p }) ≡ own θ ws
-unfolding blockOf own
-loaded θ ws {h} {p} depths pointers =
-    block-ext θ (word ws 0) (word ws 1) (word ws 2) (word ws 3) (λ j. (getD h j 0, getD p j 0)) (entryOf ws 0)
-    (λ j _ l. ap₂ (λ a b. (a, b)) (depths .at j l) (pointers .at j l))
+-- a block whose first four words are written, and whose words behind the entries in use are cleared
+module _ (θ H level back forward : ℕ) (ws : List ℕ) where
+  abbrev t : List ℕ
+  t = headed H level back forward ws
+
+  pub settled : (n : ℕ) (ys : List ℕ) → H ≤ θ → length ws ≡ nodeWords θ → n ≡ 2 ^ H
+      → ys ≡ replicate (length (take (length t - (4 + 2 * n)) (drop (4 + 2 * n) t))) 0
+      → take (4 + 2 * n) t ++ (ys ++ drop (length t - (4 + 2 * n)) (drop (4 + 2 * n) t)) ≡ block θ H level back forward (entryOf ws 0)
+  unfolding block nodeWords
+  settled n ys low long en zeros =
+      let fits : 4 + 2 * n ≤ length ws = omega (arith, pow-mono {i = H} {j = θ} low) in
+      let p : List ℕ = H ∷ level ∷ back ∷ forward ∷ take (2 * n) (drop 4 ws) in
+      let q : List ℕ = drop (2 * n) (drop 4 ws) in
+      let split : t ≡ p ++ q =
+      set-four ws H level back forward (omega arith)
+      ∙ ap (λ l. H ∷ level ∷ back ∷ forward ∷ l) (sym (take-append-drop (2 * n) (drop 4 ws))) in
+      let front : length p ≡ 4 + 2 * n = omega (arith, length-take-le (2 * n) (drop 4 ws) (omega (arith, length-drop 4 ws))) in
+      let left : length q ≡ 2 * (2 ^ θ - 2 ^ H) = omega (arith, length-drop (2 * n) (drop 4 ws), length-drop 4 ws) in
+      rest-cleared (4 + 2 * n) p q t ys split front zeros
+      ∙ ap₂ (λ l m. H ∷ level ∷ back ∷ forward ∷ (l ++ replicate m 0))
+      (entries-are n ws (omega arith) ∙ ap (λ m. entryWords (tab m (entryOf ws 0))) en) left
+      ∙ ap (λ l. H ∷ level ∷ back ∷ forward ∷ l) (sym (block-entries θ H (entryOf ws 0) low))
+
+-- the words of a block, and of its entries in use
+pub four-words : (θ : ℕ) → 4 ≤ nodeWords θ
+unfolding nodeWords
+four-words θ = omega arith
+
+pub entries-room : (θ H : ℕ) {n : ℕ} → H ≤ θ → n ≡ nodeWords θ → 4 + 2 * 2 ^ H ≤ n
+unfolding nodeWords
+entries-room θ H low long = omega (arith, pow-mono {i = H} {j = θ} low)
 
 -- a root's two entries
-pub two-entries : (θ level a c : ℕ) (xs : List ℕ) → 2 ≤ length xs
-    → blockOf θ (record { depth = 1; level = level; back = 0; forward = 0; h = set (set xs 0 1) 1 1; p = set (set xs 0 a) 1 c })
-    ≡ top θ level a c
-unfolding blockOf top halves
-two-entries θ level a c xs long = block-ext θ 1 level 0 0 _ (halves 2 0 a c) (λ j h _. at xs j long h)
+pub root-words : (θ level a c : ℕ) (ws : List ℕ) {one two : List ℕ} → 8 ≤ length ws → one ≡ withEntry ws 0 (1, a)
+    → two ≡ withEntry one 1 (1, c) → block θ 1 level 0 0 (entryOf two 0) ≡ top θ level a c
+unfolding top halves
+root-words θ level a c ws {one} {two} long first second =
+    ap (λ vs. block θ 1 level 0 0 (entryOf vs 0)) (second ∙ ap (λ vs. withEntry vs 1 (1, c)) first)
+    ∙ block-ext θ 1 level 0 0 _ (halves 2 0 a c) (λ j h _. at j h)
   where
-    at : (xs : List ℕ) (j : ℕ) → 2 ≤ length xs → j < 2
-        → (getD (set (set xs 0 1) 1 1) j 0, getD (set (set xs 0 a) 1 c) j 0) ≡ halves 2 0 a c j
-    at [] j l h = absurd (omega arith)
-    at (x ∷ []) j l h = absurd (omega arith)
-    at (x ∷ y ∷ xs) zero l h = refl
-    at (x ∷ y ∷ xs) (suc zero) l h = refl
-    at (x ∷ y ∷ xs) (suc (suc j)) l h = absurd (omega arith)
+    left : List ℕ
+    left = withEntry ws 0 (1, a)
 
--- a node block that is lent as a part of the store
+    at : (j : ℕ) → j < 2 → entryOf (withEntry left 1 (1, c)) 0 j ≡ halves 2 0 a c j
+    at zero h = with-other left 1 (1, c) 0 (λ e. omega arith) ∙ with-same ws 0 (1, a) (omega arith)
+    at (suc zero) h = with-same left 1 (1, c) (omega (arith, length-with ws 0 (1, a)))
+    at (suc (suc j)) h = absurd (omega arith)
+
+-- an array beside the store, of as many words as the largest block
+abbrev pub spare : List ℕ
+spare = replicate 132 0
+
+-- a part lent from the front of an array
+pub front-long : (xs : List ℕ) (n : ℕ) → n ≤ length xs → length (take (n - 0) (drop 0 xs)) ≡ n
+front-long xs n l = let z : n - 0 ≡ n = omega arith in ap (λ m. length (take m xs)) z ∙ length-take-le n xs l
+
+-- and given back as vs
+module _ (xs : List ℕ) (n : ℕ) {ys vs : List ℕ} (long : length ys ≡ n) (is : ys ≡ vs) where
+  abbrev back : List ℕ
+  back = take 0 xs ++ (ys ++ drop (n - 0) (drop 0 xs))
+
+  pub front-room : n ≤ length back
+  front-room = omega (arith, length-append ys (drop (n - 0) (drop 0 xs)))
+
+  pub front-is : take (n - 0) (drop 0 back) ≡ vs
+  front-is = let z : n - 0 ≡ n = omega arith in ap (λ m. take m back) z ∙ take-at ys (drop (n - 0) (drop 0 xs)) n long ∙ is
+
+  pub length-front : length (take (n - 0) (drop 0 back)) ≡ n
+  length-front = front-long back n front-room
+
+  pub front-set : (i x : ℕ) → i < n → take (n - 0) (drop 0 (set back i x)) ≡ set vs i x
+  front-set i x l =
+      let z : n - 0 ≡ n = omega arith in
+      ap (λ m. take m (set back i x)) z ∙ take-set-lt n back i x l
+      ∙ ap (λ t. set t i x) (take-at ys (drop (n - 0) (drop 0 xs)) n long ∙ is)
+
+  pub length-front-set : (i x : ℕ) → length (take (n - 0) (drop 0 (set back i x))) ≡ n
+  length-front-set i x = front-long (set back i x) n (simp length-set front-room)
+
+-- a node block of the store, and that block lent as a part of it
+pub node-long : (s : List ℕ) (h : Head) (n : ℕ) → nodeStart h n + nodeWords (h .theta) ≤ length s
+    → length (nodeAt s h n) ≡ nodeWords (h .theta)
+unfolding nodeAt
+node-long s h n l = length-part s (nodeStart h n) (nodeWords (h .theta)) l
+
 module _ (s : List ℕ) (h : Head) (n : ℕ) {a w : ℕ} (start : a ≡ nodeStart h n) (words : w ≡ nodeWords (h .theta)) where
   pub node-lent : nodeStart h n + nodeWords (h .theta) ≤ length s → take (a + w - a) (drop a s) ≡ nodeAt s h n
   unfolding nodeAt
@@ -195,16 +364,26 @@ module _ (s : List ℕ) (h : Head) (n : ℕ) {a w : ℕ} (start : a ≡ nodeStar
       let e : a + w - a ≡ w = omega arith in
       rw (e, start, words, g) (ap (λ l. take (nodeStart h n) s ++ (vs ++ l)) (drop-drop (nodeWords (h .theta)) (nodeStart h n) s))
 
-pub four-words : (θ : ℕ) → 4 ≤ nodeWords θ
-unfolding nodeWords
-four-words θ = omega arith
+-- its first word
+pub node-depth : (s : List ℕ) (h : Head) (n : ℕ) {a : ℕ} → a ≡ nodeStart h n → nodeStart h n + nodeWords (h .theta) ≤ length s
+    → getD s a 0 ≡ depthWord (nodeAt s h n) 0
+unfolding nodeAt
+node-depth s h n start l =
+    ap (λ x. getD s x 0) start
+    ∙ sym (ap (λ ws. depthWord ws 0) (part-in s (nodeStart h n) (nodeWords (h .theta)) l)
+    ∙ getD-take (nodeWords (h .theta)) (drop (nodeStart h n) s) 0 0 (omega (arith, four-words (h .theta)))
+    ∙ getD-drop (nodeStart h n) s 0 0 ∙ ap (λ x. getD s x 0) (add-zero (nodeStart h n)))
 
--- another back link alone
+-- another link alone
+pub forward-only : (ws : List ℕ) (m : ℕ) → linked ws (backWord ws 0) m ≡ set ws 3 m
+unfolding linked
+forward-only ws m = ap (λ t. set t 3 m) (set-getD ws 2 0)
+
 pub back-only : (ws : List ℕ) (m : ℕ) → linked ws m (forwardWord ws 0) ≡ set ws 2 m
 unfolding linked
 back-only ws m = ap (set (set ws 2 m) 3) (sym (getD-set-other ws 2 3 m 0 (λ e. omega arith))) ∙ set-getD (set ws 2 m) 3 0
 
--- that of a node block where it stands
+-- the back link of a node block where it stands
 module _ (s : List ℕ) (h : Head) (n m : ℕ) (inside : nodeStart h n + nodeWords (h .theta) ≤ length s) where
   abbrev ws : List ℕ
   ws = nodeAt s h n
@@ -219,14 +398,10 @@ module _ (s : List ℕ) (h : Head) (n m : ℕ) (inside : nodeStart h n + nodeWor
   unfolding nodeAt
   block-is-part = part-in s a w inside
 
-  long-block : length ws ≡ w
-  unfolding nodeAt
-  long-block = length-part s a w inside
-
   pub relinked : {b : ℕ} → b ≡ nodeStart h n → set s (b + 2) m ≡ replaced a w (linked ws m (forwardWord ws 0)) s
   unfolding replaced
   relinked e =
-      let short : 2 < length (take w (drop a s)) = omega (arith, ap length block-is-part, long-block, four-words (h .theta)) in
+      let short : 2 < length (take w (drop a s)) = omega (arith, ap length block-is-part, node-long s h n inside, four-words (h .theta)) in
       ap (λ x. set s (x + 2) m) e
       ∙ sym (set-mid-at a w 2 s m short)
       ∙ ap (λ l. take a s ++ (set (take w (drop a s)) 2 m ++ l)) (drop-drop w a s)

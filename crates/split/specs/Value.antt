@@ -1,17 +1,20 @@
--- A node block by value.
---   entryIn n j  == entry j of the node n: its local depth and its pointer
---   blockOf θ n  == the words of the node n, in a block of 2^θ entries
---   own θ ws     == the block that a node's words ws are read as: zeros after the entries in use
---   newDepth n start i == the local depth of the entry i of a half that begins at start, less by one
---   running n start j  == the largest new depth among the first j entries of the half, 0 for none
---   Holder θ ws k h == ws is a node block of depth at most θ in which no local depth is above the node's, the bits k number an entry of it,
---     and that entry has the local depth h
+-- A node block's words, changed where they stand.
+--   withEntry ws j e == the words ws with entry j set to e
+--   filled ws start n e == the words ws with n entries from start on set to e
+--   Entries ws n e  == the first n entries of ws are e 0, e 1, ..
+--   parted n h a c j == entry j of a run of n entries of local depth h, of which the first half points to a, the second to c
+--   newDepth ws start i == the local depth of the entry i of a half that begins at start, less by one
+--   running ws start j  == the largest new depth among the first j entries of the half, 0 for none
+--   Shallow θ ws    == ws is a node block of depth at most θ in which no local depth is above the node's
+--   Holder θ ws k h == ws is such a block, the bits k number an entry of it, and that entry has the local depth h
 --   localAt ws k    == the local depth of the entry of the key k
 --   Reached f θ ws key used == ws is such a block for the bits that a key has left after so many
 use mathlib.Core.Path.{_≡_}
-use Prim.Native.Nat.{ℕ, pred, _+_, _-_, _^_, _≤_, _<_}
+use mathlib.Core.Bool.{true, false}
+use Prim.Native.Nat.{ℕ, zero, suc, pred, _+_, _-_, _*_, _/_, _^_, _≤_, _<_}
 use mathlib.Core.List.{List}
-use lib.ListN.{length, getD}
+use lib.Dec.{ltb}
+use lib.ListN.{length, set}
 use Rattle.tree.specs.Node.{Entry}
 use Rattle.lists.specs.Lists.{greatest}
 use Rattle.lists.specs.Bits.{bits, index}
@@ -19,25 +22,32 @@ use Rattle.tree.specs.Trie.{Key}
 use Rattle.store.specs.declared.Format.{Format}
 use Rattle.store.specs.Format.{width}
 use Rattle.node.specs.Node.{depthWord, entryDepth, entryOf}
-use Rattle.split.specs.declared.Node.{Node}
-use Rattle.split.specs.Block.{block, like, number}
+use Rattle.split.specs.Block.{number}
 
-abbrev pub entryIn : Node → ℕ → Entry ℕ
-entryIn n j = (getD (n .h) j 0, getD (n .p) j 0)
+unfoldable pub withEntry : List ℕ → ℕ → Entry ℕ → List ℕ
+withEntry ws j e = set (set ws (4 + 2 * j) (e .0)) (5 + 2 * j) (e .1)
 
-unfoldable pub blockOf : ℕ → Node → List ℕ
-blockOf θ n = block θ (n .depth) (n .level) (n .back) (n .forward) (entryIn n)
+unfoldable pub filled : List ℕ → ℕ → ℕ → Entry ℕ → List ℕ
+filled ws start zero e = ws
+filled ws start (suc n) e = withEntry (filled ws start n e) (start + n) e
+
+pub record Entries (ws : List ℕ) (n : ℕ) (e : ℕ → Entry ℕ) : Type 0 where
+  pub at : (j : ℕ) → j < n → entryOf ws 0 j ≡ e j
+
+unfoldable pub parted : ℕ → ℕ → ℕ → ℕ → ℕ → Entry ℕ
+parted n h a c j = elim (ltb j (n / 2)) [ true ↦ (h, a) | false ↦ (h, c) ]
 
 -- M-103: "a node split keeps each half's largest local depth as a running value while its entries are copied or lowered .. After any
 -- entries of a half the value is the largest new depth among them, 0 for none."
-abbrev pub newDepth : Node → ℕ → ℕ → ℕ
-newDepth n start i = pred (getD (n .h) (start + i) 0)
+abbrev pub newDepth : List ℕ → ℕ → ℕ → ℕ
+newDepth ws start i = pred (entryDepth ws 0 (start + i))
 
-unfoldable pub running : Node → ℕ → ℕ → ℕ
-running n start j = greatest j (newDepth n start)
+unfoldable pub running : List ℕ → ℕ → ℕ → ℕ
+running ws start j = greatest j (newDepth ws start)
 
-unfoldable pub own : ℕ → List ℕ → List ℕ
-own θ ws = like θ ws (depthWord ws 0) (entryOf ws 0)
+pub record Shallow (θ : ℕ) (ws : List ℕ) : Type 0 where
+  pub low : depthWord ws 0 ≤ θ
+  pub all : (j : ℕ) → j < 2 ^ depthWord ws 0 → entryDepth ws 0 j ≤ depthWord ws 0
 
 pub record Holder (θ : ℕ) (ws : List ℕ) (k : Key) (h : ℕ) : Type 0 where
   pub low : depthWord ws 0 ≤ θ

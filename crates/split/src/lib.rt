@@ -1,190 +1,71 @@
-// The steps of an insertion: a node block by value, its run halved, the node doubled or split.
+// The steps of an insertion on the words of a node block, where they stand: its run halved, the node doubled or split. A part is a block's
+// words: depth, level, back link and forward link, then two words for each entry.
 use store::Format;
 use store::Head;
 ghost use mathlib.Core.Path.{_≡_};
 ghost use mathlib.Core.Bool.{true, false};
-ghost use mathlib.Core.List.{_++_};
-ghost use Prim.Native.Nat.{ℕ, pred, _+_, _-_, _*_, _/_, _%_, _^_, _≤_, _<_};
-ghost use lib.ListN.{length, drop, getD, replicate};
+ghost use Prim.Native.Nat.{pred, _+_, _-_, _*_, _/_, _%_, _^_, _≤_, _<_};
+ghost use lib.ListN.{length};
 ghost use Rattle.lists.specs.Bits.{bits, index};
-ghost use Rattle.lists.specs.Lists.{tab, replaced};
+ghost use Rattle.lists.specs.Lists.{replaced};
 ghost use Rattle.tree.specs.Trie.{Key};
+ghost use Rattle.tree.specs.Node.{lowered};
 ghost use Rattle.store.specs.Format.{width};
 ghost use Rattle.store.specs.Head.{nodeWords, nodeStart, nodeAt};
-ghost use Rattle.node.specs.Node.{depthWord, backWord, forwardWord};
-ghost use Rattle.represent.specs.Image.{entryWords};
-ghost use Rattle.split.specs.Block.{halveRun, double, grow, half, lower, upper, aim, linked, top};
-ghost use Rattle.split.specs.Value.{entryIn, blockOf, own, running, localAt, Reached};
+ghost use Rattle.node.specs.Node.{depthWord, backWord, forwardWord, entryDepth, entryOf};
+ghost use Rattle.split.specs.Block.{block, like, overRun, number, runLength, halveRun, double, grow, half};
+ghost use Rattle.split.specs.Block.{lower, upper, aim, linked, top};
+ghost use Rattle.split.specs.Value.{withEntry, filled, Entries, parted, running, Shallow, localAt, Reached};
 
-// A node block by value: its depth, level and links, and of each entry the local depth and the pointer.
-pub struct Node {
-    pub depth: u32,
-    pub level: u32,
-    pub back: u32,
-    pub forward: u32,
-    pub h: [u32; 64],
-    pub p: [u32; 64],
-}
-
-// A node block as a value.
-fn load_node(part: &[u32], theta: u32) -> Node
-    requires { ⌜ (theta ≤ 6) × (length (now part) ≡ nodeWords theta) ⌝ }
-    ensures { λ r. ⌜ blockOf theta r ≡ own theta (now (part .entry)) ⌝ }
+// Sets entry j of a node block.
+fn set_entry(part: &mut [u32], j: usize, h: u32, p: u32)
+    requires { ⌜ 5 + 2 * j < length (now part) ⌝ }
+    ensures { λ _. ⌜ now (part .exit) ≡ withEntry (now (part .entry)) j (h, p) ⌝ }
 {
-    let n = store::pow2(theta);
-    let mut h = [0u32; 64];
-    let mut p = [0u32; 64];
-    let mut j: usize = 0;
-    while j < n {
-        h[j] = part[4 + 2 * j];
-        p[j] = part[5 + 2 * j];
-        j += 1;
-    }
-    Node {
-        depth: part[0],
-        level: part[1],
-        back: part[2],
-        forward: part[3],
-        h,
-        p,
-    }
+    part[4 + 2 * j] = h;
+    part[5 + 2 * j] = p;
 }
 
-// Writes the first n entries of a node at the front of a part.
-fn write_entries(part: &mut [u32], node: Node, n: usize)
-    requires { ⌜ (n ≤ 64) × (2 * n ≤ length (now part)) ⌝ }
-    ensures { λ _. ⌜ now (part .exit) ≡ entryWords (tab n (entryIn node)) ++ drop (2 * n) (now (part .entry)) ⌝ }
+// Sets n entries of a node block from `start` on.
+fn fill(part: &mut [u32], start: usize, n: usize, h: u32, p: u32)
+    requires { ⌜ 4 + 2 * (start + n) ≤ length (now part) ⌝ }
+    ensures { λ _. ⌜ now (part .exit) ≡ filled (now (part .entry)) start n (h, p) ⌝ }
 {
     let mut j: usize = 0;
     while j < n {
-        part[2 * j] = node.h[j];
-        part[2 * j + 1] = node.p[j];
+        set_entry(part, start + j, h, p);
         j += 1;
     }
 }
 
-// Writes a node block whole.
-fn write_node(part: &mut [u32], theta: u32, node: Node)
-    requires { ⌜ (theta ≤ 6) × (node .depth ≤ theta) × (length (now part) ≡ nodeWords theta) ⌝ }
-    ensures { λ _. ⌜ now (part .exit) ≡ blockOf theta node ⌝ }
+// Each of the first n entries twice, the last one first.
+fn spread(part: &mut [u32], n: usize)
+    requires { ⌜ 4 + 4 * n ≤ length (now part) ⌝ }
+    ensures { λ _. ⌜ Entries (now (part .exit)) (2 * n) (λ j. entryOf (now (part .entry)) 0 (j / 2)) ⌝ }
 {
-    part[0] = node.depth;
-    part[1] = node.level;
-    part[2] = node.back;
-    part[3] = node.forward;
-    let n = store::pow2(node.depth);
-    write_entries(&mut part[4..], node, n);
-    let end = 4 + 2 * n;
-    store::clear(&mut part[end..]);
+    let mut j: usize = n;
+    while 0 < j {
+        j -= 1;
+        let h = part[4 + 2 * j];
+        let p = part[5 + 2 * j];
+        set_entry(part, 2 * j, h, p);
+        set_entry(part, 2 * j + 1, h, p);
+    }
 }
 
-// An array with n elements from `from` on set to x.
-fn fill(a: [u32; 64], from: usize, n: usize, x: u32) -> [u32; 64]
-    requires { ⌜ from + n ≤ 64 ⌝ }
-    ensures { λ r. ⌜ r ≡ replaced from n (replicate n x) a ⌝ }
+// Of the first entries every step-th: n of them.
+fn thin(part: &mut [u32], step: usize, n: usize)
+    requires { ⌜ (1 ≤ step) × (4 + 2 * (n * step) ≤ length (now part)) ⌝ }
+    ensures { λ _. ⌜ Entries (now (part .exit)) n (λ j. entryOf (now (part .entry)) 0 (j * step)) ⌝ }
 {
-    let mut b = a;
     let mut j: usize = 0;
     while j < n {
-        b[from + j] = x;
+        let k = j * step;
+        let h = part[4 + 2 * k];
+        let p = part[5 + 2 * k];
+        set_entry(part, j, h, p);
         j += 1;
     }
-    b
-}
-
-// A run of entries: where it begins, and how many they are.
-struct Run {
-    start: usize,
-    n: usize,
-}
-
-// The run of entry i, by the node's depth and the entry's local depth. A run of more local depth than the node has is one entry.
-fn run_of(depth: u32, local: u32, i: usize) -> Run
-    requires { ⌜ (depth ≤ 6) × (i < 2 ^ depth) ⌝ }
-    ensures { λ r. ⌜ (r .n ≡ 2 ^ (depth - local)) × (r .start ≡ i - i % r .n) × (r .start + r .n ≤ 64) ⌝ }
-{
-    let mut n: usize = 1;
-    if local < depth {
-        n = store::pow2(depth - local);
-    }
-    Run {
-        start: i - i % n,
-        n,
-    }
-}
-
-// The run of entry i halved, with the pointers a and c.
-fn halved(theta: u32, node: Node, i: usize, a: u32, c: u32) -> Node
-    requires { ⌜ (theta ≤ 6) × (node .depth ≤ theta) × (i < 2 ^ node .depth) × (getD (node .h) i 0 < 2 ^ 31) ⌝ }
-    ensures { λ r. ⌜ ((k : Key) → index (node .depth) k ≡ i → blockOf theta r ≡ halveRun theta (blockOf theta node) k a c)
-        × (r .depth ≡ node .depth) ⌝ }
-{
-    let local = node.h[i];
-    let run = run_of(node.depth, local, i);
-    let m = run.n / 2;
-    let h = node.h;
-    let p = node.p;
-    Node {
-        depth: node.depth,
-        level: node.level,
-        back: node.back,
-        forward: node.forward,
-        h: fill(h, run.start, run.n, local + 1),
-        p: fill(fill(p, run.start, m, a), run.start + m, run.n - m, c),
-    }
-}
-
-// Each element twice: of the first n, 2n.
-fn spread(a: [u32; 64], n: usize) -> [u32; 64]
-    requires { ⌜ n ≤ 32 ⌝ }
-    ensures { λ r. ⌜ ((j : ℕ) → j < 2 * n → getD r j 0 ≡ getD a (j / 2) 0) ⌝ }
-{
-    let mut b = [0u32; 64];
-    let mut j: usize = 0;
-    while j < 2 * n {
-        b[j] = a[j / 2];
-        j += 1;
-    }
-    b
-}
-
-// Each entry twice.
-fn doubled(theta: u32, node: Node) -> Node
-    requires { ⌜ (theta ≤ 6) × (node .depth < theta) ⌝ }
-    ensures { λ r. ⌜ (blockOf theta r ≡ double theta (blockOf theta node)) × (r .depth ≡ node .depth + 1)
-        × ((j : ℕ) → j < 2 * 2 ^ node .depth → getD (r .h) j 0 ≡ getD (node .h) (j / 2) 0) ⌝ }
-{
-    let n = store::pow2(node.depth);
-    let h = node.h;
-    let p = node.p;
-    Node {
-        depth: node.depth + 1,
-        level: node.level,
-        back: node.back,
-        forward: node.forward,
-        h: spread(h, n),
-        p: spread(p, n),
-    }
-}
-
-// The run of entry i halved; after a doubling if its local depth is the node's depth.
-fn grown(theta: u32, node: Node, i: usize, a: u32, c: u32) -> Node
-    requires { ⌜ (theta ≤ 6) × (node .depth ≤ theta) × (i < 2 ^ node .depth)
-        × (getD (node .h) i 0 < theta) × (getD (node .h) i 0 ≤ node .depth) ⌝ }
-    ensures { λ r. ⌜ ((k : Key) → index (node .depth) k ≡ i → blockOf theta r ≡ grow theta (blockOf theta node) k a c)
-        × (r .depth ≤ theta) ⌝ }
-{
-    if node.h[i] < node.depth {
-        return halved(theta, node, i, a, c);
-    }
-    halved(theta, doubled(theta, node), 2 * i, a, c)
-}
-
-// A half of a node on its way: the entries copied, every local depth less by one, and the largest of these depths.
-struct Lowered {
-    h: [u32; 64],
-    p: [u32; 64],
-    largest: u32,
 }
 
 // x - 1, and 0 for 0.
@@ -197,195 +78,206 @@ fn one_less(x: u32) -> u32
     x - 1
 }
 
-// n entries of a node from `start` on, lowered. The largest new depth is kept as a running value while they are copied; no half is walked
-// again for it.
-fn lower_entries(node: Node, start: usize, n: usize) -> Lowered
-    requires { ⌜ start + n ≤ 64 ⌝ }
-    ensures { λ r. ⌜ ((j : ℕ) → j < n
-        → (getD (r .h) j 0 ≡ pred (getD (node .h) (start + j) 0)) × (getD (r .p) j 0 ≡ getD (node .p) (start + j) 0))
-        × (r .largest ≡ running node start n) ⌝ }
+// n entries of a node from `start` on, lowered, written as the first ones of another block. The largest new depth is kept as a running
+// value while they are copied; no half is walked again for it.
+fn lower_entries(node: &[u32], start: usize, n: usize, to: &mut [u32]) -> u32
+    requires { ⌜ (4 + 2 * (start + n) ≤ length (now node)) × (4 + 2 * n ≤ length (now to)) ⌝ }
+    ensures { λ r. ⌜ Entries (now (to .exit)) n (λ j. lowered (entryOf (now (node .entry)) 0 (start + j)))
+        × (r ≡ running (now (node .entry)) start n) ⌝ }
 {
-    let mut h = [0u32; 64];
-    let mut p = [0u32; 64];
     let mut largest: u32 = 0;
     let mut j: usize = 0;
     while j < n {
-        let x = one_less(node.h[start + j]);
-        h[j] = x;
-        p[j] = node.p[start + j];
+        let x = one_less(node[4 + 2 * (start + j)]);
+        set_entry(to, j, x, node[5 + 2 * (start + j)]);
         largest = node::larger(largest, x);
         j += 1;
     }
-    Lowered { h, p, largest }
+    largest
 }
 
-// Every step-th element: n of them.
-fn thinned(a: [u32; 64], step: usize, n: usize) -> [u32; 64]
-    requires { ⌜ (1 ≤ step) × (n * step ≤ 64) ⌝ }
-    ensures { λ r. ⌜ ((j : ℕ) → j < n → getD r j 0 ≡ getD a (j * step) 0) ⌝ }
+// Writes a block's first four words and clears the words behind its entries in use.
+fn settle(part: &mut [u32], theta: u32, depth: u32, level: u32, back: u32, forward: u32)
+    requires { ⌜ (theta ≤ 6) × (depth ≤ theta) × (length (now part) ≡ nodeWords theta) ⌝ }
+    ensures { λ _. ⌜ now (part .exit) ≡ block theta depth level back forward (entryOf (now (part .entry)) 0) ⌝ }
 {
-    let mut b = [0u32; 64];
-    let mut j: usize = 0;
-    while j < n {
-        b[j] = a[j * step];
-        j += 1;
+    part[0] = depth;
+    part[1] = level;
+    part[2] = back;
+    part[3] = forward;
+    let end = 4 + 2 * store::pow2(depth);
+    store::clear(&mut part[end..]);
+}
+
+// A run of entries: where it begins, and how many they are.
+struct Run {
+    start: usize,
+    n: usize,
+}
+
+// The run of entry i, by the node's depth and the entry's local depth. A run of more local depth than the node has is one entry.
+fn run_of(depth: u32, local: u32, i: usize) -> Run
+    requires { ⌜ (depth ≤ 6) × (i < 2 ^ depth) ⌝ }
+    ensures { λ r. ⌜ (r .n ≡ 2 ^ (depth - local)) × (r .start ≡ i - i % r .n) × (r .start + r .n ≤ 2 ^ depth) ⌝ }
+{
+    let mut n: usize = 1;
+    if local < depth {
+        n = store::pow2(depth - local);
     }
-    b
+    Run {
+        start: i - i % n,
+        n,
+    }
 }
 
-// The half of a node whose first bit is clear, or set: every local depth less by one, shrunk to the largest of them.
-fn half_node(theta: u32, node: Node, upper: bool) -> Node
-    requires { ⌜ (theta ≤ 6) × (node .depth ≤ theta) × (1 ≤ node .depth)
-        × ((j : ℕ) → j < 2 ^ node .depth → getD (node .h) j 0 ≤ node .depth) ⌝ }
-    ensures { λ r. ⌜ (blockOf theta r ≡ half theta (blockOf theta node) upper) × (r .depth < node .depth)
-        × ((j : ℕ) → j < 2 ^ r .depth → getD (r .h) j 0 ≤ r .depth) ⌝ }
+// The run of entry i gets a local depth more by `more`, and its first half the pointer a, its second half c.
+fn write_run(part: &mut [u32], theta: u32, i: usize, more: u32, a: u32, c: u32)
+    requires { ⌜ (theta ≤ 6) × (length (now part) ≡ nodeWords theta) × (depthWord (now part) 0 ≤ theta) × (i < 2 ^ depthWord (now part) 0)
+        × (entryDepth (now part) 0 i + more ≤ theta) ⌝ }
+    ensures { λ _. ⌜ now (part .exit) ≡ like theta (now (part .entry)) (depthWord (now (part .entry)) 0)
+        (overRun (runLength (now (part .entry)) i) i
+        (parted (runLength (now (part .entry)) i) (entryDepth (now (part .entry)) 0 i + more) a c) (entryOf (now (part .entry)) 0)) ⌝ }
 {
-    let n = store::pow2(node.depth - 1);
+    let depth = part[0];
+    let level = part[1];
+    let back = part[2];
+    let forward = part[3];
+    let local = part[4 + 2 * i];
+    let run = run_of(depth, local, i);
+    let m = run.n / 2;
+    fill(part, run.start, m, local + more, a);
+    fill(part, run.start + m, run.n - m, local + more, c);
+    settle(part, theta, depth, level, back, forward);
+}
+
+// The run of entry i halved, with the pointers a and c.
+fn halve_run(part: &mut [u32], theta: u32, i: usize, a: u32, c: u32)
+    requires { ⌜ (theta ≤ 6) × (length (now part) ≡ nodeWords theta) × (depthWord (now part) 0 ≤ theta) × (i < 2 ^ depthWord (now part) 0)
+        × (entryDepth (now part) 0 i < theta) ⌝ }
+    ensures { λ _. ⌜ ((k : Key) → index (depthWord (now (part .entry)) 0) k ≡ i
+        → now (part .exit) ≡ halveRun theta (now (part .entry)) k a c) ⌝ }
+{
+    write_run(part, theta, i, 1, a, c);
+}
+
+// The run of entry i pointing to q.
+fn aim_run(part: &mut [u32], theta: u32, i: usize, q: u32)
+    requires { ⌜ (theta ≤ 6) × (length (now part) ≡ nodeWords theta) × (depthWord (now part) 0 ≤ theta) × (i < 2 ^ depthWord (now part) 0)
+        × (entryDepth (now part) 0 i ≤ theta) ⌝ }
+    ensures { λ _. ⌜ ((k : Key) → index (depthWord (now (part .entry)) 0) k ≡ i
+        → now (part .exit) ≡ aim theta (now (part .entry)) k q) ⌝ }
+{
+    write_run(part, theta, i, 0, q, q);
+}
+
+// Each entry twice.
+fn double_part(part: &mut [u32], theta: u32)
+    requires { ⌜ (theta ≤ 6) × (length (now part) ≡ nodeWords theta) × (depthWord (now part) 0 < theta) ⌝ }
+    ensures { λ _. ⌜ now (part .exit) ≡ double theta (now (part .entry)) ⌝ }
+{
+    let depth = part[0];
+    let level = part[1];
+    let back = part[2];
+    let forward = part[3];
+    spread(part, store::pow2(depth));
+    settle(part, theta, depth + 1, level, back, forward);
+}
+
+// The run of entry i halved; after a doubling if its local depth is the node's depth.
+fn grow_part(part: &mut [u32], theta: u32, i: usize, a: u32, c: u32)
+    requires { ⌜ (theta ≤ 6) × (length (now part) ≡ nodeWords theta) × (depthWord (now part) 0 ≤ theta) × (i < 2 ^ depthWord (now part) 0)
+        × (entryDepth (now part) 0 i < theta) × (entryDepth (now part) 0 i ≤ depthWord (now part) 0) ⌝ }
+    ensures { λ _. ⌜ ((k : Key) → index (depthWord (now (part .entry)) 0) k ≡ i
+        → now (part .exit) ≡ grow theta (now (part .entry)) k a c) ⌝ }
+{
+    if part[4 + 2 * i] < part[0] {
+        halve_run(part, theta, i, a, c);
+        return;
+    }
+    double_part(part, theta);
+    halve_run(part, theta, 2 * i, a, c);
+}
+
+// The half of a node whose first bit is clear, or set, written into a block of the same size: every local depth less by one, shrunk to the
+// largest of them.
+fn half_into(node: &[u32], theta: u32, upper: bool, to: &mut [u32])
+    requires { ⌜ (theta ≤ 6) × (length (now node) ≡ nodeWords theta) × (length (now to) ≡ nodeWords theta)
+        × (1 ≤ depthWord (now node) 0) × Shallow theta (now node) ⌝ }
+    ensures { λ _. ⌜ now (to .exit) ≡ half theta (now (node .entry)) upper ⌝ }
+{
+    let n = store::pow2(node[0] - 1);
     let mut start: usize = 0;
     if upper {
         start = n;
     }
-    let l = lower_entries(node, start, n);
-    let m = store::pow2(l.largest);
-    let step = n / m;
-    let h = l.h;
-    let p = l.p;
-    Node {
-        depth: l.largest,
-        level: node.level,
-        back: node.back,
-        forward: node.forward,
-        h: thinned(h, step, m),
-        p: thinned(p, step, m),
-    }
+    let largest = lower_entries(node, start, n, to);
+    let m = store::pow2(largest);
+    thin(to, n / m, m);
+    settle(to, theta, largest, node[1], node[2], node[3]);
 }
 
-// The two halves of a split node.
-pub struct Halves {
-    pub lower: Node,
-    pub upper: Node,
-}
-
-// A full node split on its first bit. The run at the key is halved in the half that the key's next bit chooses.
-fn split_node(theta: u32, node: Node, f: Format, key: u64, used: u32, a: u32, c: u32) -> Halves
-    requires { ⌜ (1 ≤ theta) × (theta ≤ 6) × (node .depth ≡ theta) × (used + theta ≤ width f) × (key < 2 ^ width f)
-        × ((j : ℕ) → j < 2 ^ node .depth → getD (node .h) j 0 ≤ node .depth) ⌝ }
-    ensures { λ r. ⌜ (blockOf theta (r .lower) ≡ lower theta (blockOf theta node) (bits (width f - used) key) a c)
-        × (blockOf theta (r .upper) ≡ upper theta (blockOf theta node) (bits (width f - used) key) a c)
-        × (r .lower .depth ≤ theta) × (r .upper .depth ≤ theta) ⌝ }
+// The two halves of a full node. The run at the key is halved in the half that the key's next bit chooses.
+fn split_into(
+    node: &[u32],
+    f: Format,
+    theta: u32,
+    key: u64,
+    used: u32,
+    a: u32,
+    c: u32,
+    low: &mut [u32],
+    high: &mut [u32],
+)
+    requires { ⌜ (1 ≤ theta) × (theta ≤ 6) × (length (now node) ≡ nodeWords theta) × (length (now low) ≡ nodeWords theta)
+        × (length (now high) ≡ nodeWords theta) × (key < 2 ^ width f) × Reached f theta (now node) key used
+        × (depthWord (now node) 0 ≡ theta) ⌝ }
+    ensures { λ _. ⌜ (now (low .exit) ≡ lower theta (now (node .entry)) (bits (width f - used) key) a c)
+        × (now (high .exit) ≡ upper theta (now (node .entry)) (bits (width f - used) key) a c) ⌝ }
 {
-    let low = half_node(theta, node, false);
-    let high = half_node(theta, node, true);
+    half_into(node, theta, false, low);
+    half_into(node, theta, true, high);
     if node::entry_number(f, key, used, 1) == 0 {
-        let i = node::entry_number(f, key, used + 1, low.depth);
-        return Halves {
-            lower: grown(theta, low, i, a, c),
-            upper: high,
-        };
+        let i = node::entry_number(f, key, used + 1, low[0]);
+        grow_part(low, theta, i, a, c);
+        return;
     }
-    let i = node::entry_number(f, key, used + 1, high.depth);
-    Halves {
-        lower: low,
-        upper: grown(theta, high, i, a, c),
-    }
+    let i = node::entry_number(f, key, used + 1, high[0]);
+    grow_part(high, theta, i, a, c);
 }
 
-// A node with other links.
-fn with_links(node: Node, back: u32, forward: u32) -> Node
-    ensures { λ r. ⌜ ((θ : ℕ) → blockOf θ r ≡ linked (blockOf θ node) back forward) × (r .depth ≡ node .depth) ⌝ }
+// Copies words over a part of as many.
+fn copy(part: &mut [u32], words: &[u32])
+    requires { ⌜ length (now words) ≡ length (now part) ⌝ }
+    ensures { λ _. ⌜ now (part .exit) ≡ now (words .entry) ⌝ }
 {
-    let h = node.h;
-    let p = node.p;
-    Node {
-        depth: node.depth,
-        level: node.level,
-        back,
-        forward,
-        h,
-        p,
+    let n = part.len();
+    let mut j: usize = 0;
+    while j < n {
+        part[j] = words[j];
+        j += 1;
     }
 }
 
-// The run of entry i pointing to q.
-fn aimed(theta: u32, node: Node, i: usize, q: u32) -> Node
-    requires { ⌜ (theta ≤ 6) × (node .depth ≤ theta) × (i < 2 ^ node .depth) ⌝ }
-    ensures { λ r. ⌜ ((k : Key) → index (node .depth) k ≡ i → blockOf theta r ≡ aim theta (blockOf theta node) k q)
-        × (r .depth ≡ node .depth) ⌝ }
-{
-    let local = node.h[i];
-    let run = run_of(node.depth, local, i);
-    let h = node.h;
-    let p = node.p;
-    Node {
-        depth: node.depth,
-        level: node.level,
-        back: node.back,
-        forward: node.forward,
-        h: fill(h, run.start, run.n, local),
-        p: fill(p, run.start, run.n, q),
-    }
-}
-
-// A root at a level, with two entries.
-fn root_node(theta: u32, level: u32, a: u32, c: u32) -> Node
-    requires { ⌜ (1 ≤ theta) × (theta ≤ 6) ⌝ }
-    ensures { λ r. ⌜ (blockOf theta r ≡ top theta level a c) × (r .depth ≡ 1) ⌝ }
-{
-    let mut h = [0u32; 64];
-    let mut p = [0u32; 64];
-    h[0] = 1;
-    h[1] = 1;
-    p[0] = a;
-    p[1] = c;
-    Node {
-        depth: 1,
-        level,
-        back: 0,
-        forward: 0,
-        h,
-        p,
-    }
-}
-
-// The block of node n, as a value.
-fn node_at(store: &[u32], head: Head, n: u32) -> Node
-    requires { ⌜ (head .theta ≤ 6) × (nodeStart head n + nodeWords (head .theta) ≤ length (now store)) ⌝ }
-    ensures { λ r. ⌜ blockOf (head .theta) r ≡ own (head .theta) (nodeAt (now (store .entry)) head n) ⌝ }
-{
-    let at = store::node_start(head, n);
-    let end = at + store::node_words(head.theta);
-    load_node(&store[at..end], head.theta)
-}
-
-// Writes a node into block n, which is lent as a part of the store.
-fn put_node(store: &mut [u32], head: Head, n: u32, node: Node)
-    requires { ⌜ (head .theta ≤ 6) × (node .depth ≤ head .theta) × (nodeStart head n + nodeWords (head .theta) ≤ length (now store)) ⌝ }
+// Writes words into block n, which is lent as a part of the store.
+fn put_block(store: &mut [u32], head: Head, n: u32, words: &[u32])
+    requires { ⌜ (head .theta ≤ 6) × (length (now words) ≡ nodeWords (head .theta))
+        × (nodeStart head n + nodeWords (head .theta) ≤ length (now store)) ⌝ }
     ensures { λ _. ⌜ now (store .exit)
-        ≡ replaced (nodeStart head n) (nodeWords (head .theta)) (blockOf (head .theta) node) (now (store .entry)) ⌝ }
+        ≡ replaced (nodeStart head n) (nodeWords (head .theta)) (now (words .entry)) (now (store .entry)) ⌝ }
 {
     let at = store::node_start(head, n);
     let end = at + store::node_words(head.theta);
-    write_node(&mut store[at..end], head.theta, node);
+    copy(&mut store[at..end], words);
 }
 
-// A node and the entry that a key takes in it.
-struct Opened {
-    node: Node,
-    i: usize,
-}
-
-// Node n, which a key comes to with so many bits used.
-fn open_node(store: &[u32], f: Format, head: Head, n: u32, key: u64, used: u32) -> Opened
+// The entry of node n that a key takes.
+fn entry_in(store: &[u32], f: Format, head: Head, n: u32, key: u64, used: u32) -> usize
     requires { ⌜ (head .theta ≤ 6) × (nodeStart head n + nodeWords (head .theta) ≤ length (now store)) × (key < 2 ^ width f)
         × Reached f (head .theta) (nodeAt (now store) head n) key used ⌝ }
-    ensures { λ r. ⌜ (blockOf (head .theta) (r .node) ≡ own (head .theta) (nodeAt (now (store .entry)) head n))
-        × (r .node .depth ≡ depthWord (nodeAt (now (store .entry)) head n) 0)
-        × (index (r .node .depth) (bits (width f - used) key) ≡ r .i)
-        × (getD (r .node .h) (r .i) 0 ≡ localAt (nodeAt (now (store .entry)) head n) (bits (width f - used) key)) ⌝ }
+    ensures { λ r. ⌜ number (nodeAt (now (store .entry)) head n) (bits (width f - used) key) ≡ r ⌝ }
 {
-    let node = node_at(store, head, n);
-    let i = node::entry_number(f, key, used, node.depth);
-    Opened { node, i }
+    let at = store::node_start(head, n);
+    node::entry_number(f, key, used, store[at])
 }
 
 // The run at the key halved, in node n where it stands.
@@ -405,8 +297,10 @@ pub fn grow_block(
     ensures { λ _. ⌜ now (store .exit) ≡ replaced (nodeStart head n) (nodeWords (head .theta))
         (grow (head .theta) (nodeAt (now (store .entry)) head n) (bits (width f - used) key) a c) (now (store .entry)) ⌝ }
 {
-    let at = open_node(store, f, head, n, key, used);
-    put_node(store, head, n, grown(head.theta, at.node, at.i, a, c));
+    let i = entry_in(store, f, head, n, key, used);
+    let at = store::node_start(head, n);
+    let end = at + store::node_words(head.theta);
+    grow_part(&mut store[at..end], head.theta, i, a, c);
 }
 
 // The run at the key pointing to q, in node n where it stands.
@@ -416,8 +310,10 @@ pub fn aim_block(store: &mut [u32], f: Format, head: Head, n: u32, key: u64, use
     ensures { λ _. ⌜ now (store .exit) ≡ replaced (nodeStart head n) (nodeWords (head .theta))
         (aim (head .theta) (nodeAt (now (store .entry)) head n) (bits (width f - used) key) q) (now (store .entry)) ⌝ }
 {
-    let at = open_node(store, f, head, n, key, used);
-    put_node(store, head, n, aimed(head.theta, at.node, at.i, q));
+    let i = entry_in(store, f, head, n, key, used);
+    let at = store::node_start(head, n);
+    let end = at + store::node_words(head.theta);
+    aim_run(&mut store[at..end], head.theta, i, q);
 }
 
 // The halves of full node n, split at a key.
@@ -430,19 +326,31 @@ fn halves_of(
     used: u32,
     a: u32,
     c: u32,
-) -> Halves
+    low: &mut [u32],
+    high: &mut [u32],
+)
     requires { ⌜ (1 ≤ head .theta) × (head .theta ≤ 6) × (nodeStart head n + nodeWords (head .theta) ≤ length (now store))
         × (key < 2 ^ width f) × Reached f (head .theta) (nodeAt (now store) head n) key used
-        × (depthWord (nodeAt (now store) head n) 0 ≡ head .theta) ⌝ }
-    ensures { λ r. ⌜ (blockOf (head .theta) (r .lower)
-        ≡ lower (head .theta) (nodeAt (now (store .entry)) head n) (bits (width f - used) key) a c)
-        × (blockOf (head .theta) (r .upper) ≡ upper (head .theta) (nodeAt (now (store .entry)) head n) (bits (width f - used) key) a c)
-        × (r .lower .depth ≤ head .theta) × (r .upper .depth ≤ head .theta)
-        × (r .lower .back ≡ backWord (nodeAt (now (store .entry)) head n) 0)
-        × (r .upper .forward ≡ forwardWord (nodeAt (now (store .entry)) head n) 0) ⌝ }
+        × (depthWord (nodeAt (now store) head n) 0 ≡ head .theta)
+        × (length (now low) ≡ nodeWords (head .theta)) × (length (now high) ≡ nodeWords (head .theta)) ⌝ }
+    ensures { λ _. ⌜ (now (low .exit) ≡ lower (head .theta) (nodeAt (now (store .entry)) head n) (bits (width f - used) key) a c)
+        × (now (high .exit) ≡ upper (head .theta) (nodeAt (now (store .entry)) head n) (bits (width f - used) key) a c) ⌝ }
 {
-    let node = node_at(store, head, n);
-    split_node(head.theta, node, f, key, used, a, c)
+    let at = store::node_start(head, n);
+    let end = at + store::node_words(head.theta);
+    split_into(&store[at..end], f, head.theta, key, used, a, c, low, high);
+}
+
+// Writes the left half into block n and the right half into block m.
+fn put_both(store: &mut [u32], head: Head, n: u32, m: u32, low: &[u32], high: &[u32])
+    requires { ⌜ (head .theta ≤ 6) × (nodeStart head n + nodeWords (head .theta) ≤ length (now store))
+        × (nodeStart head m + nodeWords (head .theta) ≤ length (now store))
+        × (length (now low) ≡ nodeWords (head .theta)) × (length (now high) ≡ nodeWords (head .theta)) ⌝ }
+    ensures { λ _. ⌜ now (store .exit) ≡ replaced (nodeStart head m) (nodeWords (head .theta)) (now (high .entry))
+        (replaced (nodeStart head n) (nodeWords (head .theta)) (now (low .entry)) (now (store .entry))) ⌝ }
+{
+    put_block(store, head, n, low);
+    put_block(store, head, m, high);
 }
 
 // Full node n split: the left half keeps its block, the right half is written into block m.
@@ -465,9 +373,22 @@ pub fn split_block(
         (replaced (nodeStart head n) (nodeWords (head .theta))
         (lower (head .theta) (nodeAt (now (store .entry)) head n) (bits (width f - used) key) a c) (now (store .entry))) ⌝ }
 {
-    let halves = halves_of(store, f, head, n, key, used, a, c);
-    put_node(store, head, n, halves.lower);
-    put_node(store, head, m, halves.upper);
+    let w = store::node_words(head.theta);
+    let mut low = [0u32; 132];
+    let mut high = [0u32; 132];
+    halves_of(
+        store,
+        f,
+        head,
+        n,
+        key,
+        used,
+        a,
+        c,
+        &mut low[0..w],
+        &mut high[0..w],
+    );
+    put_both(store, head, n, m, &low[0..w], &high[0..w]);
 }
 
 // Full level-1 node n split in the same way: block m stands between it and the node that was behind it.
@@ -492,11 +413,24 @@ pub fn split_linked(
         (linked (lower (head .theta) (nodeAt (now (store .entry)) head n) (bits (width f - used) key) a c)
         (backWord (nodeAt (now (store .entry)) head n) 0) m) (now (store .entry))) ⌝ }
 {
-    let halves = halves_of(store, f, head, n, key, used, a, c);
-    let back = halves.lower.back;
-    let forward = halves.upper.forward;
-    put_node(store, head, n, with_links(halves.lower, back, m));
-    put_node(store, head, m, with_links(halves.upper, n, forward));
+    let w = store::node_words(head.theta);
+    let mut low = [0u32; 132];
+    let mut high = [0u32; 132];
+    halves_of(
+        store,
+        f,
+        head,
+        n,
+        key,
+        used,
+        a,
+        c,
+        &mut low[0..w],
+        &mut high[0..w],
+    );
+    low[3] = m;
+    high[2] = n;
+    put_both(store, head, n, m, &low[0..w], &high[0..w]);
 }
 
 // Links node q, if there is one, back to m.
@@ -513,11 +447,23 @@ pub fn relink(store: &mut [u32], head: Head, q: u32, m: u32)
     store[at + 2] = m;
 }
 
+// Writes a root at a level, with two entries.
+fn write_root(part: &mut [u32], theta: u32, level: u32, a: u32, c: u32)
+    requires { ⌜ (1 ≤ theta) × (theta ≤ 6) × (length (now part) ≡ nodeWords theta) ⌝ }
+    ensures { λ _. ⌜ now (part .exit) ≡ top theta level a c ⌝ }
+{
+    set_entry(part, 0, 1, a);
+    set_entry(part, 1, 1, c);
+    settle(part, theta, 1, level, 0, 0);
+}
+
 // Writes a root at a level, with two entries, into block n.
 pub fn root_block(store: &mut [u32], head: Head, n: u32, level: u32, a: u32, c: u32)
     requires { ⌜ (1 ≤ head .theta) × (head .theta ≤ 6) × (nodeStart head n + nodeWords (head .theta) ≤ length (now store)) ⌝ }
     ensures { λ _. ⌜ now (store .exit)
         ≡ replaced (nodeStart head n) (nodeWords (head .theta)) (top (head .theta) level a c) (now (store .entry)) ⌝ }
 {
-    put_node(store, head, n, root_node(head.theta, level, a, c));
+    let at = store::node_start(head, n);
+    let end = at + store::node_words(head.theta);
+    write_root(&mut store[at..end], head.theta, level, a, c);
 }

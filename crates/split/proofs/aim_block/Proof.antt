@@ -1,45 +1,51 @@
--- The node is opened, its run aimed, and written back.
+-- The run is aimed in the part that is lent.
 use borrow.Author.Needs.{needs}
-use mathlib.Core.Path.{ap, subst, _∙_}
-use Prim.Native.Nat.{_-_, _^_, _<_}
-use native.Mathlib.Omega.{arith}
-use Rattle.lists.specs.Bits.{bits}
-use Rattle.lists.specs.Lists.{replaced}
-use Rattle.lists.proofs.BitLaws.{index-lt}
+use mathlib.Core.Path.{_≡_, ap, _∙_}
+use Prim.Native.Nat.{_+_, _-_}
+use lib.ListN.{take, drop}
+use Rattle.lists.specs.Bits.{bits, index}
 use Rattle.store.specs.Format.{width}
-use Rattle.store.specs.Head.{nodeStart, nodeWords, nodeAt}
+use Rattle.store.specs.Head.{nodeAt}
+use Rattle.node.specs.Node.{depthWord}
 use Rattle.split.specs.Block.{aim}
-use Rattle.split.proofs.GrowLaws.{own-aim}
+use Rattle.split.proofs.ValueLaws.{node-lent, node-back, node-long}
+use Rattle.split.proofs.SplitLaws.{reached-aimable}
 use Rattle.split.proofs.aim_block.Statement.{statement}
 use Rattle.split.proofs.aim_block.Tie as tie
 
-aimed-requires : tie.Need-aimed-requires
-aimed-requires c κs =
-    let x = c .before .open-node in
-    let s = c .before .before .before .before in (
-      s .pre .0,
-      omega (arith, x .ensures .1, s .pre .3 .low),
-      subst (λ i. i < 2 ^ x .result .node .depth) (x .ensures .2) (index-lt _ _),
-    )
+abbrev call : tie.After-node-words → tie.Start
+call c = c .before .before .before .before .before
 
-put-node-requires : tie.Need-put-node-requires
-put-node-requires c κs =
-    let x = c .before .before in
-    let s = x .before .before .before in
-    (s .pre .0, omega (arith, c .aimed .ensures .1, x .open-node .ensures .1, s .pre .3 .low), s .pre .1)
+lent : (c : tie.After-node-words) → let a = call c .args in
+    let at = c .before .node-start .result in
+    take (at + c .node-words .result - at) (drop at (a .store .now)) ≡ nodeAt (a .store .now) (a .head) (a .n)
+lent c =
+    let s = call c in
+    node-lent (s .args .store .now) (s .args .head) (s .args .n) (c .before .node-start .ensures .0) (c .node-words .ensures .0) (s .pre .1)
+
+aim-run-requires : tie.Need-aim-run-requires
+aim-run-requires c κs =
+    let words = c .before in
+    let s = call words in
+    let a = s .args in
+    let long = node-long (a .store .now) (a .head) (a .n) (s .pre .1) in
+    let e = words .before .before .entry-in .ensures in
+    let g = reached-aimable (a .f) (a .head .theta) _ (a .key) (a .used) (s .pre .3) e long (lent words) in
+    (s .pre .0, g .0, g .1, g .2, g .3)
 
 returns : tie.Need-returns
 returns c =
-    let v = c .before .before .before in
-    let x = v .before .before in
-    let s = x .before .before .before in
-    let a = s .args in
-    let key = bits (width (a .f) - a .used) (a .key) in
-    let ws = nodeAt (a .store .now) (a .head) (a .n) in
-    c .before .before .put-node .ensures
-    ∙ ap (λ b. replaced (nodeStart (a .head) (a .n)) (nodeWords (a .head .theta)) b (a .store .now))
-    (v .aimed .ensures .0 key (x .open-node .ensures .2) ∙ ap (λ b. aim (a .head .theta) b key (a .q)) (x .open-node .ensures .0)
-    ∙ own-aim (a .head .theta) ws (s .pre .3 .low) key (a .q))
+    let part = c .before .before in
+    let words = part .before .before in
+    let a = call words .args in
+    let k = bits (width (a .f) - a .used) (a .key) in
+    let l = lent words in
+    node-back (a .store .now) (a .head) (a .n) (words .before .node-start .ensures .0) (words .node-words .ensures .0)
+    (part .aim-run .ensures k (ap (λ b. index (depthWord b 0) k) l ∙ words .before .before .entry-in .ensures)
+    ∙ ap (λ b. aim (a .head .theta) b k (a .q)) l)
 
 pub aim-block-spec : {M : Type 1} → statement M
-aim-block-spec = tie.close (tie.spec (λ c κs. search needs) aimed-requires put-node-requires (λ c. search needs) returns)
+aim-block-spec =
+    tie.close
+    (tie.spec (λ c κs. search needs) (λ c κs. search needs) (λ c κs. search needs) (λ c. search needs) (λ c. search needs)
+    (λ c. search needs) (λ c. search needs) (λ c. search needs) aim-run-requires (λ c. search needs) returns)

@@ -1,48 +1,51 @@
--- The node is opened, its run halved, and written back.
+-- The run is halved in the part that is lent.
 use borrow.Author.Needs.{needs}
-use mathlib.Core.Path.{ap, subst, _∙_}
-use Prim.Native.Nat.{_-_, _^_, _<_}
-use native.Mathlib.Omega.{arith}
-use Rattle.lists.specs.Bits.{bits}
-use Rattle.lists.specs.Lists.{replaced}
-use Rattle.lists.proofs.BitLaws.{index-lt}
+use mathlib.Core.Path.{_≡_, ap, _∙_}
+use Prim.Native.Nat.{_+_, _-_}
+use lib.ListN.{take, drop}
+use Rattle.lists.specs.Bits.{bits, index}
 use Rattle.store.specs.Format.{width}
-use Rattle.store.specs.Head.{nodeStart, nodeWords, nodeAt}
+use Rattle.store.specs.Head.{nodeAt}
+use Rattle.node.specs.Node.{depthWord}
 use Rattle.split.specs.Block.{grow}
-use Rattle.split.proofs.GrowLaws.{own-grow, here-low}
+use Rattle.split.proofs.ValueLaws.{node-lent, node-back, node-long}
+use Rattle.split.proofs.SplitLaws.{reached-growable}
 use Rattle.split.proofs.grow_block.Statement.{statement}
 use Rattle.split.proofs.grow_block.Tie as tie
 
-grown-requires : tie.Need-grown-requires
-grown-requires c κs =
-    let x = c .before .open-node in
-    let s = c .before .before .before .before in
-    let h = x .ensures .3 in
-    let all = here-low _ _ _ _ (s .pre .3) in (
-      s .pre .0,
-      omega (arith, x .ensures .1, s .pre .3 .low),
-      subst (λ i. i < 2 ^ x .result .node .depth) (x .ensures .2) (index-lt _ _),
-      omega (arith, h, s .pre .4),
-      omega (arith, h, all, x .ensures .1),
-    )
+abbrev call : tie.After-node-words → tie.Start
+call c = c .before .before .before .before .before
 
-put-node-requires : tie.Need-put-node-requires
-put-node-requires c κs =
-    let s = c .before .before .before .before .before in
-    (s .pre .0, c .grown .ensures .1, s .pre .1)
+lent : (c : tie.After-node-words) → let a = call c .args in
+    let at = c .before .node-start .result in
+    take (at + c .node-words .result - at) (drop at (a .store .now)) ≡ nodeAt (a .store .now) (a .head) (a .n)
+lent c =
+    let s = call c in
+    node-lent (s .args .store .now) (s .args .head) (s .args .n) (c .before .node-start .ensures .0) (c .node-words .ensures .0) (s .pre .1)
+
+grow-part-requires : tie.Need-grow-part-requires
+grow-part-requires c κs =
+    let words = c .before in
+    let s = call words in
+    let a = s .args in
+    let long = node-long (a .store .now) (a .head) (a .n) (s .pre .1) in
+    let e = words .before .before .entry-in .ensures in
+    let g = reached-growable (a .f) (a .head .theta) _ (a .key) (a .used) (s .pre .3) e long (s .pre .4) (lent words) in
+    (s .pre .0, g .0, g .1, g .2, g .3, g .4)
 
 returns : tie.Need-returns
 returns c =
-    let v = c .before .before .before in
-    let x = v .before .before in
-    let s = x .before .before .before in
-    let a = s .args in
-    let key = bits (width (a .f) - a .used) (a .key) in
-    let ws = nodeAt (a .store .now) (a .head) (a .n) in
-    c .before .before .put-node .ensures
-    ∙ ap (λ b. replaced (nodeStart (a .head) (a .n)) (nodeWords (a .head .theta)) b (a .store .now))
-    (v .grown .ensures .0 key (x .open-node .ensures .2) ∙ ap (λ b. grow (a .head .theta) b key (a .a) (a .c)) (x .open-node .ensures .0)
-    ∙ own-grow (a .head .theta) ws (s .pre .3 .low) key (a .a) (a .c))
+    let part = c .before .before in
+    let words = part .before .before in
+    let a = call words .args in
+    let k = bits (width (a .f) - a .used) (a .key) in
+    let l = lent words in
+    node-back (a .store .now) (a .head) (a .n) (words .before .node-start .ensures .0) (words .node-words .ensures .0)
+    (part .grow-part .ensures k (ap (λ b. index (depthWord b 0) k) l ∙ words .before .before .entry-in .ensures)
+    ∙ ap (λ b. grow (a .head .theta) b k (a .a) (a .c)) l)
 
 pub grow-block-spec : {M : Type 1} → statement M
-grow-block-spec = tie.close (tie.spec (λ c κs. search needs) grown-requires put-node-requires (λ c. search needs) returns)
+grow-block-spec =
+    tie.close
+    (tie.spec (λ c κs. search needs) (λ c κs. search needs) (λ c κs. search needs) (λ c. search needs) (λ c. search needs)
+    (λ c. search needs) (λ c. search needs) (λ c. search needs) grow-part-requires (λ c. search needs) returns)

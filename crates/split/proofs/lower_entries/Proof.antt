@@ -1,52 +1,60 @@
 -- The entries so far are copied, and the running value is the largest of their new depths.
 use borrow.Author.Needs.{needs}
-use mathlib.Core.Path.{_≡_, refl, _∙_}
-use Prim.Native.Nat.{pred, _+_, _-_, _≤_}
+use mathlib.Core.Path.{_≡_, refl, ap, _∙_}
+use Prim.Native.Nat.{_+_, _-_, _*_, _≤_}
 use native.Mathlib.Omega.{arith}
-use lib.ListN.{length, getD, length-set}
+use lib.ListN.{length}
 use Rattle.lists.specs.Lists.{greatest}
-use Rattle.split.specs.Value.{running}
-use Rattle.split.proofs.ValueLaws.{Front, front-none, front-more, greatest-more}
+use Rattle.tree.specs.Node.{lowered}
+use Rattle.node.specs.Node.{entryOf, entryPointer}
+use Rattle.split.specs.Value.{Entries, running}
+use Rattle.split.proofs.ValueLaws.{entries-none, entries-next, greatest-more}
 use Rattle.split.proofs.lower_entries.Statement.{statement}
 use Rattle.split.proofs.lower_entries.Tie as tie
 
 abbrev Inv-loop : tie.InvT-loop
-Inv-loop start n node h₀ p₀ largest₀ j₀ h p largest j =
-    (j ≤ n) × (start + n ≤ 64) × (length h ≡ 64) × (length p ≡ 64)
-    × Front h j (λ i. pred (getD (node .h) (start + i) 0)) × Front p j (λ i. getD (node .p) (start + i) 0)
-    × (largest ≡ running node start j)
+Inv-loop node start n to₀ largest₀ j₀ to largest j =
+    (j ≤ n) × (4 + 2 * (start + n) ≤ length node) × (4 + 2 * n ≤ length to₀) × (length to ≡ length to₀)
+    × Entries to j (λ i. lowered (entryOf node 0 (start + i))) × (largest ≡ running node start j)
 
 abbrev μ-loop : tie.MeasureT-loop
-μ-loop start n node h₀ p₀ largest₀ j₀ h p largest j = n - j
+μ-loop node start n to₀ largest₀ j₀ to largest j = n - j
 
 loop-holds : tie.Need-loop-holds Inv-loop μ-loop
 unfolding running greatest
-loop-holds c = (search needs, search needs, refl, refl, front-none, front-none, refl)
+loop-holds c = (search needs, search needs, search needs, refl, entries-none, refl)
 
 loop-again : tie.Need-loop-again Inv-loop μ-loop
 unfolding running
 loop-again c =
-    let one = c .before .before .one-less .ensures in
-    let l = c .before .before .before .before .before .loop in (
+    let set = c .before .before .before in
+    let one = set .before .before .before in
+    let at = one .before .before .before in
+    let l = at .loop in
+    let a = at .before .before .before .args in
+    let p = entryPointer (a .node .now) 0 (a .start + l .j) in (
       search needs,
       search needs,
-      simp length-set (l .inv .2),
-      simp length-set (l .inv .3),
-      front-more (l .inv .4) (omega arith) one,
-      front-more (l .inv .5) (omega arith) refl,
-      c .larger .ensures ∙ greatest-more _ _ (l .inv .6) one,
+      search needs,
+      c .before .before .to .given ∙ l .inv .3,
+      entries-next (set .set-entry .ensures) (l .inv .4) (omega arith) (ap (λ x. (x, p)) (one .one-less .ensures)),
+      c .larger .ensures ∙ greatest-more _ _ (l .inv .5) (one .one-less .ensures),
     )
+
+same-length : tie.Need-same-length Inv-loop μ-loop
+same-length c = c .before .loop .inv .3
 
 returns : tie.Need-returns Inv-loop μ-loop
 returns c =
     let l = c .before .loop in
-    let a = c .before .before .args in
+    let a = c .before .before .before .before .args in
     let e : l .j ≡ a .n = omega arith in
-    (λ i h. (l .inv .4 .at i (omega arith), l .inv .5 .at i (omega arith)), rw e at (l .inv .6))
+    (record { at = λ i h. l .inv .4 .at i (omega arith) }, rw e at (l .inv .5))
 
 pub lower-entries-spec : {M : Type 1} → statement M
 lower-entries-spec =
     tie.close
-    (tie.spec Inv-loop μ-loop loop-holds (λ c. search needs) (λ c. search needs) (λ c. search needs) (λ c κs. search needs)
-    (λ c. search needs) (λ c. search needs) (λ c. search needs) (λ c. search needs) (λ c. search needs) (λ c. search needs)
-    (λ c. search needs) (λ c κs. search needs) (λ c. search needs) (λ c. search needs) loop-again returns)
+    (tie.spec Inv-loop μ-loop loop-holds (λ c. search needs) (λ c. search needs) (λ c. search needs) (λ c. search needs)
+    (λ c. search needs) (λ c κs. search needs) (λ c. search needs) (λ c. search needs) (λ c. search needs) (λ c. search needs)
+    (λ c. search needs) (λ c κs. search needs) (λ c κs. search needs) (λ c. search needs) (λ c. search needs) loop-again same-length
+    returns)

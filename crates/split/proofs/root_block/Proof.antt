@@ -1,17 +1,18 @@
--- A root by value, written.
+-- A root is written into the part that is lent.
 use borrow.Author.Needs.{needs}
-use mathlib.Core.Path.{ap, _∙_}
-use Rattle.lists.specs.Lists.{replaced}
-use Rattle.store.specs.Head.{nodeStart, nodeWords}
+use Rattle.split.proofs.ValueLaws.{node-back}
 use Rattle.split.proofs.root_block.Statement.{statement}
 use Rattle.split.proofs.root_block.Tie as tie
 
 returns : tie.Need-returns
 returns c =
-    let v = c .before .before .before in
-    let a = v .before .before .before .args in
-    c .before .before .put-node .ensures
-    ∙ ap (λ b. replaced (nodeStart (a .head) (a .n)) (nodeWords (a .head .theta)) b (a .store .now)) (v .root-node .ensures .0)
+    let words = c .before .before .before .before in
+    let start = words .before .before .before in
+    node-back (start .args .store .now) (start .args .head) (start .args .n) (words .before .node-start .ensures .0)
+    (words .node-words .ensures .0) (c .before .before .write-root .ensures)
 
 pub root-block-spec : {M : Type 1} → statement M
-root-block-spec = tie.close (tie.spec (λ c κs. search needs) (λ c κs. search needs) (λ c. search needs) returns)
+root-block-spec =
+    tie.close
+    (tie.spec (λ c κs. search needs) (λ c κs. search needs) (λ c. search needs) (λ c. search needs) (λ c. search needs) (λ c. search needs)
+    (λ c. search needs) (λ c κs. search needs) (λ c. search needs) returns)

@@ -16,10 +16,10 @@ size c =
     ⊎-elim (λ w. w .2 ∙ w .1 .ensures .0)
     (λ w. let e : a .depth - a .local ≡ 0 = omega (arith, w .0 .left) in w .1 ∙ ap (λ k. 2 ^ k) (sym e)) (c .if1 .came)
 
-room : (c : tie.Joined1) → let a = c .before .args in (a .i % c .if1 .n ≤ a .i) × (a .i - a .i % c .if1 .n + c .if1 .n ≤ 64)
+room : (c : tie.Joined1) → let a = c .before .args in (a .i % c .if1 .n ≤ a .i) × (a .i - a .i % c .if1 .n + c .if1 .n ≤ 2 ^ a .depth)
 room c =
     let a = c .before .args in
-    run-room (a .depth) (a .local) (a .i) (c .if1 .n) (c .before .pre .0) (c .before .pre .1) (size c)
+    run-room (a .depth) (a .local) (a .i) (c .if1 .n) (c .before .pre .1) (size c)
 
 rem-t7 : tie.Need-rem-t7
 rem-t7 c = let a = c .before .before .args in omega (arith, size (c .before), pow-pos (a .depth - a .local))

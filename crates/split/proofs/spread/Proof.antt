@@ -1,37 +1,43 @@
--- Every element that is stored is the one at half its place.
+-- From the top down: the entries that a turn has not come to are the old ones, those behind twice them are spread.
 use borrow.Author.Needs.{needs}
-use mathlib.Core.Path.{_≡_, refl}
-use Prim.Native.Nat.{_-_, _*_, _/_, _≤_}
+use mathlib.Core.Path.{_≡_, refl, _∙_}
+use Prim.Native.Nat.{_+_, _-_, _*_, _≤_}
 use native.Mathlib.Omega.{arith}
-use lib.ListN.{length, getD, length-set}
-use Rattle.split.proofs.ValueLaws.{Front, front-none, front-more}
+use lib.ListN.{length}
+use Rattle.split.proofs.ValueLaws.{Spread, spread-none, spread-turn}
 use Rattle.split.proofs.spread.Statement.{statement}
 use Rattle.split.proofs.spread.Tie as tie
 
 abbrev Inv-loop : tie.InvT-loop
-Inv-loop n a b₀ j₀ b j =
-    (j ≤ 2 * n) × (n ≤ 32) × (length b ≡ 64) × Front b j (λ i. getD a (i / 2) 0)
+Inv-loop part₀ n j₀ part j = (j ≤ n) × (4 + 4 * n ≤ length part₀) × (length part ≡ length part₀) × Spread part₀ part n j
 
 abbrev μ-loop : tie.MeasureT-loop
-μ-loop n a b₀ j₀ b j = 2 * n - j
+μ-loop part₀ n j₀ part j = j
 
 loop-holds : tie.Need-loop-holds Inv-loop μ-loop
-loop-holds c = (search needs, search needs, refl, front-none)
+loop-holds c = (search needs, search needs, refl, spread-none _ _)
 
 loop-again : tie.Need-loop-again Inv-loop μ-loop
 loop-again c =
-    let l = c .before .loop in (
+    let part = c .before .before .before .before .before in
+    let one = part .before in
+    let l = one .before .before .before .before .before .loop in (
       search needs,
       search needs,
-      simp length-set (l .inv .2),
-      front-more (l .inv .3) (omega arith) refl,
+      c .before .part2 .given ∙ part .part .given ∙ l .inv .2,
+      spread-turn _ _ _ (l .j) _ _ (omega arith) (omega arith) (omega arith) (l .inv .3) (one .set-entry .ensures)
+          (c .before .before .set-entry2 .ensures),
     )
 
+same-length : tie.Need-same-length Inv-loop μ-loop
+same-length c = c .before .loop .inv .2
+
 returns : tie.Need-returns Inv-loop μ-loop
-returns c i h = c .before .loop .inv .3 .at i (omega arith)
+returns c = record { at = λ i h. c .before .loop .inv .3 .after i (omega arith) h }
 
 pub spread-spec : {M : Type 1} → statement M
 spread-spec =
     tie.close
     (tie.spec Inv-loop μ-loop loop-holds (λ c. search needs) (λ c. search needs) (λ c. search needs) (λ c. search needs) (λ c. search needs)
-    (λ c. search needs) (λ c. search needs) loop-again returns)
+    (λ c. search needs) (λ c. search needs) (λ c. search needs) (λ c. search needs) (λ c. search needs) (λ c κs. search needs)
+    (λ c. search needs) (λ c. search needs) (λ c κs. search needs) (λ c. search needs) loop-again same-length returns)
