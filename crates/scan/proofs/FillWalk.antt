@@ -21,7 +21,6 @@ use Rattle.store.specs.Head.{pageAt, pageStart, pageWords, Under}
 use Rattle.store.proofs.Places.{under-limits}
 use Rattle.page.specs.Page.{flat}
 use Rattle.page.proofs.Laws.{rule-facts}
-use Rattle.search.specs.Descent.{terminal}
 use Rattle.search.specs.declared.Span.{Span}
 use Rattle.search.specs.Span.{spanOf, Rows}
 use Rattle.search.proofs.BlockLaws.{under-levels}

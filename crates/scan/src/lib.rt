@@ -16,7 +16,7 @@ ghost use Rattle.store.specs.Format.{words};
 ghost use Rattle.store.specs.Head.{pageAt, Under};
 ghost use Rattle.page.specs.Page.{count, flat, Filled};
 ghost use Rattle.totals.specs.Totals.{Room, Bounded, updatedOf, totalsOf};
-ghost use Rattle.search.specs.Span.{spanOf, Rows};
+ghost use Rattle.search.specs.Span.{spanOf};
 ghost use Rattle.scan.specs.Walk.{lastKey, Standing, endOf, rows};
 ghost use Rattle.scan.specs.Range.{ranged, listing, listingOf, firsts, rangeReply, rangeOf};
 ghost use Rattle.scan.specs.Summary.{summed, summingOf, summaryReply, summaryOf};

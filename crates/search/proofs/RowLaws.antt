@@ -1,7 +1,7 @@
 -- Spans as the code has them: its tests, one by one, and what a sound answer says of the blocks behind it.
 --   Low r == the span r begins within the capacity; Small r == the run behind it has a small number
 use mathlib.Core.Path.{_≡_, refl, sym, ap, ap₂, _∙_, subst}
-use mathlib.Core.Bool.{Bool, true, false, _&&_, false≢true}
+use mathlib.Core.Bool.{Bool, true, false, false≢true}
 use mathlib.Core.List.{List}
 use Prim.Native.Nat.{ℕ, _+_, _-_, _*_, _/_, _^_, _≤_, _<_}
 use native.Mathlib.Omega.{arith}

@@ -1,12 +1,11 @@
 -- Next by spans: the first record of a span is next's, and within it next goes from record to record.
 --   GoesOn f s h r == next goes from each record of the span r to the one after it
 use mathlib.Core.Path.{_≡_, refl, sym, ap, _∙_, subst}
-use mathlib.Core.Bool.{Bool, true, false, _&&_, false≢true}
+use mathlib.Core.Bool.{Bool, true, false, false≢true}
 use mathlib.Core.List.{List}
-use Prim.Native.Nat.{ℕ, _+_, _-_, _/_, _^_, _≤_, _<_}
+use Prim.Native.Nat.{ℕ, _+_, _-_, _≤_, _<_}
 use native.Mathlib.Decide.{decLt}
 use native.Mathlib.Omega.{arith}
-use lib.Dec.{eqb}
 use lib.ListN.{getD}
 use borrow.Author.Tests.{eqb-true, lt-ltb, le-ltb, eq-eqb, ne-eqb}
 use Rattle.lists.proofs.Cases.{by-cases}
@@ -14,7 +13,6 @@ use Rattle.lists.proofs.Tests.{and-true, and-three}
 use Rattle.store.specs.declared.Format.{Format}
 use Rattle.store.specs.declared.Head.{Head}
 use Rattle.store.specs.declared.Item.{Item}
-use Rattle.store.specs.Format.{width}
 use Rattle.store.specs.Head.{pageAt}
 use Rattle.page.specs.Page.{count, itemAt, keyAt, pageRule, agrees, above, firstAbove}
 use Rattle.page.proofs.Laws.{rule-facts, agrees-facts, facts-agrees}

@@ -216,10 +216,6 @@ module _ (f : Format) (s : List ℕ) (h : Head) where
     unfolding terminal
     terminal-sound o = sound-from (h .levels - 1) (h .root) 0 o
 
-    pub terminal-used : terminal f s h k .ok ≡ true
-        → terminal f s h k .used + depthWord s (nodeStart h (terminal f s h k .node)) ≤ width f
-    terminal-used o = sound-facts f s h 1 (terminal f s h k .node) (terminal f s h k .used) (terminal-sound o) .1
-
     -- no bit is given back
     used-grows : (l n used : ℕ) → terminalFrom f s h k l n used .ok ≡ true → used ≤ terminalFrom f s h k l n used .used
     used-grows zero n used o = rw (terminal-here n used (starts 0 n used o)) (omega arith)

@@ -49,18 +49,19 @@ pub struct Terminal {
     pub used: u32,
 }
 
-// Records of one page that next gives in turn, numbers `from` up to `to`, the key of the last one; page 0: none. Not ok: damage was met. The
-// terminal node of the key that they follow is `node`, reached after the `used` bits. After the last record next goes on with the node's run that begins at entry
-// `behind`; 0: not known.
+// Records of one page that next gives in turn, numbers `from` up to `to`, and the key of the last one; page 0: none. Not ok: damage was met.
+// The terminal node of the key that they follow is `node`, reached after the `used` bits. After the last record next goes on with the
+// node's run that begins at entry `behind`; 0: not known. (No two fields of one width are neighbours: a copy would take them as one word, and
+// wait for their two stores.)
 pub struct Span {
-    pub ok: bool,
-    pub page: u32,
     pub from: usize,
-    pub node: u32,
+    pub page: u32,
     pub to: usize,
-    pub used: u32,
+    pub node: u32,
     pub behind: usize,
+    pub used: u32,
     pub last: u64,
+    pub ok: bool,
 }
 
 pub enum Sought {

@@ -15,7 +15,7 @@ use Rattle.store.specs.declared.Format.{Format}
 use Rattle.store.specs.declared.Format.the-variants.{Plots}
 use Rattle.store.specs.declared.Head.{Head}
 use Rattle.store.specs.Format.{width, words}
-use Rattle.store.specs.Head.{largestCapacity, word, zeros, headOf, nodeWords, pageWords, size, nodeStart, pageStart, pageAt}
+use Rattle.store.specs.Head.{largestCapacity, zeros, headOf, nodeWords, pageWords, size, nodeStart, pageStart, pageAt}
 use Rattle.store.specs.Head.{lawfulSizes, lawfulCounts, headRule}
 
 -- what the code computes is what the definitions name

@@ -1,5 +1,4 @@
 -- The terminal node, then the span.
-use mathlib.Core.Path.{_∙_}
 use Rattle.search.proofs.SpanLaws.{terminal-whole}
 use Rattle.scan.proofs.walk_from.Statement.{statement}
 use Rattle.scan.proofs.walk_from.Tie as tie

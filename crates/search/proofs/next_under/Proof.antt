@@ -1,5 +1,5 @@
 -- Next is the first record of the span from the root.
-use mathlib.Core.Path.{_≡_, refl, sym, ap, _∙_}
+use mathlib.Core.Path.{_≡_, sym, ap, _∙_}
 use mathlib.Core.Bool.{false≢true}
 use Rattle.search.specs.Span.{spanAt, spanOf, soughtOf}
 use Rattle.search.proofs.SpanLaws.{next-span}

@@ -1,5 +1,4 @@
 -- The node's depth is its block's first word.
-use borrow.Author.Needs.{needs}
 use native.Mathlib.Omega.{arith}
 use Rattle.search.proofs.BlockLaws.{block-words}
 use Rattle.search.proofs.ReachLaws.{depth-small, behind-is}
