@@ -244,7 +244,8 @@ module _ (f : Format) (s : List ℕ) (h : Head) (low high : ℕ) where
   pub record Listed (room : ℕ) (w : Span) (n : ℕ) : Type 0 where
     pub ahead : Fuelled w
     pub within : n ≤ room
-    pub lists : outcome n (rangeFrom f s h high (ahead .fuel) (ahead .at .strict) (ahead .at .key) (room - n)) ≡ listing (ranged f s h low high room)
+    pub lists : outcome n (rangeFrom f s h high (ahead .fuel) (ahead .at .strict) (ahead .at .key) (room - n))
+        ≡ listing (ranged f s h low high room)
 
   pub list-first : (room : ℕ) → low ≤ high → {w : Span} → w ≡ spanOf f s h false low → Listed room w 0
   unfolding fuelled

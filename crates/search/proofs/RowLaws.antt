@@ -104,7 +104,8 @@ module _ (f : Format) (s : List ℕ) (h : Head) (k n u p : ℕ) {pg : List ℕ} 
 
       pub rows-alone : agrees f pg first (u + v .depth) ≡ false → firstRow n u p first ≡ reachedRows f s h k n u p
       unfolding comesBack
-      rows-alone g = ap (firstRow n u p) is-first ∙ sym (rows-one f s h k n u p (rw (same-bits, comes-back, rw (e, entry-is, is-first) at g)))
+      rows-alone g =
+          ap (firstRow n u p) is-first ∙ sym (rows-one f s h k n u p (rw (same-bits, comes-back, rw (e, entry-is, is-first) at g)))
 
       pub rows-whole : agrees f pg first (u + v .depth) ≡ true → {c l b : ℕ} → c ≡ count pg → l ≡ keyAt f pg (c - 1)
           → b ≡ runBehind s h n (v .depth) (v .entry)
@@ -112,7 +113,8 @@ module _ (f : Format) (s : List ℕ) (h : Head) (k n u p : ℕ) {pg : List ℕ} 
           (reachedRows f s h k n u p)
       unfolding comesBack
       rows-whole g ec el eb =
-          span-same p n u refl (ec ∙ ap count e) (el ∙ ap₂ (λ x y. keyAt f x (y - 1)) e (ec ∙ ap count e)) (eb ∙ ap (λ x. runBehind s h n (x .depth) (x .entry)) entry-is)
+          span-same p n u refl (ec ∙ ap count e) (el ∙ ap₂ (λ x y. keyAt f x (y - 1)) e (ec ∙ ap count e))
+          (eb ∙ ap (λ x. runBehind s h n (x .depth) (x .entry)) entry-is)
           ∙ sym (rows-all f s h k n u p (rw (same-bits, comes-back, rw (e, entry-is, is-first) at g)))
 
 -- a sound span behind an entry: the way on met no damage

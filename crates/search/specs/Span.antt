@@ -1,7 +1,7 @@
 -- Next by spans: where next's record stands, and the records after it that next gives in turn without another descent.
 --   noSpan ok          == no record; ok: no damage was met
---   comesBack f s h k n u p == the first key of page p, which is reached from the terminal node n of the key k, leads back to it from n, and
---     so do the page's other keys
+--   comesBack f s h k n u p == the first key of page p, which is reached from the terminal node n of the key k, leads back to it from n,
+--     and so do the page's other keys
 --   firstRow n u p k   == the first record of page p, whose key is k, reached from the terminal node n
 --   reachedRows f s h k n u p == the records of page p that follow one another, p being reached from the terminal node n of the key k
 --   reachedSpan f s h strict k n u a == the records of the page that was reached after the sought key's own
@@ -9,8 +9,8 @@
 --   spanAt f s h strict k t == the records that follow the key k, whose terminal node is t
 --   spanOf f s h strict k == the same from the root
 --   soughtOf f s h r      == the first record of a span
---   GoesBehind f s h strict k t i == above the key k, whose terminal node is t, next gives the records of the page that follows from entry i
---     on
+--   GoesBehind f s h strict k t i == above the key k, whose terminal node is t, next gives the records of the page that follows from entry
+--     i on
 --   Rows f s h r          == the span r has records, in a page that keeps the page rule
 use mathlib.Core.Path.{_≡_}
 use mathlib.Core.Bool.{Bool, true, false, _&&_}

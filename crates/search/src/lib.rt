@@ -49,10 +49,10 @@ pub struct Terminal {
     pub used: u32,
 }
 
-// Records of one page that next gives in turn, numbers `from` up to `to`, and the key of the last one; page 0: none. Not ok: damage was met.
-// The terminal node of the key that they follow is `node`, reached after the `used` bits. After the last record next goes on with the
-// node's run that begins at entry `behind`; 0: not known. (No two fields of one width are neighbours: a copy would take them as one word, and
-// wait for their two stores.)
+// Records of one page that next gives in turn, numbers `from` up to `to`, and the key of the last one; page 0: none. Not ok: damage was
+// met. The terminal node of the key that they follow is `node`, reached after the `used` bits. After the last record next goes on with the
+// node's run that begins at entry `behind`; 0: not known. (No two fields of one width are neighbours: a copy would take them as one word,
+// and wait for their two stores.)
 pub struct Span {
     pub from: usize,
     pub page: u32,

@@ -14,4 +14,7 @@ returns-2 c =
     (c .before .before .word2 .ensures) (c .before .word3 .ensures) (c .word4 .ensures)
 
 pub open-dump-spec : {M : Type 1} → statement M
-open-dump-spec = tie.close (tie.spec (λ c κs. search needs) returns (λ c κs. search needs) (λ c κs. search needs) (λ c κs. search needs) (λ c κs. search needs) returns-2)
+open-dump-spec =
+    tie.close
+    (tie.spec (λ c κs. search needs) returns (λ c κs. search needs) (λ c κs. search needs) (λ c κs. search needs) (λ c κs. search needs)
+    returns-2)

@@ -156,4 +156,5 @@ enter-spec =
     tie.close
     (tie.spec (λ c κs. search needs) (λ c. search needs) returns (λ c κs. search needs) (λ c. search needs) returns-2
     (λ c κs. head-long _ _ (ruled (c .before .before .before))) descend-requires way-ok-requires (λ c. search needs) returns-3
-    held-at-requires (λ c. search needs) returns-4 plan-for-requires sub-if5 (λ c. search needs) returns-5 sub-if6 (λ c. search needs) returns-6 make-room-requires place-requires (λ c. search needs) returns-7)
+    held-at-requires (λ c. search needs) returns-4 plan-for-requires sub-if5 (λ c. search needs) returns-5 sub-if6
+    (λ c. search needs) returns-6 make-room-requires place-requires (λ c. search needs) returns-7)

@@ -33,7 +33,8 @@ span-behind-requires c κs =
 returns : tie.Need-returns
 returns c =
     let b = c .before in
-    span-is _ _ _ (c .copied .ensures ∙ b .span-behind .ensures) (known (b .before) .terminal) (b .before .before .before .before .pre .1 .last)
+    span-is _ _ _ (c .copied .ensures ∙ b .span-behind .ensures) (known (b .before) .terminal)
+    (b .before .before .before .before .pre .1 .last)
 
 walk-from-requires : tie.Need-walk-from-requires
 walk-from-requires c κs = let p = c .before .before .before .pre in (p .0, λ z. rw (p .1 .last) (p .2 z))
