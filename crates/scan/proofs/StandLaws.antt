@@ -46,8 +46,8 @@ pub rows-filled : {f : Format} {s : List ℕ} {h : Head} {r : Span} {pg : List �
 rows-filled {f} {s} {h} {r} w e = rw e (filled f (h .capacity) (pageAt f s h (r .page)) (w .rule) (page-lent f s h (r .page)))
 
 -- a terminal node by its numbers
-terminal-same : {t : Terminal} {b : Bool} {n m : ℕ} → b ≡ t .ok → n ≡ t .node → m ≡ t .used → record { ok = b; node = n; used = m } ≡ t
-terminal-same d e g = rw (d, e, g)
+terminal-is : {t : Terminal} {b : Bool} {n m : ℕ} → b ≡ t .ok → n ≡ t .node → m ≡ t .used → record { ok = b; node = n; used = m } ≡ t
+terminal-is d e g = rw (d, e, g)
 
 module _ {f : Format} {s : List ℕ} {h : Head} (u : Under f s h) {w : Span} (a : Walking f s h w) (some : w .page ≡ 0 → ⊥) where
   whole : (w .ok ≡ true) × (terminal f s h (a .key) .ok ≡ true)
@@ -68,7 +68,7 @@ module _ {f : Format} {s : List ℕ} {h : Head} (u : Under f s h) {w : Span} (a 
   names = span-named f s h (a .strict) (a .key) (a .span) some
 
   named : terminalOf w ≡ terminal f s h (a .key)
-  named = terminal-same (sym (whole .1)) (names .0) (names .1)
+  named = terminal-is (sym (whole .1)) (names .0) (names .1)
 
   goes-behind : (w .behind ≡ 0 → ⊥) → Behind f s h w
   goes-behind z =

@@ -29,18 +29,18 @@ use Rattle.search.specs.declared.Reached.the-variants.{Page, Broken}
 use Rattle.search.specs.Descent.{entryVisit, terminal, ownVisit}
 use Rattle.search.specs.Find.{soundPage}
 use Rattle.search.specs.Next.{runAfter, runBehind, behind}
-use Rattle.search.specs.Span.{noSpan, comesBack, firstRow, reachedRows, reachedSpan, ownSpan, spanAt, spanOf, Rows}
+use Rattle.search.specs.Span.{noSpan, comesBack, rowsFrom, firstRow, reachedRows, reachedSpan, ownSpan, spanAt, spanOf, Rows}
 use Rattle.search.proofs.FindLaws.{sound-rule}
 use Rattle.search.proofs.BlockLaws.{under-levels, under-node}
 use Rattle.search.proofs.UseLaws.{at-asked}
-use Rattle.search.proofs.SpanLaws.{rows-all, rows-one, rows-begin, reached-gives, reached-below, reached-broken, reached-lost}
+use Rattle.search.proofs.SpanLaws.{rows-all, rows-one, reached-gives, reached-below, reached-broken, reached-lost}
 use Rattle.search.proofs.SpanLaws.{own-null, own-unsound, own-rows, own-after, at-terminal, span-kind, span-rows}
 
 -- a span by its numbers
-span-same : (p m u : ℕ) {i i′ n n′ k k′ b b′ : ℕ} → i ≡ i′ → n ≡ n′ → k ≡ k′ → b ≡ b′
+span-same : (m u : ℕ) {p p′ i i′ n n′ k k′ b b′ : ℕ} → p ≡ p′ → i ≡ i′ → n ≡ n′ → k ≡ k′ → b ≡ b′
     → _≡_ {A = Span} (record { ok = true; page = p; from = i; to = n; last = k; node = m; used = u; behind = b })
-    (record { ok = true; page = p; from = i′; to = n′; last = k′; node = m; used = u; behind = b′ })
-span-same p m u d e j g = rw (d, e, j, g)
+    (record { ok = true; page = p′; from = i′; to = n′; last = k′; node = m; used = u; behind = b′ })
+span-same m u c d e j g = rw (c, d, e, j, g)
 
 -- no span is sound that met damage
 none-not : {r : Span} → r ≡ noSpan false → r .ok ≡ true → ⊥
@@ -111,9 +111,11 @@ module _ (f : Format) (s : List ℕ) (h : Head) (k n u p : ℕ) {pg : List ℕ} 
           → b ≡ runBehind s h n (v .depth) (v .entry)
           → _≡_ {A = Span} (record { ok = true; page = p; from = 0; to = c; last = l; node = n; used = u; behind = b })
           (reachedRows f s h k n u p)
-      unfolding comesBack
+      unfolding comesBack rowsFrom
       rows-whole g ec el eb =
-          span-same p n u refl (ec ∙ ap count e) (el ∙ ap₂ (λ x y. keyAt f x (y - 1)) e (ec ∙ ap count e))
+          let d : p ≡ ownVisit f s h (keyAt f (pageAt f s h p) 0) n u .pointer = sym (rw entry-is at z) in
+          let same : pg ≡ pageAt f s h (ownVisit f s h (keyAt f (pageAt f s h p) 0) n u .pointer) = e ∙ ap (pageAt f s h) d in
+          span-same n u d refl (ec ∙ ap count same) (el ∙ ap₂ (λ x y. keyAt f x (y - 1)) same (ec ∙ ap count same))
           (eb ∙ ap (λ x. runBehind s h n (x .depth) (x .entry)) entry-is)
           ∙ sym (rows-all f s h k n u p (rw (same-bits, comes-back, rw (e, entry-is, is-first) at g)))
 
@@ -163,8 +165,9 @@ module _ (f : Format) (s : List ℕ) (h : Head) (strict : Bool) (k : ℕ) (t : T
       pub at-rows : i < n → {x b : ℕ} → x ≡ keyAt f pg (n - 1) → b ≡ runBehind s h (t .node) (v .depth) (v .entry)
           → _≡_ {A = Span} (record { ok = true; page = v .pointer; from = i; to = n; last = x; node = t .node; used = t .used; behind = b })
           whole
+      unfolding rowsFrom
       at-rows l ex eb =
-          span-same (v .pointer) (t .node) (t .used) begins ends (ex ∙ ap₂ (λ x y. keyAt f x (y - 1)) e ends) eb
+          span-same (t .node) (t .used) refl begins ends (ex ∙ ap₂ (λ x y. keyAt f x (y - 1)) e ends) eb
           ∙ sym (at-own ∙ own-rows f s h strict k (t .node) (t .used) v z (rw e at p) (omega (arith, begins, ends)))
 
       pub at-after : n ≤ i → whole ≡ onwards
@@ -180,22 +183,23 @@ module _ {f : Format} {s : List ℕ} {h : Head} (u : Under f s h) (strict : Bool
   none-low b = omega arith
 
   span-low : Low (spanOf f s h strict k)
+  unfolding firstRow rowsFrom
   span-low =
-      span-kind f s h strict k Low none-low (λ p t o. let e = terminal f s h k in omega (arith, rows-begin f s h k (e .node) (e .used) p))
-      (λ o z p l. omega (arith, l, rule-facts f (h .capacity) _ (sound-rule f h _ k _ p) .fits))
+      span-kind f s h strict k Low none-low (λ p t o. omega arith)
+      (λ x i e o p l. omega (arith, l, rule-facts f (h .capacity) _ (sound-rule f h _ x _ p) .fits))
 
   -- and the run behind it begins within the entries of a node
-  run-small : (x : ℕ) → terminal f s h k .ok ≡ true
-      → let t = terminal f s h k in
+  run-small : (x : ℕ) → terminal f s h x .ok ≡ true
+      → let t = terminal f s h x in
       let v = ownVisit f s h x (t .node) (t .used) in
       runBehind s h (t .node) (v .depth) (v .entry) < 2 ^ 40
   unfolding ownVisit entryVisit runAfter
   run-small x o =
-      let t = terminal f s h k in
+      let t = terminal f s h x in
       let H = depthWord s (nodeStart h (t .node)) in
       let i = entryNumber (width f) x (t .used) H in
       let d = entryDepth s (nodeStart h (t .node)) i in
-      let low : H ≤ 6 = omega (arith, at-asked f s h k u refl o .2, under-node u .0) in
+      let low : H ≤ 6 = omega (arith, at-asked f s h x u refl o .2, under-node u .0) in
       omega (arith, entry-below (width f) x (t .used) H, pow-mono {i = H} {j = 6} low, pow-mono {i = H - d} {j = 6} (omega arith))
 
   abbrev Small : Span → Type 0
@@ -205,17 +209,10 @@ module _ {f : Format} {s : List ℕ} {h : Head} (u : Under f s h) (strict : Bool
   unfolding noSpan
   none-small b = omega arith
 
-  rows-small : (p : ℕ) → terminal f s h k .ok ≡ true → let t = terminal f s h k in Small (reachedRows f s h k (t .node) (t .used) p)
-  unfolding firstRow
-  rows-small p o =
-      let t = terminal f s h k in
-      by-cases (comesBack f s h k (t .node) (t .used) p)
-      (λ b. rw (rows-all f s h k (t .node) (t .used) p b) (run-small (keyAt f (pageAt f s h p) 0) o))
-      (λ b. rw (rows-one f s h k (t .node) (t .used) p b) (omega arith))
-
   pub behind-small : {r : Span} → r ≡ spanOf f s h strict k → r .behind < 2 ^ 40
+  unfolding firstRow rowsFrom
   behind-small e =
-      subst Small (sym e) (span-kind f s h strict k Small none-small (λ p t o. rows-small p o) (λ o z p l. run-small k o))
+      subst Small (sym e) (span-kind f s h strict k Small none-small (λ p t o. omega arith) (λ x i d o p l. run-small x o))
 
   row-inside : {r : Span} → r ≡ spanOf f s h strict k → r .ok ≡ true → (r .page ≡ 0 → ⊥)
       → words f * (r .from + 1) < length (pageAt f s h (r .page))

@@ -3,7 +3,7 @@
 use mathlib.Core.Path.{_≡_, refl, sym, ap, _∙_, subst}
 use mathlib.Core.Bool.{Bool, true, false, false≢true}
 use mathlib.Core.List.{List}
-use Prim.Native.Nat.{ℕ, _+_, _-_, _≤_, _<_}
+use Prim.Native.Nat.{ℕ, _+_, _-_, _/_, _^_, _≤_, _<_}
 use native.Mathlib.Decide.{decLt}
 use native.Mathlib.Omega.{arith}
 use lib.ListN.{getD}
@@ -13,6 +13,7 @@ use Rattle.lists.proofs.Tests.{and-true, and-three}
 use Rattle.store.specs.declared.Format.{Format}
 use Rattle.store.specs.declared.Head.{Head}
 use Rattle.store.specs.declared.Item.{Item}
+use Rattle.store.specs.Format.{width}
 use Rattle.store.specs.Head.{pageAt}
 use Rattle.page.specs.Page.{count, itemAt, keyAt, pageRule, agrees, above, firstAbove}
 use Rattle.page.proofs.Laws.{rule-facts, agrees-facts, facts-agrees}
@@ -25,13 +26,13 @@ use Rattle.search.specs.declared.Reached.the-variants.{Page, Past, Broke
 use Rattle.search.specs.Descent.{noStep, descent, terminal, ownVisit}
 use Rattle.search.specs.Find.{soundPage}
 use Rattle.search.specs.Next.{runBehind, reach, visitAfter, visited, behind, afterOwn, nextOf}
-use Rattle.search.specs.Span.{noSpan, comesBack, firstRow, reachedRows, reachedSpan, ownSpan, spanAt, spanOf, soughtOf}
+use Rattle.search.specs.Span.{noSpan, comesBack, rowsFrom, firstRow, reachedRows, reachedSpan, ownSpan, spanAt, spanOf, soughtOf}
 use Rattle.search.specs.Span.{GoesBehind, Rows}
 use Rattle.search.proofs.FindLaws.{sound-rule, Led}
 use Rattle.search.proofs.NextLaws.{visit-broken, visit-below, visit-gives, Some, reach-some}
 use Rattle.search.proofs.FromLaws.{from-lost, from-null, from-unsound, from-found, from-after}
 use Rattle.search.proofs.TerminalLaws.{terminal-ok, terminal-ended, terminal-sound, terminal-same, node-same, behind-same}
-use Rattle.search.proofs.WithinLaws.{first-after, same-end, next-within, within-at}
+use Rattle.search.proofs.WithinLaws.{first-after, same-end, next-within}
 
 -- the first record of a span
 module _ (f : Format) (s : List ℕ) (h : Head) (r : Span) where
@@ -51,47 +52,34 @@ module _ (f : Format) (s : List ℕ) (h : Head) (r : Span) where
 
 -- a page reached after the key's own: all its records, or the first one
 module _ (f : Format) (s : List ℕ) (h : Head) (k n u p : ℕ) where
-  abbrev back : Visit
-  back = ownVisit f s h (keyAt f (pageAt f s h p) 0) n u
+  abbrev first-key : ℕ
+  first-key = keyAt f (pageAt f s h p) 0
 
-  pub rows-all : comesBack f s h k n u p ≡ true
-      → reachedRows f s h k n u p
-      ≡ record {
-        ok = true;
-        page = p;
-        from = 0;
-        to = count (pageAt f s h p);
-        last = keyAt f (pageAt f s h p) (count (pageAt f s h p) - 1);
-        node = n;
-        used = u;
-        behind = runBehind s h n (back .depth) (back .entry);
-      }
+  abbrev back : Visit
+  back = ownVisit f s h first-key n u
+
+  pub rows-all : comesBack f s h k n u p ≡ true → reachedRows f s h k n u p ≡ rowsFrom f s h n u back 0
   unfolding reachedRows
   rows-all b = rw (b, reachedRows)
 
-  pub rows-one : comesBack f s h k n u p ≡ false → reachedRows f s h k n u p ≡ firstRow n u p (keyAt f (pageAt f s h p) 0)
+  pub rows-one : comesBack f s h k n u p ≡ false → reachedRows f s h k n u p ≡ firstRow n u p first-key
   unfolding reachedRows
   rows-one b = rw (b, reachedRows)
 
-  -- either begins with the first record of the page, and met no damage
-  pub rows-begin : reachedRows f s h k n u p .from ≡ 0
-  unfolding firstRow
-  rows-begin =
-      by-cases (comesBack f s h k n u p) (λ b. ap (λ r. r .from) (rows-all b)) (λ b. ap (λ r. r .from) (rows-one b))
-
-  rows-ok : reachedRows f s h k n u p .ok ≡ true
-  unfolding firstRow
-  rows-ok = by-cases (comesBack f s h k n u p) (λ b. ap (λ r. r .ok) (rows-all b)) (λ b. ap (λ r. r .ok) (rows-one b))
-
-  rows-page : reachedRows f s h k n u p .page ≡ p
-  unfolding firstRow
-  rows-page = by-cases (comesBack f s h k n u p) (λ b. ap (λ r. r .page) (rows-all b)) (λ b. ap (λ r. r .page) (rows-one b))
+  -- the first key agrees with k in the used bits, its entry leads to the page, and the page's other keys agree with it
+  back-facts : comesBack f s h k n u p ≡ true
+      → (first-key / 2 ^ (width f - u) ≡ k / 2 ^ (width f - u)) × (back .pointer ≡ p)
+      × (agrees f (pageAt f s h p) first-key (u + back .depth) ≡ true)
+  unfolding comesBack
+  back-facts b = let c = and-three _ _ _ b in (eqb-true _ _ (c .0), eqb-true _ _ (c .1), c .2)
 
   rows-first : (p ≡ 0 → ⊥) → soughtOf f s h (reachedRows f s h k n u p) ≡ Record (itemAt f (pageAt f s h p) 0)
-  unfolding firstRow
+  unfolding rowsFrom firstRow
   rows-first some =
       by-cases (comesBack f s h k n u p)
-      (λ b. ap (soughtOf f s h) (rows-all b) ∙ sym (sought-first f s h _ refl some refl refl))
+      (λ b.
+      let e = back-facts b .1 in
+      ap (soughtOf f s h) (rows-all b) ∙ sym (sought-first f s h _ refl (λ z. some (sym e ∙ z)) (ap (pageAt f s h) (sym e)) refl))
       (λ b. ap (soughtOf f s h) (rows-one b) ∙ sym (sought-first f s h _ refl some refl refl))
 
 module _ (f : Format) (s : List ℕ) (h : Head) (strict : Bool) (k : ℕ) where
@@ -160,17 +148,7 @@ module _ (f : Format) (s : List ℕ) (h : Head) (strict : Bool) (k : ℕ) where
 
       module _ (p : soundPage f h own-page k (u + v .depth) ≡ true) where
         pub own-rows : firstAbove f own-page strict k < count own-page
-            → ownSpan f s h strict k n u v
-            ≡ record {
-              ok = true;
-              page = v .pointer;
-              from = firstAbove f own-page strict k;
-              to = count own-page;
-              last = keyAt f own-page (count own-page - 1);
-              node = n;
-              used = u;
-              behind = runBehind s h n (v .depth) (v .entry);
-            }
+            → ownSpan f s h strict k n u v ≡ rowsFrom f s h n u v (firstAbove f own-page strict k)
         unfolding ownSpan
         own-rows l = rw (ne-eqb (v .pointer) 0 z, p, lt-ltb _ _ l, ownSpan)
 
@@ -204,7 +182,7 @@ module _ (f : Format) (s : List ℕ) (h : Head) (strict : Bool) (k : ℕ) where
 
     next-own : (o : terminal f s h k .ok ≡ true)
         → nextOf f s h strict k ≡ soughtOf f s h (ownSpan f s h strict k (end .node) (end .used) own)
-    unfolding noSpan
+    unfolding noSpan rowsFrom
     next-own o =
         let e = terminal-ended f s h k low high o in
         let d = descent f s h k in
@@ -250,23 +228,18 @@ GoesOn f s h r =
     (i : ℕ) → r .from ≤ i → i + 1 < r .to
     → nextOf f s h true (keyAt f (pageAt f s h (r .page)) i) ≡ Record (itemAt f (pageAt f s h (r .page)) (i + 1))
 
--- a page whose first key comes back to it: that key's terminal node and entry, and the page's other keys
-back-facts : (f : Format) (s : List ℕ) (h : Head) (k p : ℕ) → terminal f s h k .ok ≡ true
-    → let t = terminal f s h k in
-    let k₂ = keyAt f (pageAt f s h p) 0 in
-    let v = ownVisit f s h k₂ (t .node) (t .used) in
-    comesBack f s h k (t .node) (t .used) p ≡ true
-    → (terminal f s h k₂ ≡ t) × (v .pointer ≡ p) × (agrees f (pageAt f s h p) k₂ (t .used + v .depth) ≡ true)
-unfolding comesBack
-back-facts f s h k p o b =
-    let c = and-three _ _ _ b in
-    (terminal-same f s h k _ o (eqb-true _ _ (c .0)), eqb-true _ _ (c .1), c .2)
-
--- what holds of each kind of span holds of every one
+-- what holds of each kind of span holds of every one: of none, of a first row that stands alone, and of the rows of a page to which a key x
+-- leads whose terminal node is that of k
 module _ (f : Format) (s : List ℕ) (h : Head) (strict : Bool) (k : ℕ) (P : Span → Type 0) (none : (b : Bool) → P (noSpan b))
-    (first :
-    (p : ℕ) → pageRule f (h .capacity) (pageAt f s h p) ≡ true → let t = terminal f s h k in t .ok ≡ true
-    → P (reachedRows f s h k (t .node) (t .used) p)) where
+    (alone :
+    (p : ℕ) → pageRule f (h .capacity) (pageAt f s h p) ≡ true
+    → let t = terminal f s h k in t .ok ≡ true → P (firstRow (t .node) (t .used) p (keyAt f (pageAt f s h p) 0)))
+    (rows :
+    (x i : ℕ) → terminal f s h x ≡ terminal f s h k
+    → let t = terminal f s h x in
+    let v = ownVisit f s h x (t .node) (t .used) in
+    let pg = pageAt f s h (v .pointer) in
+    t .ok ≡ true → soundPage f h pg x (t .used + v .depth) ≡ true → i < count pg → P (rowsFrom f s h (t .node) (t .used) v i)) where
   abbrev there : Terminal
   there = terminal f s h k
 
@@ -276,12 +249,40 @@ module _ (f : Format) (s : List ℕ) (h : Head) (strict : Bool) (k : ℕ) (P : S
   abbrev leaf : List ℕ
   leaf = pageAt f s h (entry .pointer)
 
+  -- the rows where the terminal node of x is known as t
+  rows-at : (x i : ℕ) (t : Terminal) → terminal f s h x ≡ t → t ≡ there
+      → let v = ownVisit f s h x (t .node) (t .used) in
+      let pg = pageAt f s h (v .pointer) in
+      t .ok ≡ true → soundPage f h pg x (t .used + v .depth) ≡ true → i < count pg → P (rowsFrom f s h (t .node) (t .used) v i)
+  rows-at x i t e =
+      subst
+      (λ t. t ≡ there
+      → let v = ownVisit f s h x (t .node) (t .used) in
+      let pg = pageAt f s h (v .pointer) in
+      t .ok ≡ true → soundPage f h pg x (t .used + v .depth) ≡ true → i < count pg → P (rowsFrom f s h (t .node) (t .used) v i)) e
+      (rows x i)
+
+  reached-rows : there .ok ≡ true → (p : ℕ) → pageRule f (h .capacity) (pageAt f s h p) ≡ true
+      → P (reachedRows f s h k (there .node) (there .used) p)
+  unfolding soundPage
+  reached-rows o p t =
+      let n : ℕ = there .node in
+      let u : ℕ = there .used in
+      by-cases (comesBack f s h k n u p)
+      (λ b.
+      let x : ℕ = keyAt f (pageAt f s h p) 0 in
+      let c = back-facts f s h k n u p b in
+      subst P (sym (rows-all f s h k n u p b))
+      (rows-at x 0 there (terminal-same f s h k x o (c .0)) refl o (rw (c .1, t, c .2))
+      (rw (c .1) (rule-facts f (h .capacity) (pageAt f s h p) t .some))))
+      (λ b. subst P (sym (rows-one f s h k n u p b)) (alone p t o))
+
   page-kind : there .ok ≡ true → (p : ℕ) → P (reachedSpan f s h strict k (there .node) (there .used) (Page p))
   page-kind o p =
       by-cases (pageRule f (h .capacity) (pageAt f s h p))
       (λ t.
       by-cases (above strict k (keyAt f (pageAt f s h p) 0))
-      (λ a. subst P (sym (reached-gives f s h strict k _ _ p t a)) (first p t o))
+      (λ a. subst P (sym (reached-gives f s h strict k _ _ p t a)) (reached-rows o p t))
       (λ a. subst P (sym (reached-below f s h strict k _ _ p t a)) (none false)))
       (λ t. subst P (sym (reached-broken f s h strict k _ _ p t)) (none false))
 
@@ -290,42 +291,28 @@ module _ (f : Format) (s : List ℕ) (h : Head) (strict : Bool) (k : ℕ) (P : S
   reached-kind o Past = subst P (sym (reached-past f s h strict k _ _)) (none true)
   reached-kind o Broken = subst P (sym (reached-lost f s h strict k _ _)) (none false)
 
-  module _
-      (own :
-      there .ok ≡ true → (entry .pointer ≡ 0 → ⊥) → soundPage f h leaf k (there .used + entry .depth) ≡ true
-      → firstAbove f leaf strict k < count leaf
-      → P (record {
-        ok = true;
-        page = entry .pointer;
-        from = firstAbove f leaf strict k;
-        to = count leaf;
-        last = keyAt f leaf (count leaf - 1);
-        node = there .node;
-        used = there .used;
-        behind = runBehind s h (there .node) (entry .depth) (entry .entry);
-      })) where
-    own-kind : there .ok ≡ true → P (ownSpan f s h strict k (there .node) (there .used) entry)
-    own-kind o =
-        let n : ℕ = there .node in
-        let u : ℕ = there .used in
-        elim (decLt 0 (entry .pointer)) [
-          | no q ↦ subst P (sym (own-null f s h strict k n u entry (omega arith))) (reached-kind o _)
-          | yes q ↦
-              let z : entry .pointer ≡ 0 → ⊥ = λ y. omega arith in
-              by-cases (soundPage f h leaf k (u + entry .depth))
-              (λ p.
-              elim (decLt (firstAbove f leaf strict k) (count leaf)) [
-                | yes l ↦ subst P (sym (own-rows f s h strict k n u entry z p l)) (own o z p l)
-                | no l ↦ subst P (sym (own-after f s h strict k n u entry z p (omega arith))) (reached-kind o _)
-              ])
-              (λ p. subst P (sym (own-unsound f s h strict k n u entry z p)) (none false))
-        ]
+  own-kind : there .ok ≡ true → P (ownSpan f s h strict k (there .node) (there .used) entry)
+  own-kind o =
+      let n : ℕ = there .node in
+      let u : ℕ = there .used in
+      elim (decLt 0 (entry .pointer)) [
+        | no q ↦ subst P (sym (own-null f s h strict k n u entry (omega arith))) (reached-kind o _)
+        | yes q ↦
+            let z : entry .pointer ≡ 0 → ⊥ = λ y. omega arith in
+            by-cases (soundPage f h leaf k (u + entry .depth))
+            (λ p.
+            elim (decLt (firstAbove f leaf strict k) (count leaf)) [
+              | yes l ↦ subst P (sym (own-rows f s h strict k n u entry z p l)) (rows k _ refl o p l)
+              | no l ↦ subst P (sym (own-after f s h strict k n u entry z p (omega arith))) (reached-kind o _)
+            ])
+            (λ p. subst P (sym (own-unsound f s h strict k n u entry z p)) (none false))
+      ]
 
-    pub span-kind : P (spanOf f s h strict k)
-    span-kind =
-        by-cases (there .ok)
-        (λ o. subst P (sym (at-terminal f s h strict k there o)) (own-kind o))
-        (λ o. subst P (sym (at-lost f s h strict k there o)) (none false))
+  pub span-kind : P (spanOf f s h strict k)
+  span-kind =
+      by-cases (there .ok)
+      (λ o. subst P (sym (at-terminal f s h strict k there o)) (own-kind o))
+      (λ o. subst P (sym (at-lost f s h strict k there o)) (none false))
 
 module _ (f : Format) (s : List ℕ) (h : Head) (strict : Bool) (k : ℕ) where
   abbrev Sound : Span → Type 0
@@ -335,34 +322,16 @@ module _ (f : Format) (s : List ℕ) (h : Head) (strict : Bool) (k : ℕ) where
   unfolding noSpan
   none-sound b o q = absurd (q refl)
 
-  -- a page that was reached: its first record alone, or all of them where its first key comes back to it
-  reached-rows : 1 ≤ h .levels → h .levels ≤ 32 → (p : ℕ) → pageRule f (h .capacity) (pageAt f s h p) ≡ true → terminal f s h k .ok ≡ true
-      → (p ≡ 0 → ⊥)
-      → let t = terminal f s h k in
-      let r = reachedRows f s h k (t .node) (t .used) p in
-      Rows f s h r × GoesOn f s h r
-  unfolding soundPage firstRow
-  reached-rows low high p t o z =
-      let e : Terminal = terminal f s h k in
-      let pg : List ℕ = pageAt f s h p in
-      let k₂ : ℕ = keyAt f pg 0 in
-      let some = rule-facts f (h .capacity) pg t .some in
-      by-cases (comesBack f s h k (e .node) (e .used) p)
-      (λ b.
-      let c = back-facts f s h k p o b in
-      rw (rows-all f s h k (e .node) (e .used) p b) (
-        record { rule = t; some = some; within = omega arith },
-        λ i m l. within-at f s h k₂ i low high e (c .0) o p (c .1) z (rw (t, c .2)) l,
-      ))
-      (λ b.
-      rw (rows-one f s h k (e .node) (e .used) p b) (record { rule = t; some = omega arith; within = some }, λ i m l. absurd (omega arith)))
-
   pub span-rows : 1 ≤ h .levels → h .levels ≤ 32 → Sound (spanOf f s h strict k)
+  unfolding firstRow rowsFrom
   span-rows low high =
       span-kind f s h strict k Sound none-sound
-      (λ p t o y q. reached-rows low high p t o (λ z. q (rows-page f s h k _ _ p ∙ z)))
-      (λ o z p l y q.
-      (record { rule = sound-rule f h _ k _ p; some = l; within = omega arith }, λ i m n. next-within f s h k i low high o z p n))
+      (λ p t o y q. (
+        record { rule = t; some = omega arith; within = rule-facts f (h .capacity) (pageAt f s h p) t .some },
+        λ i m l. absurd (omega arith),
+      ))
+      (λ x i e o p l y z.
+      (record { rule = sound-rule f h _ x _ p; some = l; within = omega arith }, λ j m n. next-within f s h x j low high o z p n))
 
   -- a span with records has the terminal node of its key, and names the key of its last record
   abbrev Named : Span → Type 0
@@ -375,16 +344,12 @@ module _ (f : Format) (s : List ℕ) (h : Head) (strict : Bool) (k : ℕ) where
   unfolding noSpan
   none-named b q = absurd (q refl)
 
-  rows-named : (p : ℕ) → let t = terminal f s h k in Named (reachedRows f s h k (t .node) (t .used) p)
-  unfolding firstRow
-  rows-named p =
-      let t = terminal f s h k in
-      by-cases (comesBack f s h k (t .node) (t .used) p)
-      (λ b. rw (rows-all f s h k (t .node) (t .used) p b) (λ z. (refl, refl, refl)))
-      (λ b. rw (rows-one f s h k (t .node) (t .used) p b) (λ z. (refl, refl, refl)))
-
   pub span-named : {r : Span} → r ≡ spanOf f s h strict k → Named r
-  span-named e = subst Named (sym e) (span-kind f s h strict k Named none-named (λ p r o. rows-named p) (λ o z p l y. (refl, refl, refl)))
+  unfolding firstRow rowsFrom
+  span-named e =
+      subst Named (sym e)
+      (span-kind f s h strict k Named none-named (λ p r o y. (refl, refl, refl))
+      (λ x i d o p l y. (ap (λ t. t .node) d, ap (λ t. t .used) d, refl)))
 
   -- a span with records met no damage, and its terminal node is sound
   abbrev Whole : Span → Type 0
@@ -395,7 +360,8 @@ module _ (f : Format) (s : List ℕ) (h : Head) (strict : Bool) (k : ℕ) where
   none-whole b q = absurd (q refl)
 
   pub span-whole : Whole (spanOf f s h strict k)
-  span-whole = span-kind f s h strict k Whole none-whole (λ p r o z. (rows-ok f s h k _ _ p, o)) (λ o z p l y. (refl, o))
+  unfolding firstRow rowsFrom
+  span-whole = span-kind f s h strict k Whole none-whole (λ p r o y. (refl, o)) (λ x i d o p l y. (refl, sym (ap (λ t. t .ok) d) ∙ o))
 
   -- a span that met no damage has a sound terminal node
   pub terminal-whole : spanOf f s h strict k .ok ≡ true → terminal f s h k .ok ≡ true
@@ -407,16 +373,13 @@ module _ (f : Format) (s : List ℕ) (h : Head) (strict : Bool) (k : ℕ) where
 
 -- after the last record of the own page of k next goes on behind its run
 module _ (f : Format) (s : List ℕ) (h : Head) where
-  -- the terminal node of k is t, and its page p
-  abbrev Goes : ℕ → Terminal → ℕ → Type 0
-  Goes k t p =
+  own-goes : (k : ℕ) → 1 ≤ h .levels → h .levels ≤ 32
+      → let t = terminal f s h k in
       let v = ownVisit f s h k (t .node) (t .used) in
-      let k₂ = keyAt f (pageAt f s h p) (count (pageAt f s h p) - 1) in
-      (p ≡ 0 → ⊥) → soundPage f h (pageAt f s h p) k (t .used + v .depth) ≡ true
+      let pg = pageAt f s h (v .pointer) in
+      let k₂ = keyAt f pg (count pg - 1) in
+      t .ok ≡ true → (v .pointer ≡ 0 → ⊥) → soundPage f h pg k (t .used + v .depth) ≡ true
       → (terminal f s h k₂ ≡ t) × GoesBehind f s h true k₂ t (runBehind s h (t .node) (v .depth) (v .entry))
-
-  own-goes : (k : ℕ) → 1 ≤ h .levels → h .levels ≤ 32 → terminal f s h k .ok ≡ true
-      → let t = terminal f s h k in Goes k t (ownVisit f s h k (t .node) (t .used) .pointer)
   unfolding soundPage behind
   own-goes k low high o some p =
       let t = terminal f s h k in
@@ -442,12 +405,6 @@ module _ (f : Format) (s : List ℕ) (h : Head) where
             (behind-same f s h k k₂ 1 _ _ sound a),
       )
 
-  goes-at : (k : ℕ) → 1 ≤ h .levels → h .levels ≤ 32 → (t : Terminal) → terminal f s h k ≡ t → t .ok ≡ true
-      → (p : ℕ) → ownVisit f s h k (t .node) (t .used) .pointer ≡ p → Goes k t p
-  goes-at k low high t e =
-      subst (λ t. t .ok ≡ true → (p : ℕ) → ownVisit f s h k (t .node) (t .used) .pointer ≡ p → Goes k t p) e
-      (λ o p b. subst (Goes k (terminal f s h k)) b (own-goes k low high o))
-
 -- a span that knows the run behind its page: next from its last record goes on there
 module _ (f : Format) (s : List ℕ) (h : Head) (strict : Bool) (k : ℕ) where
   abbrev Behind : Span → Type 0
@@ -460,20 +417,13 @@ module _ (f : Format) (s : List ℕ) (h : Head) (strict : Bool) (k : ℕ) where
   unfolding noSpan
   none-behind b z = absurd (z refl)
 
-  rows-behind : 1 ≤ h .levels → h .levels ≤ 32 → (p : ℕ) → pageRule f (h .capacity) (pageAt f s h p) ≡ true → terminal f s h k .ok ≡ true
-      → let t = terminal f s h k in Behind (reachedRows f s h k (t .node) (t .used) p)
-  unfolding firstRow soundPage
-  rows-behind low high p r o =
-      let t = terminal f s h k in
-      by-cases (comesBack f s h k (t .node) (t .used) p)
-      (λ b.
-      let c = back-facts f s h k p o b in
-      rw (rows-all f s h k (t .node) (t .used) p b)
-      (λ z q. goes-at f s h (keyAt f (pageAt f s h p) 0) low high t (c .0) o p (c .1) z (rw (r, c .2))))
-      (λ b. rw (rows-one f s h k (t .node) (t .used) p b) (λ z q. absurd (q refl)))
-
   pub span-behind : 1 ≤ h .levels → h .levels ≤ 32 → {r : Span} → r ≡ spanOf f s h strict k → Behind r
+  unfolding firstRow rowsFrom
   span-behind low high e =
       subst Behind (sym e)
-      (span-kind f s h strict k Behind none-behind (λ p r o. rows-behind low high p r o)
-      (λ o z p l y q. own-goes f s h k low high o z p))
+      (span-kind f s h strict k Behind none-behind (λ p r o z q. absurd (q refl))
+      (λ x i d o p l z q.
+      let t = terminal f s h x in
+      let r = rowsFrom f s h (t .node) (t .used) (ownVisit f s h x (t .node) (t .used)) i in
+      let k₂ = keyAt f (pageAt f s h (r .page)) (r .to - 1) in
+      subst (λ t. (terminal f s h k₂ ≡ t) × GoesBehind f s h true k₂ t (r .behind)) d (own-goes f s h x low high o z p)))

@@ -1,7 +1,7 @@
 -- Next within a page: the way of any key that agrees with k in all used bits leads to the page of k, so next from the key of a record is
 -- the record after it, where its page has one.
 --   end, own == the terminal node of k, and the entry of k in it
-use mathlib.Core.Path.{_≡_, refl, sym, ap, _∙_, subst}
+use mathlib.Core.Path.{_≡_, refl, sym, ap, _∙_}
 use mathlib.Core.Bool.{true}
 use mathlib.Core.List.{List}
 use Prim.Native.Nat.{ℕ, _+_, _-_, _/_, _^_, _≤_, _<_}
@@ -90,22 +90,3 @@ module _ (f : Format) (s : List ℕ) (h : Head) where
       rw (same-used k low high o (keyAt f pg i) a, rules .0) (facts-agrees f pg (keyAt f pg i) u (λ j q. near j q ∙ sym a)) in
       sym
       (from-found true (same-led k low high o (keyAt f pg i) a some) p′ (sym (first-after f (h .capacity) pg i (rules .0) l′)) refl refl l)
-
-  -- the same where the terminal node is known as t and the page as p
-  pub within-at : (k i : ℕ) → 1 ≤ h .levels → h .levels ≤ 32 → (t : Terminal) → terminal f s h k ≡ t → t .ok ≡ true → (p : ℕ)
-      → let v = ownVisit f s h k (t .node) (t .used) in
-      v .pointer ≡ p → (p ≡ 0 → ⊥) → soundPage f h (pageAt f s h p) k (t .used + v .depth) ≡ true → i + 1 < count (pageAt f s h p)
-      → nextOf f s h true (keyAt f (pageAt f s h p) i) ≡ Record (itemAt f (pageAt f s h p) (i + 1))
-  within-at k i low high t e =
-      subst
-      (λ t. t .ok ≡ true → (p : ℕ)
-      → let v = ownVisit f s h k (t .node) (t .used) in
-      v .pointer ≡ p → (p ≡ 0 → ⊥) → soundPage f h (pageAt f s h p) k (t .used + v .depth) ≡ true → i + 1 < count (pageAt f s h p)
-      → nextOf f s h true (keyAt f (pageAt f s h p) i) ≡ Record (itemAt f (pageAt f s h p) (i + 1))) e
-      (λ o p b.
-      subst
-      (λ p. (p ≡ 0 → ⊥)
-      → let t = terminal f s h k in
-      soundPage f h (pageAt f s h p) k (t .used + ownVisit f s h k (t .node) (t .used) .depth) ≡ true
-      → i + 1 < count (pageAt f s h p) → nextOf f s h true (keyAt f (pageAt f s h p) i) ≡ Record (itemAt f (pageAt f s h p) (i + 1))) b
-      (next-within k i low high o))

@@ -2,6 +2,7 @@
 --   noSpan ok          == no record; ok: no damage was met
 --   comesBack f s h k n u p == the first key of page p, which is reached from the terminal node n of the key k, leads back to it from n,
 --     and so do the page's other keys
+--   rowsFrom f s h n u v i == the records from number i on of the page to which the entry v of the terminal node n leads
 --   firstRow n u p k   == the first record of page p, whose key is k, reached from the terminal node n
 --   reachedRows f s h k n u p == the records of page p that follow one another, p being reached from the terminal node n of the key k
 --   reachedSpan f s h strict k n u a == the records of the page that was reached after the sought key's own
@@ -44,27 +45,29 @@ comesBack f s h k n u p =
     && eqb (ownVisit f s h (keyAt f (pageAt f s h p) 0) n u .pointer) p
     && agrees f (pageAt f s h p) (keyAt f (pageAt f s h p) 0) (u + ownVisit f s h (keyAt f (pageAt f s h p) 0) n u .depth)
 
+-- After the last one next goes on with the run behind the entry.
+unfoldable pub rowsFrom : Format → List ℕ → Head → ℕ → ℕ → Visit → ℕ → Span
+rowsFrom f s h n u v i =
+    let pg = pageAt f s h (v .pointer) in
+    record {
+      ok = true;
+      page = v .pointer;
+      from = i;
+      to = count pg;
+      last = keyAt f pg (count pg - 1);
+      node = n;
+      used = u;
+      behind = runBehind s h n (v .depth) (v .entry);
+    }
+
 unfoldable pub firstRow : ℕ → ℕ → ℕ → ℕ → Span
 firstRow n u p k = record { ok = true; page = p; from = 0; to = 1; last = k; node = n; used = u; behind = 0 }
 
--- Where its keys come back all records follow, and after the last one the run behind; else the first one stands alone.
+-- Where its keys come back all records follow, else the first one stands alone.
 unfoldable pub reachedRows : Format → List ℕ → Head → ℕ → ℕ → ℕ → ℕ → Span
 reachedRows f s h k n u p =
-    elim (comesBack f s h k n u p) [
-      | true ↦
-          let v = ownVisit f s h (keyAt f (pageAt f s h p) 0) n u in
-          record {
-            ok = true;
-            page = p;
-            from = 0;
-            to = count (pageAt f s h p);
-            last = keyAt f (pageAt f s h p) (count (pageAt f s h p) - 1);
-            node = n;
-            used = u;
-            behind = runBehind s h n (v .depth) (v .entry);
-          }
-      | false ↦ firstRow n u p (keyAt f (pageAt f s h p) 0)
-    ]
+    let first = keyAt f (pageAt f s h p) 0 in
+    elim (comesBack f s h k n u p) [ true ↦ rowsFrom f s h n u (ownVisit f s h first n u) 0 | false ↦ firstRow n u p first ]
 
 -- Of the page's keys, which ascend, the first speaks for all.
 unfoldable pub reachedSpan : Format → List ℕ → Head → Bool → ℕ → ℕ → ℕ → Reached → Span
@@ -87,17 +90,7 @@ ownSpan f s h strict k n u v =
             | false ↦ noSpan false
             | true ↦
                 elim (ltb (firstAbove f (pageAt f s h (v .pointer)) strict k) (count (pageAt f s h (v .pointer)))) [
-                  | true ↦
-                      record {
-                        ok = true;
-                        page = v .pointer;
-                        from = firstAbove f (pageAt f s h (v .pointer)) strict k;
-                        to = count (pageAt f s h (v .pointer));
-                        last = keyAt f (pageAt f s h (v .pointer)) (count (pageAt f s h (v .pointer)) - 1);
-                        node = n;
-                        used = u;
-                        behind = runBehind s h n (v .depth) (v .entry);
-                      }
+                  | true ↦ rowsFrom f s h n u v (firstAbove f (pageAt f s h (v .pointer)) strict k)
                   | false ↦ reachedSpan f s h strict k n u (behind s h n (v .depth) (v .entry))
                 ]
           ]
