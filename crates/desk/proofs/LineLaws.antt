@@ -74,11 +74,6 @@ length-items i ws = length-tab i (λ j. itemFrom ws (4 * j))
 pub items-most : (dump : Bool) (i : ℕ) (ws : List ℕ) → length (listedLines dump (itemsOf i ws)) ≤ 45 * i
 items-most dump i ws = omega (arith, lines-bounds dump (itemsOf i ws) .1, length-items i ws)
 
--- bytes in front of those that stay
-pub length-front : (n : ℕ) (pre out first : List ℕ) → length pre ≡ n → n ≤ length first → out ≡ pre ++ drop n first
-    → length out ≡ length first
-length-front n pre out first e h q = ap length q ∙ length-append pre (drop n first) ∙ rw (length-drop) (omega arith)
-
 -- what one line leaves in the output, and what bytes behind others leave
 pub put-line : (X out bs : List ℕ) (n : ℕ) (r : Reply) → X ≡ replyLine r → 45 ≤ length out → n ≡ written r out .count
     → bs ≡ written r out .bytes → (n ≡ length X) × (bs ≡ X ++ drop n out)

@@ -3,7 +3,7 @@
 --   Here t l n v      == node n is the image of v at level l + 1, with links in range
 --   Climbs l path next r == the climb r along the path leaves a sound path, one bit longer, that leads to next
 --   reachedBy path a c == the one of a and c that the key's first bit behind the path chooses
---   Cut s t l p path lo up == t is s with the node at p split into lo and up, and the nodes of the path above as they were
+--   SplitInto s t l p path lo up == t is s with the node at p split into lo and up, and the nodes of the path above as they were
 --   ClimbSound path   == a climb along the path keeps it
 use mathlib.Core.Path.{_≡_, refl, sym, ap, _∙_, subst}
 use mathlib.Core.Bool.{Bool}
@@ -128,7 +128,7 @@ module _ (f : Format) (θ key : ℕ) where
   abbrev pub reachedBy : List Place → ℕ → ℕ → ℕ
   reachedBy path a c = chosen (bits (width f - sum (depths path)) key) a c
 
-  pub record Cut (s t : List ℕ) (l : ℕ) (p : Place) (path : List Place) (lo up : Trie ℕ) : Type 0 where
+  pub record SplitInto (s t : List ℕ) (l : ℕ) (p : Place) (path : List Place) (lo up : Trie ℕ) : Type 0 where
     pub ok : Ok f θ t
     pub taken : headOf t .nodesTaken ≡ suc (headOf s .nodesTaken)
     pub cap-same : headOf t .nodeBlocks ≡ headOf s .nodeBlocks
@@ -197,7 +197,7 @@ module _ (f : Format) (θ key : ℕ) where
     pub above-sound : (s t : List ℕ) (l : ℕ) (p : Place) (path : List Place) (a c next : ℕ) (lo up : Trie ℕ)
         → headOf s .nodesTaken + bumpCost θ (depths (p ∷ path)) ≤ headOf s .nodeBlocks
         → (y : Sound f θ key s l (p ∷ path) next) → Apart (p ∷ path) → sum (depths (p ∷ path)) < width f → Enters s l a → Enters s l c
-        → θ ≤ p .depth → graft (y .0 .trie) (p .bits) (pair a c) ≡ fork lo up → Cut s t l p path lo up → ClimbSound path
+        → θ ≤ p .depth → graft (y .0 .trie) (p .bits) (pair a c) ≡ fork lo up → SplitInto s t l p path lo up → ClimbSound path
         → Climbs l (p ∷ path) (reachedBy (p ∷ path) a c)
         (let r = climb (nodeOps θ) (wordStore f θ) θ (bits (width f) key) t path (p .at) (suc (headOf s .nodesTaken)) in
         record { store = r .store; path = inHalf θ p (suc (headOf s .nodesTaken)) ∷ r .path })
@@ -290,7 +290,7 @@ module _ (f : Format) (θ key : ℕ) where
     node-cut : (s : List ℕ) (l : ℕ) (p : Place) (path : List Place) (a c next : ℕ) (lo up : Trie ℕ) → Ok f θ s
         → headOf s .nodesTaken < headOf s .nodeBlocks → (y : Sound f θ key s l (p ∷ path) next) → Beside (p .at) path
         → θ ≤ depth (y .0 .trie) (p .bits) → graft (y .0 .trie) (p .bits) (pair a c) ≡ fork lo up
-        → Cut s (splitNode (nodeOps θ) (wordStore f θ) s p a c) l p path lo up
+        → SplitInto s (splitNode (nodeOps θ) (wordStore f θ) s p a c) l p path lo up
     unfolding splitNode
     node-cut s l p path a c next lo up ok more y off deep e =
         let z = y .0 in

@@ -30,7 +30,7 @@ use Rattle.insert.specs.Fine.{Off, Apart, depths, sum}
 use Rattle.insert.proofs.InsideRound.{relinked}
 use Rattle.insert.proofs.HeldRound.{Beside}
 use Rattle.insert.proofs.FoundPath.{Enters, Sound, sound-among}
-use Rattle.insert.proofs.FoundClimb.{path-same, written-here, Climbs, reachedBy, Cut, grown-sound, above-sound, climb-sound}
+use Rattle.insert.proofs.FoundClimb.{path-same, written-here, Climbs, reachedBy, SplitInto, grown-sound, above-sound, climb-sound}
 
 module _ (f : Format) (θ key : ℕ) where
   abbrev k : Key
@@ -41,7 +41,7 @@ module _ (f : Format) (θ key : ℕ) where
     first-cut : (s : List ℕ) (p : Place) (path : List Place) (a c next : ℕ) (lo up : Trie ℕ) → Ok f θ s
         → headOf s .nodesTaken < headOf s .nodeBlocks → (y : Sound f θ key s 0 (p ∷ path) next) → Beside (p .at) path
         → Off (behindIn s (p ∷ path)) (p ∷ path) → θ ≤ depth (y .0 .trie) (p .bits) → graft (y .0 .trie) (p .bits) (pair a c) ≡ fork lo up
-        → Cut f θ key s (splitFirst (nodeOps θ) (wordStore f θ) s p a c) 0 p path lo up
+        → SplitInto f θ key s (splitFirst (nodeOps θ) (wordStore f θ) s p a c) 0 p path lo up
     unfolding splitFirst
     first-cut s p path a c next lo up ok more y off behind deep e =
         let laws = node-ops-are θ pos in

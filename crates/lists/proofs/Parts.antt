@@ -31,6 +31,10 @@ module _ {A : Type 0} where
   pub length-part : (xs : List A) (a n : ℕ) → a + n ≤ length xs → length (part xs a n) ≡ n
   length-part xs a n h = ap length (part-in xs a n h) ∙ length-take-le n (drop a xs) (rw (length-drop a xs) (omega arith))
 
+  -- a list written over the front of another
+  pub length-over : (n : ℕ) (ys zs xs : List A) → length ys ≡ n → n ≤ length xs → zs ≡ ys ++ drop n xs → length zs ≡ length xs
+  length-over n ys zs xs e h q = ap length q ∙ length-append ys (drop n xs) ∙ rw (length-drop) (omega arith)
+
   -- a list from index a on, its first n elements apart
   pub part-next : (xs : List A) (a n : ℕ) → a + n ≤ length xs → drop a xs ≡ part xs a n ++ drop (a + n) xs
   part-next xs a n h =

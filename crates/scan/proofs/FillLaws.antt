@@ -13,7 +13,7 @@ use native.Mathlib.Numerals.{add-one}
 use borrow.Author.Tests.{lt-ltb, le-ltb}
 use Rattle.lists.specs.Lists.{part}
 use Rattle.lists.proofs.Cases.{bool-cases}
-use Rattle.lists.proofs.Parts.{part-in}
+use Rattle.lists.proofs.Parts.{part-in, length-over}
 use Rattle.store.specs.Head.{headOf, headRule}
 use Rattle.store.specs.declared.Format.{Format}
 use Rattle.store.specs.declared.Head.{Head}
@@ -53,8 +53,7 @@ part-room w at out h = simp (length-take, length-drop) (omega arith)
 pub length-filled : (f : Format) (its : List Item) (m : ℕ) (out t : List ℕ) → length its ≡ m → words f * m ≤ length out
     → t ≡ flat f its ++ drop (words f * m) out → length t ≡ length out
 length-filled f its m out t e h q =
-    ap length q ∙ length-append (flat f its) (drop (words f * m) out)
-    ∙ rw (length-drop, length-flat f its, e) (omega arith)
+    length-over (words f * m) (flat f its) t out (length-flat f its ∙ ap (λ n. words f * n) e) h q
 
 -- elements X written at the end of those that stand before
 pub append-at : (at : ℕ) (pre X out first last : List ℕ) → out ≡ pre ++ drop at first → length pre ≡ at

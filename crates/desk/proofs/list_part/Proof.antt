@@ -5,11 +5,12 @@ use native.Mathlib.Omega.{arith}
 use Prim.Native.Nat.{ℕ, _+_, _^_, _≤_, _<_}
 use mathlib.Core.List.{List, _++_}
 use lib.ListN.{length, drop, length-take, length-drop}
+use Rattle.lists.proofs.Parts.{length-over}
 use Rattle.desk.specs.Replies.{listedLines}
 use Rattle.desk.specs.Listing.{partOf, pieceReply, itemsOf, lastLine}
 use Rattle.desk.proofs.ListingLaws.{piece-facts}
 use Rattle.desk.proofs.PartLaws.{refused-lines, refused-after, more-lines, more-after, last-lines, last-after}
-use Rattle.desk.proofs.LineLaws.{length-front, put-line, put-behind}
+use Rattle.desk.proofs.LineLaws.{put-line, put-behind}
 use Rattle.desk.proofs.list_part.Statement.{statement}
 use Rattle.desk.proofs.list_part.Tie as tie
 
@@ -69,7 +70,7 @@ fit c =
     let r = read (sound c) in
     let e = c .write-records .ensures in
     let most : c .write-records .result ≤ 2880 = omega (arith, few r, e .1) in
-    let long = length-front _ (recordLines r) _ (call r .args .out .now) (sym (e .0)) (omega (arith, most, call r .pre)) (e .2) in
+    let long = length-over _ (recordLines r) _ (call r .args .out .now) (sym (e .0)) (omega (arith, most, call r .pre)) (e .2) in
     (most, omega (arith, most, long, call r .pre))
 
 returns-2 : tie.Need-returns-2

@@ -5,9 +5,10 @@ use mathlib.Core.List.{List, _++_}
 use Prim.Native.Nat.{ℕ, _+_, _-_, _*_, _≤_}
 use native.Mathlib.Omega.{arith}
 use lib.ListN.{length, drop}
+use Rattle.lists.proofs.Parts.{length-over}
 use Rattle.desk.specs.Replies.{listedLines}
 use Rattle.desk.specs.Listing.{itemsOf}
-use Rattle.desk.proofs.LineLaws.{items-most, lines-more, lines-start, length-front, written-small}
+use Rattle.desk.proofs.LineLaws.{items-most, lines-more, lines-start, written-small}
 use Rattle.desk.proofs.write_records.Statement.{statement}
 use Rattle.desk.proofs.write_records.Tie as tie
 
@@ -64,7 +65,7 @@ loop-again c =
       omega (arith, t .loop-test .taken),
       omega (arith, l .inv .1),
       e .0,
-      length-front _ (listedLines (a .dump) (itemsOf (l .i + 1) (a .words .now))) _ (a .out .now) (sym (e .0))
+      length-over _ (listedLines (a .dump) (itemsOf (l .i + 1) (a .words .now))) _ (a .out .now) (sym (e .0))
           (omega (arith, start .pre .2, t .loop-test .taken, m, e .0)) (e .1),
       e .1,
     )
