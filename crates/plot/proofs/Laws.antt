@@ -3,9 +3,9 @@
 use mathlib.Core.Bool.{Bool, true, false, and-false, and-eq-true-iff, not-eq-not}
 use mathlib.Core.Path.{_≡_, sym, ap, subst⁻¹, _∙_}
 use mathlib.Core.Logic.{inl, inr}
-use Prim.Native.Nat.{ℕ, _+_, _*_, _/_, _%_, _^_, _≤_, _<_, max}
-use native.Mathlib.Nat.{le-of-lt, lt-of-le-of-lt, mul-le-mul-left, mul-lt-mul-of-pos-right, mul-comm, mul-assoc}
-use native.Mathlib.Nat.{div-le-of-le-mul, div-zero, div-mul-le-self, lt-div-mul-add, mul-add-div, mod-add-div, div-lt-iff-lt-mul}
+use Prim.Native.Nat.{ℕ, _+_, _*_, _/_, _^_, _≤_, _<_, max}
+use native.Mathlib.Nat.{le-of-lt, lt-of-le-of-lt, mul-le-mul-left, mul-lt-mul-of-pos-right, mul-comm}
+use native.Mathlib.Nat.{div-le-of-le-mul, div-zero, div-mul-le-self, lt-div-mul-add, div-lt-iff-lt-mul}
 use native.Mathlib.Decide.{ℕ-discrete}
 use native.Mathlib.Omega.{arith}
 use lib.Dec.{leb, ltb}
@@ -34,20 +34,9 @@ pub share-fits : {x d l : ℕ} → x < 2 ^ 32 → d ≤ l → 1 ≤ l → x * d 
 share-fits {x} {d} {l} h w p =
     rw (mul-comm l (2 ^ 32)) (lt-of-le-of-lt (mul-le-mul-left x w) (mul-lt-mul-of-pos-right h p))
 
--- A division in two steps of 16 binary digits: the high digits, and the rest of them before the low digits.
-module _ (x l : ℕ) (p : 1 ≤ l) where
-  abbrev high : ℕ
-  high = x / 65536
-
-  pub two-steps : high / l * 65536 + (high % l * 65536 + x % 65536) / l ≡ x / l
-  two-steps =
-      let q : ℕ = high / l in
-      let e : l * (q * 65536) + (high % l * 65536 + x % 65536) ≡ x =
-      omega (arith, mul-assoc l q 65536, mod-add-div high l) in
-      sym (mul-add-div p (q * 65536) (high % l * 65536 + x % 65536)) ∙ ap (λ n. n / l) e
-
-  pub quotient-below : x < l * 2 ^ 32 → x / l < 2 ^ 32
-  quotient-below h = div-lt-iff-lt-mul p .1 (rw (mul-comm (2 ^ 32) l) h)
+-- A number below l × 2^32 has a quotient by l of at most 32 bits.
+pub quotient-below : (x l : ℕ) → 1 ≤ l → x < l * 2 ^ 32 → x / l < 2 ^ 32
+quotient-below x l p h = div-lt-iff-lt-mul p .1 (rw (mul-comm (2 ^ 32) l) h)
 
 -- The limits of lease days, a last day and today.
 module _ (day : ℕ) where

@@ -91,14 +91,14 @@ fn at_least_one(n: u32) -> u32
     n
 }
 
-// A quotient that fits 32 bits, by two divisions of 32-bit numbers, 16 digits each, which take less time than one of 64 bits.
+// A quotient that fits 32 bits. The dividend is raised by 2^32 times the divisor, so that it never fits 32 bits: the test for that which the
+// compiler puts before a division of 64 bits always comes out the same way, and no branch depends on the record.
 fn quotient(product: u64, by: u32) -> u32
     requires { ⌜ (1 ≤ by) × (by < 2 ^ 16) × (product < by * 2 ^ 32) ⌝ }
     ensures { λ r. ⌜ r ≡ product / by ⌝ }
 {
-    let high = (product / 65536) as u32;
-    let rest = (high % by) * 65536 + (product % 65536) as u32;
-    (high / by) * 65536 + rest / by
+    let wide = by as u64;
+    ((wide * 4294967296 + product) / wide - 4294967296) as u32
 }
 
 // What is left of the price of a lawful term: price × days left / lease days, rounded down, the product in 64 bits.

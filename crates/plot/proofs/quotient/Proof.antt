@@ -1,41 +1,34 @@
--- `plot::quotient` meets its contract: what is left of the high digits is below the divisor, so with the low digits it has at most 32, and
--- the two quotients together are the whole one.
+-- `plot::quotient` meets its contract: the quotient is raised by 2^32, as the dividend is by that times the divisor.
 use borrow.Author.Needs.{needs}
-use Prim.Native.Nat.{_/_, _%_, _<_, _^_}
-use native.Mathlib.Nat.{mod-lt}
+use mathlib.Core.Path.{_≡_}
+use Prim.Native.Nat.{_+_, _*_, _/_, _<_, _^_}
+use native.Mathlib.Nat.{mul-add-div}
 use native.Mathlib.Omega.{arith}
-use Rattle.plot.proofs.Laws.{two-steps, quotient-below}
+use Rattle.plot.proofs.Laws.{quotient-below}
 use Rattle.plot.proofs.quotient.Statement.{statement}
 use Rattle.plot.proofs.quotient.Tie as tie
 
--- the high digits have at most 32, their rest is below the divisor, and the quotient has at most 32
 module _ (c : tie.Start) where
-  rest-below : c .args .product / 65536 % c .args .by < 2 ^ 16
-  rest-below = omega (arith, mod-lt (c .args .product / 65536) (c .pre .0), c .pre .1)
+  raised : (c .args .by * 4294967296 + c .args .product) / c .args .by ≡ 4294967296 + c .args .product / c .args .by
+  raised = mul-add-div (c .pre .0) 4294967296 (c .args .product)
 
   whole : c .args .product / c .args .by < 2 ^ 32
   whole = quotient-below _ _ (c .pre .0) (c .pre .2)
 
-cast-high : tie.Need-cast-high
-cast-high c = record { fits = omega (arith, c .pre .2, c .pre .1) }
-
-mul-rest : tie.Need-mul-rest
-mul-rest c = record { fits = omega (arith, rest-below c) }
-
-add-rest : tie.Need-add-rest
-add-rest c = record { fits = omega (arith, rest-below c) }
-
 mul-result : tie.Need-mul-result
-mul-result c = record { fits = omega (arith, whole c, two-steps (c .args .product) (c .args .by) (c .pre .0)) }
+mul-result c = record { fits = omega (arith, c .pre .1) }
 
 add-result : tie.Need-add-result
-add-result c = record { fits = omega (arith, whole c, two-steps (c .args .product) (c .args .by) (c .pre .0)) }
+add-result c = record { fits = omega (arith, c .pre .1, c .pre .2) }
+
+sub-result : tie.Need-sub-result
+sub-result c = omega (arith, raised c)
+
+cast-result : tie.Need-cast-result
+cast-result c = record { fits = omega (arith, raised c, whole c) }
 
 returns : tie.Need-returns
-returns c = two-steps (c .args .product) (c .args .by) (c .pre .0)
+returns c = omega (arith, raised c)
 
 pub quotient-spec : {M : Type 1} → statement M
-quotient-spec =
-    tie.close
-    (tie.spec cast-high (λ c. search needs) mul-rest (λ c. search needs) add-rest (λ c. search needs) mul-result (λ c. search needs)
-    add-result returns)
+quotient-spec = tie.close (tie.spec mul-result add-result (λ c. search needs) sub-result cast-result returns)
