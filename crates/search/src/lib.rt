@@ -13,7 +13,7 @@ ghost use Rattle.node.specs.Node.{depthWord, nodeRule};
 ghost use Rattle.page.specs.Page.{pageRule, Lent, Filled};
 ghost use Rattle.search.specs.Descent.{soundNode, TerminalNode, stepOf, lost, descent, terminal, ownVisit};
 ghost use Rattle.search.specs.Find.{reply, soughtReply, soundPage, inPage, findOf, findReply};
-ghost use Rattle.search.specs.Next.{firstPointer, runAfter, runBehind, linked, onward, hop, reach, nextOf, nextReply};
+ghost use Rattle.search.specs.Next.{firstPointer, runAfter, runBehind, linked, pointerFrom, onward, reach, nextOf, nextReply};
 ghost use Rattle.search.specs.declared.Reached.the-variants.{Broken};
 ghost use Rattle.search.specs.declared.Hop.the-variants.{Ends};
 ghost use Rattle.search.specs.Span.{noSpan, firstRow, reachedRows, reachedSpan, spanAt, soughtOf, GoesBehind};
@@ -404,18 +404,13 @@ fn go_on(store: &[u32], f: Format, head: Head, n: u32, left: u32, checked: bool)
     Hop::On(m)
 }
 
-// What node n leads to from entry i on, with so many links left.
-fn hop_from(store: &[u32], f: Format, head: Head, n: u32, i: usize, left: u32, checked: bool) -> Hop
-    requires { ⌜ (Under f (now store) head) × (TerminalNode head (now store) n) × (i < 2 ^ 40)
-        × (checked ≡ false → hop (now store) head n i left ≡ Ends Broken → ⊥) ⌝ }
-    ensures { λ r. ⌜ r ≡ hop (now (store .entry)) head n i left ⌝ }
+// The first pointer of node n that is not null, from entry i on; 0 if there is none.
+fn pointer_from(store: &[u32], f: Format, head: Head, n: u32, i: usize) -> u32
+    requires { ⌜ (Under f (now store) head) × (TerminalNode head (now store) n) × (i < 2 ^ 40) ⌝ }
+    ensures { λ r. ⌜ r ≡ pointerFrom (now (store .entry)) head n i ⌝ }
 {
     let node = store::node_at(store, f, head, n);
-    let p = first_pointer(node, node[0], i);
-    if p != 0 {
-        return Hop::Ends(Reached::Page(p));
-    }
-    go_on(store, f, head, n, left, checked)
+    first_pointer(node, node[0], i)
 }
 
 // The page that follows an entry of a node, along the forward links.
@@ -436,7 +431,11 @@ fn reach_from(
     let mut turns = head.nodesTaken + 1;
     while turns > 0 {
         turns -= 1;
-        let hop = hop_from(store, f, head, n, i, turns, checked);
+        let p = pointer_from(store, f, head, n, i);
+        if p != 0 {
+            return Reached::Page(p);
+        }
+        let hop = go_on(store, f, head, n, turns, checked);
         match hop {
             Hop::Ends(a) => {
                 return a;
