@@ -14,10 +14,10 @@ use Rattle.store.specs.Format.{width}
 use Rattle.store.specs.Head.{largestCapacity, nodeWords, nodeStart, nodeAt, InUse, Under}
 use Rattle.store.proofs.HeadLaws.{levels-within}
 use Rattle.store.proofs.Places.{under-limits, under-counts, node-length}
-use Rattle.node.specs.Node.{depthWord, nodeRule, entryNumber}
+use Rattle.node.specs.Node.{depthWord, linkRule, pointerHigh, nodeRule, entryNumber}
 use Rattle.node.proofs.EntryNumber.{entry-below}
 use Rattle.node.proofs.InPlace.{rule-in-place, depth-in-place, entry-in-place}
-use Rattle.search.specs.Descent.{entryVisit, soundNode, ownVisit}
+use Rattle.search.specs.Descent.{entryVisit, limitsOf, soundNode, ownVisit}
 
 -- the limits that a test of a node asks
 pub under-node : {f : Format} {s : List ℕ} {h : Head} → Under f s h
@@ -55,11 +55,26 @@ module _ {f : Format} {s : List ℕ} {h : Head} (u : Under f s h) {n : ℕ} (i :
   pub block-depth : getD nd 0 0 ≡ depthWord s (nodeStart h n)
   block-depth = ap (λ ws. getD ws 0 0) e ∙ depth-in-place u i
 
-  -- what is asked of a block whose rule is to be tested
-  pub block-tested : (level : ℕ) (b : Bool) → (b ≡ false → nodeRule h s (nodeStart h n) level ≡ true)
-      → (h .theta ≤ 6) × (h .nodesTaken ≤ 4096) × (h .pagesTaken ≤ 4096) × (length nd ≡ nodeWords (h .theta))
-      × (b ≡ false → nodeRule h nd 0 level ≡ true)
-  block-tested level b t = let l = under-node u in (l .0, l .1, l .2, block-long, λ p. block-rule level ∙ t p)
+  -- the limits of the head are enough for its rule
+  module _ {l : Head} (el : l ≡ limitsOf h) (level : ℕ) where
+    pub limits-rule : nodeRule l nd 0 level ≡ nodeRule h nd 0 level
+    unfolding limitsOf nodeRule linkRule pointerHigh
+    limits-rule = ap (λ x. nodeRule x nd 0 level) el
+
+    -- what is asked of a block whose rule is to be tested
+    pub block-tested : (b : Bool) → (b ≡ false → nodeRule h s (nodeStart h n) level ≡ true)
+        → (l .theta ≤ 6) × (l .nodesTaken ≤ 4096) × (l .pagesTaken ≤ 4096) × (length nd ≡ nodeWords (l .theta))
+        × (b ≡ false → nodeRule l nd 0 level ≡ true)
+    unfolding limitsOf
+    block-tested b t =
+        let q = under-node u in
+        let is : l .theta ≡ h .theta = ap (λ x. x .theta) el in (
+          omega (arith, is, q .0),
+          omega (arith, ap (λ x. x .nodesTaken) el, q .1),
+          omega (arith, ap (λ x. x .pagesTaken) el, q .2),
+          block-long ∙ ap nodeWords (sym is),
+          λ p. limits-rule ∙ block-rule level ∙ t p,
+        )
 
   module _ (level used : ℕ) where
     pub block-broken : nodeRule h nd 0 level ≡ false → false ≡ soundNode f s h level n used

@@ -11,7 +11,7 @@ ghost use Rattle.store.specs.Format.{width, words};
 ghost use Rattle.store.specs.Head.{largestCapacity, nodeWords, nodeStart, pageAt, InUse, Under};
 ghost use Rattle.node.specs.Node.{depthWord, nodeRule};
 ghost use Rattle.page.specs.Page.{pageRule, Lent, Filled};
-ghost use Rattle.search.specs.Descent.{soundNode, TerminalNode, stepOf, lost, descent, terminal, ownVisit};
+ghost use Rattle.search.specs.Descent.{limitsOf, soundNode, TerminalNode, stepOf, lost, descent, terminal, ownVisit};
 ghost use Rattle.search.specs.Find.{reply, soughtReply, soundPage, inPage, findOf, findReply};
 ghost use Rattle.search.specs.Next.{firstPointer, runAfter, runBehind, linked, pointerFrom, onward, reach, nextOf, nextReply};
 ghost use Rattle.search.specs.declared.Reached.the-variants.{Broken};
@@ -89,6 +89,23 @@ pub enum FindAnswer {
     DamageMet,
 }
 
+// The numbers of a head that the node rule asks for. A head that is handed on as a whole is copied by wider words than it was stored by, and
+// the copy waits for them.
+fn limits(head: Head) -> Head
+    ensures { λ r. ⌜ r ≡ limitsOf head ⌝ }
+{
+    Head {
+        theta: head.theta,
+        capacity: 0,
+        nodeBlocks: 0,
+        pageBlocks: 0,
+        nodesTaken: head.nodesTaken,
+        pagesTaken: head.pagesTaken,
+        root: 0,
+        levels: 0,
+    }
+}
+
 // Whether a node block keeps the rule of a visited node of this level.
 fn node_passes(node: &[u32], head: Head, level: u32, checked: bool) -> bool
     requires { ⌜ (head .theta ≤ 6) × (head .nodesTaken ≤ 4096) × (head .pagesTaken ≤ 4096)
@@ -116,7 +133,7 @@ fn passes(
     ensures { λ r. ⌜ r ≡ soundNode f (now (store .entry)) head level n used ⌝ }
 {
     let node = store::node_at(store, f, head, n);
-    if !node_passes(node, head, level, checked) {
+    if !node_passes(node, limits(head), level, checked) {
         return false;
     }
     used + node[0] <= store::width_of(f)
@@ -378,7 +395,7 @@ fn is_linked(store: &[u32], f: Format, head: Head, m: u32, n: u32, checked: bool
     ensures { λ r. ⌜ r ≡ linked head (now (store .entry)) m n ⌝ }
 {
     let node = store::node_at(store, f, head, m);
-    if !node_passes(node, head, 1, checked) {
+    if !node_passes(node, limits(head), 1, checked) {
         return false;
     }
     node[2] == n
@@ -623,7 +640,12 @@ pub fn span_at(
             };
         }
     }
-    span_behind(store, f, head, strict, key, t, behind, checked)
+    let own = Terminal {
+        ok: t.ok,
+        node: t.node,
+        used: t.used,
+    };
+    span_behind(store, f, head, strict, key, own, behind, checked)
 }
 
 // The first record of a span.
