@@ -228,18 +228,20 @@ GoesOn f s h r =
     (i : ℕ) → r .from ≤ i → i + 1 < r .to
     → nextOf f s h true (keyAt f (pageAt f s h (r .page)) i) ≡ Record (itemAt f (pageAt f s h (r .page)) (i + 1))
 
+-- P holds of the rows from number i on of the page to which the key x leads, whose terminal node is t
+abbrev OfRows : Format → List ℕ → Head → (Span → Type 0) → ℕ → ℕ → Terminal → Type 0
+OfRows f s h P x i t =
+    let v = ownVisit f s h x (t .node) (t .used) in
+    let pg = pageAt f s h (v .pointer) in
+    t .ok ≡ true → soundPage f h pg x (t .used + v .depth) ≡ true → i < count pg → P (rowsFrom f s h (t .node) (t .used) v i)
+
 -- what holds of each kind of span holds of every one: of none, of a first row that stands alone, and of the rows of a page to which a key x
 -- leads whose terminal node is that of k
 module _ (f : Format) (s : List ℕ) (h : Head) (strict : Bool) (k : ℕ) (P : Span → Type 0) (none : (b : Bool) → P (noSpan b))
     (alone :
     (p : ℕ) → pageRule f (h .capacity) (pageAt f s h p) ≡ true
     → let t = terminal f s h k in t .ok ≡ true → P (firstRow (t .node) (t .used) p (keyAt f (pageAt f s h p) 0)))
-    (rows :
-    (x i : ℕ) → terminal f s h x ≡ terminal f s h k
-    → let t = terminal f s h x in
-    let v = ownVisit f s h x (t .node) (t .used) in
-    let pg = pageAt f s h (v .pointer) in
-    t .ok ≡ true → soundPage f h pg x (t .used + v .depth) ≡ true → i < count pg → P (rowsFrom f s h (t .node) (t .used) v i)) where
+    (rows : (x i : ℕ) → terminal f s h x ≡ terminal f s h k → OfRows f s h P x i (terminal f s h x)) where
   abbrev there : Terminal
   there = terminal f s h k
 
@@ -248,19 +250,6 @@ module _ (f : Format) (s : List ℕ) (h : Head) (strict : Bool) (k : ℕ) (P : S
 
   abbrev leaf : List ℕ
   leaf = pageAt f s h (entry .pointer)
-
-  -- the rows where the terminal node of x is known as t
-  rows-at : (x i : ℕ) (t : Terminal) → terminal f s h x ≡ t → t ≡ there
-      → let v = ownVisit f s h x (t .node) (t .used) in
-      let pg = pageAt f s h (v .pointer) in
-      t .ok ≡ true → soundPage f h pg x (t .used + v .depth) ≡ true → i < count pg → P (rowsFrom f s h (t .node) (t .used) v i)
-  rows-at x i t e =
-      subst
-      (λ t. t ≡ there
-      → let v = ownVisit f s h x (t .node) (t .used) in
-      let pg = pageAt f s h (v .pointer) in
-      t .ok ≡ true → soundPage f h pg x (t .used + v .depth) ≡ true → i < count pg → P (rowsFrom f s h (t .node) (t .used) v i)) e
-      (rows x i)
 
   reached-rows : there .ok ≡ true → (p : ℕ) → pageRule f (h .capacity) (pageAt f s h p) ≡ true
       → P (reachedRows f s h k (there .node) (there .used) p)
@@ -272,9 +261,9 @@ module _ (f : Format) (s : List ℕ) (h : Head) (strict : Bool) (k : ℕ) (P : S
       (λ b.
       let x : ℕ = keyAt f (pageAt f s h p) 0 in
       let c = back-facts f s h k n u p b in
+      let e = terminal-same f s h k x o (c .0) in
       subst P (sym (rows-all f s h k n u p b))
-      (rows-at x 0 there (terminal-same f s h k x o (c .0)) refl o (rw (c .1, t, c .2))
-      (rw (c .1) (rule-facts f (h .capacity) (pageAt f s h p) t .some))))
+      (subst (OfRows f s h P x 0) e (rows x 0 e) o (rw (c .1, t, c .2)) (rw (c .1) (rule-facts f (h .capacity) (pageAt f s h p) t .some))))
       (λ b. subst P (sym (rows-one f s h k n u p b)) (alone p t o))
 
   page-kind : there .ok ≡ true → (p : ℕ) → P (reachedSpan f s h strict k (there .node) (there .used) (Page p))
