@@ -8,24 +8,24 @@ use mathlib.Core.Path.{_≡_, refl, sym, ap, _∙_, subst}
 use mathlib.Core.Bool.{Bool, true, false, _&&_}
 use mathlib.Core.List.{List, [], _∷_}
 use Prim.Native.Nat.{ℕ, zero, suc, pred, _+_, _-_, _*_, _/_, _%_, _^_, _≤_, _<_}
-use native.Mathlib.Nat.{zero-add, add-sub-of-le, mod-lt, pow-zero, mul-one}
+use native.Mathlib.Nat.{zero-add, mod-lt, pow-zero, mul-one}
 use native.Mathlib.Omega.{arith}
 use native.Mathlib.Decide.{decLt}
 use lib.Dec.{leb, ltb}
 use lib.ListN.{length, drop, set}
-use lib.Pow.{pow-pos, shl-lt}
+use lib.Pow.{pow-pos}
 use lib.Seq.{getD-set-other}
 use borrow.Author.Tests.{le-leb, lt-ltb, le-ltb}
 use Rattle.lists.specs.Bits.{index}
-use Rattle.lists.proofs.BitLaws.{index-lt, index-add}
-use Rattle.lists.proofs.Tests.{greatest-le, greatest-at}
+use Rattle.lists.proofs.BitLaws.{index-lt}
+use Rattle.lists.proofs.Tests.{greatest-at}
 use Rattle.tree.specs.Trie.{Key}
 use Rattle.tree.specs.Node.{Entry}
 use Rattle.node.specs.Node.{depthWord, entryDepth, entryOf}
 use Rattle.split.specs.Round.{chosen}
 use Rattle.split.specs.Value.{Holder}
-use Rattle.split.proofs.GrowLaws.{here-low}
-use Rattle.split.specs.Block.{block, overRun, halves, number, runLength, halveRun, double, grow, halfStart, fallen, halfDepth, half}
+use Rattle.split.proofs.GrowLaws.{startOf, depthOf, index-half, half-deep, half-is, half-shallow, here-low}
+use Rattle.split.specs.Block.{block, overRun, halves, number, runLength, halveRun, double, grow, half}
 use Rattle.split.specs.Block.{lower, upper, linked, top}
 use Rattle.split.proofs.EntryLaws.{block-entry}
 use Rattle.insert.specs.Fine.{}
@@ -55,8 +55,10 @@ alike-linked ws p q =
 pub holder-alike : (θ : ℕ) (ws vs : List ℕ) (k : Key) (h : ℕ) → Alike ws vs → Holder θ ws k h → Holder θ vs k h
 holder-alike θ ws vs k h a w =
     record {
-      low = omega (arith, a .depth-same, w .low);
-      all = λ j l. omega (arith, a .depth-same, a .entry-same j, w .all j (subst (λ d. j < 2 ^ d) (a .depth-same) l));
+      shallow = record {
+        low = omega (arith, a .depth-same, w .shallow .low);
+        all = λ j l. omega (arith, a .depth-same, a .entry-same j, w .shallow .all j (subst (λ d. j < 2 ^ d) (a .depth-same) l));
+      };
       here = a .entry-same (index (depthWord vs 0) k) ∙ ap (λ d. entryDepth ws 0 (index d k)) (a .depth-same) ∙ w .here;
       left = omega (arith, a .depth-same, w .left);
     }
@@ -69,7 +71,11 @@ unfolding block
 block-holder θ H level back forward e k h low left all here =
     let at : (j : ℕ) → j < 2 ^ H → entryDepth (block θ H level back forward e) 0 j ≡ e j .0 =
     λ j l. ap (λ x. x .0) (block-entry θ H level back forward e j low l) in
-    record { low = low; all = λ j l. omega (arith, at j l, all j l); here = at (index H k) (index-lt H k) ∙ here; left = left }
+    record {
+      shallow = record { low = low; all = λ j l. omega (arith, at j l, all j l) };
+      here = at (index H k) (index-lt H k) ∙ here;
+      left = left;
+    }
 
 -- a run written over others
 over-either : (P : Entry ℕ → Type 0) (n i : ℕ) (g e : ℕ → Entry ℕ) (j : ℕ) → ((x : ℕ) → P (g x)) → P (e j) → P (overRun n i g e j)
@@ -101,24 +107,19 @@ run-holder θ ws k h a c w room =
     let n : ℕ = runLength ws i in
     let new : (x : ℕ) → halves n (entryDepth ws 0 i) a c x .0 ≡ suc h =
     λ x. halves-depth n (entryDepth ws 0 i) a c x ∙ ap suc (w .here) in
-    block-holder θ (depthWord ws 0) _ _ _ _ k (suc h) (w .low) (w .left)
+    block-holder θ (depthWord ws 0) _ _ _ _ k (suc h) (w .shallow .low) (w .left)
     (λ j l.
     over-either (λ x. x .0 ≤ depthWord ws 0) n i (halves n (entryDepth ws 0 i) a c) (entryOf ws 0) j (λ x. omega (arith, new x))
-    (w .all j l))
+    (w .shallow .all j l))
     (over-here (λ x. x .0 ≡ suc h) n i (halves n (entryDepth ws 0 i) a c) (entryOf ws 0) (pow-pos (depthWord ws 0 - entryDepth ws 0 i)) new)
 
 -- each entry twice
-index-halved : (H : ℕ) (k : Key) → index (suc H) k / 2 ≡ index H k
-index-halved H k =
-    let e : H + 1 ≡ suc H = omega arith in
-    omega (arith, ap (λ n. index n k) e, index-add H 1 k, index-lt 1 (drop H k))
-
 double-holder : (θ : ℕ) (ws : List ℕ) (k : Key) (h : ℕ) → Holder θ ws k h → depthWord ws 0 < θ → depthWord ws 0 < length k
     → Holder θ (double θ ws) k h
 unfolding double
 double-holder θ ws k h w room left =
-    block-holder θ (suc (depthWord ws 0)) _ _ _ _ k h room left (λ j l. omega (arith, w .all (j / 2) (omega arith)))
-    (ap (entryDepth ws 0) (index-halved (depthWord ws 0) k) ∙ w .here)
+    block-holder θ (suc (depthWord ws 0)) _ _ _ _ k h room left (λ j l. omega (arith, w .shallow .all (j / 2) (omega arith)))
+    (ap (entryDepth ws 0) (index-half (depthWord ws 0) k) ∙ w .here)
 
 pub grow-holder : (θ : ℕ) (ws : List ℕ) (k : Key) (h a c : ℕ) → Holder θ ws k h → h < θ → h < length k
     → Holder θ (grow θ ws k a c) k (suc h)
@@ -134,55 +135,42 @@ grow-holder θ ws k h a c w room left =
     ]
 
 -- a half of a node of depth θ: every local depth less by one
-pred-mono : (m n : ℕ) → m ≤ n → pred m ≤ pred n
-pred-mono zero n h = omega arith
-pred-mono (suc m) zero h = absurd (omega arith)
-pred-mono (suc m) (suc n) h = omega arith
-
 module _ (θ : ℕ) (ws : List ℕ) (k : Key) (w : Holder θ ws k θ) (pos : 1 ≤ θ) where
-  pub full-depth : depthWord ws 0 ≡ θ
-  full-depth = omega (arith, w .low, here-low θ ws k θ w)
+  abbrev H : ℕ
+  H = depthWord ws 0
 
-  fallen-low : (b : Bool) (j : ℕ) → j < 2 ^ pred (depthWord ws 0) → fallen ws b j .0 ≤ pred (depthWord ws 0)
-  fallen-low b j l = pred-mono (entryDepth ws 0 (halfStart ws b + j)) (depthWord ws 0) (w .all (halfStart ws b + j) (inside b))
-    where
-      twice : 2 ^ depthWord ws 0 ≡ 2 ^ pred (depthWord ws 0) + 2 ^ pred (depthWord ws 0)
-      twice = go (depthWord ws 0) (omega (arith, full-depth))
-        where
-          go : (H : ℕ) → 1 ≤ H → 2 ^ H ≡ 2 ^ pred H + 2 ^ pred H
-          go zero p = absurd (omega arith)
-          go (suc H) p = omega arith
+  pub full-depth : H ≡ θ
+  full-depth = omega (arith, w .shallow .low, here-low θ ws k θ w)
 
-      inside : (b : Bool) → halfStart ws b + j < 2 ^ depthWord ws 0
-      inside false = omega (arith, twice)
-      inside true = omega (arith, twice)
+  some : 1 ≤ H
+  some = omega (arith, full-depth)
 
-  shrunk-low : (b : Bool) → halfDepth ws b ≤ pred (depthWord ws 0)
-  shrunk-low b = greatest-le (2 ^ pred (depthWord ws 0)) (λ j. fallen ws b j .0) (pred (depthWord ws 0)) (fallen-low b)
-
-  half-entry : (b : Bool) (j : ℕ) → j < 2 ^ halfDepth ws b
-      → fallen ws b (j * 2 ^ (pred (depthWord ws 0) - halfDepth ws b)) .0 ≤ halfDepth ws b
-  half-entry b j l =
-      let H : ℕ = pred (depthWord ws 0) in
-      let G : ℕ = halfDepth ws b in
-      greatest-at (2 ^ H) (λ i. fallen ws b i .0) (j * 2 ^ (H - G)) (rw (add-sub-of-le (shrunk-low b)) at (shl-lt G (H - G) l))
-
-  -- the half that the key is in, by the numbers of its entries
-  half-at : (b : Bool) (j : Key) → suc (length j) ≡ length k
-      → index (depthWord ws 0) k ≡ halfStart ws b + index (pred (depthWord ws 0)) j
-      → Holder θ (half θ ws b) j (pred θ)
-  unfolding half
+  -- the half that the key is in, by the numbers of its entries: its own is among the deepest, so the half is one less deep
+  half-at : (b : Bool) (j : Key) → suc (length j) ≡ length k → index H k ≡ startOf H b + index (pred H) j → Holder θ (half θ ws b) j (pred θ)
   half-at b j long e =
-      let H : ℕ = pred (depthWord ws 0) in
-      let G : ℕ = halfDepth ws b in
-      let own : fallen ws b (index H j) .0 ≡ pred θ = ap (λ i. pred (entryDepth ws 0 i)) (sym e) ∙ ap pred (w .here) in
-      let same : G ≡ H =
-      omega (arith, shrunk-low b, greatest-at (2 ^ H) (λ i. fallen ws b i .0) (index H j) (index-lt H j), own, full-depth) in
-      let none : H - G ≡ 0 = omega arith in
-      let at : index G j * 2 ^ (H - G) ≡ index H j =
-      ap (λ n. index G j * 2 ^ n) none ∙ ap (λ n. index G j * n) (pow-zero 2) ∙ mul-one (index G j) ∙ ap (λ n. index n j) same in
-      block-holder θ G _ _ _ _ j (pred θ) (omega (arith, shrunk-low b, full-depth)) (omega (arith, shrunk-low b, w .left)) (half-entry b)
-      (ap (λ i. fallen ws b i .0) at ∙ own)
+      let own : pred (entryDepth ws 0 (startOf H b + index (pred H) j)) ≡ pred θ =
+      ap (λ i. pred (entryDepth ws 0 i)) (sym e) ∙ ap pred (w .here) in
+      let r = half-is θ ws some (w .shallow) b in
+      let K : ℕ = depthOf H (entryOf ws 0) b in
+      let same : K ≡ pred H =
+      omega (
+        arith,
+        half-deep θ ws some (w .shallow) b,
+        greatest-at (2 ^ pred H) (λ i. pred (entryDepth ws 0 (startOf H b + i))) (index (pred H) j) (index-lt (pred H) j),
+        own,
+        full-depth,
+      ) in
+      let none : pred H - K ≡ 0 = omega arith in
+      let at : index K j * 2 ^ (pred H - K) ≡ index (pred H) j =
+      ap (λ n. index K j * 2 ^ n) none ∙ ap (λ n. index K j * n) (pow-zero 2) ∙ mul-one (index K j) ∙ ap (λ n. index n j) same in
+      record {
+        shallow = half-shallow θ ws some (w .shallow) b;
+        here =
+            ap (λ d. entryDepth (half θ ws b) 0 (index d j)) (r .depth-is)
+            ∙ ap (λ x. x .0) (r .entry (index K j) (index-lt K j))
+            ∙ ap (λ i. pred (entryDepth ws 0 (startOf H b + i))) at ∙ own;
+        left = omega (arith, r .depth-is, same, w .left);
+      }
 
 -- the number of an entry, without the key's first bit
 index-false : (H : ℕ) (k : Key) → 1 ≤ H → index H (false ∷ k) ≡ 0 + index (pred H) k

@@ -135,7 +135,7 @@ module _ (f : Format) (θ : ℕ) where
       let room-t : headOf t .nodesTaken + bumpCost θ (depths path) ≤ headOf t .nodeBlocks =
       omega (arith, w .taken, w .kept .sizes-same .nodes, cost) in
       let up = climb-now f θ path k t (p .at) m (w .kept .sized) own-t in-t fits-t room-t .0 in
-      let e : p .depth ≡ θ = omega (arith, here-low θ ws (p .bits) (p .depth) (held .0), held .0 .low) in (
+      let e : p .depth ≡ θ = omega (arith, here-low θ ws (p .bits) (p .depth) (held .0), held .0 .shallow .low) in (
         split-holder θ ws pos (p .bits) a c (p .at) m (nodeOf v)
             (alike-then (lower θ ws (p .bits) a c) (nodeOf t (p .at)) (nodeOf v (p .at)) (w .lower-is)
             (alike-is (nodeOf t (p .at)) (nodeOf v (p .at))

@@ -134,7 +134,7 @@ take-needs f s ok h e more = (
 -- what is asked of a place's block, where the store's head is h
 pub reached : (f : Format) (θ : ℕ) (ws : List ℕ) (k : ℕ) (t : Step) → Holder θ ws (placeOf f k t .bits) (t .depth)
     → Reached f θ ws k (t .used)
-reached f θ ws k t w = record { low = w .low; all = w .all; here = refl; left = w .left }
+reached f θ ws k t w = record { shallow = w .shallow; here = refl; left = w .left }
 
 module _ (f : Format) (s : List ℕ) (k : ℕ) (t : Step) (y : Ready f s (placeOf f k t)) (narrow : k < 2 ^ width f) where
   limits : Limits (headOf s .theta) (headOf s .capacity) (headOf s .nodeBlocks) (headOf s .pageBlocks)
@@ -183,7 +183,7 @@ module _ (f : Format) (s : List ℕ) (k : ℕ) (t : Step) (y : Ready f s (placeO
           narrow,
           subst₂ (λ x b. Reached f x b k (t .used)) (sym (kept .sizes-same .theta)) (sym ws)
               (reached f (headOf s .theta) (nodeOf s (t .node)) k t w),
-          ap (λ b. depthWord b 0) ws ∙ omega (arith, w .low, full, here-low _ _ _ _ w) ∙ sym (kept .sizes-same .theta),
+          ap (λ b. depthWord b 0) ws ∙ omega (arith, w .shallow .low, full, here-low _ _ _ _ w) ∙ sym (kept .sizes-same .theta),
         )
 
   pub split-needs : (h : Head) (v : List ℕ) (h₀ : Head) → h ≡ headOf s → h .nodesTaken < h .nodeBlocks → h .theta ≤ t .depth

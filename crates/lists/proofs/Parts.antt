@@ -1,14 +1,15 @@
 -- Parts of a list: a list with a part replaced by a list as long keeps its other elements.
-use mathlib.Core.Path.{_≡_, refl, sym, ap, _∙_}
+use mathlib.Core.Path.{_≡_, refl, sym, ap, ap₂, _∙_}
 use mathlib.Core.List.{List, [], _∷_, _++_, map, append-assoc, append-nil}
 use Prim.Native.Nat.{ℕ, zero, suc, _+_, _-_, _≤_, _<_}
 use native.Mathlib.Nat.{add-assoc, add-zero, zero-add}
+use native.Mathlib.Numerals.{add-one}
 use native.Mathlib.Decide.{decLe}
 use native.Mathlib.Omega.{arith}
 use borrow.Author.Tests.{le-leb, lt-leb}
 use lib.ListN.{length, getD, take, drop, set, replicate, length-append, length-drop, take-append-drop, drop-of-length-le, List·getD-append}
 use lib.Seq.{length-take-le, take-append-le, drop-append-le, take-append-add, drop-append-add, take-at, drop-at, drop-drop}
-use lib.Seq.{getD-take, getD-drop, getD-append-add, set-split, take-set-le}
+use lib.Seq.{getD-take, getD-drop, getD-append-add, set-split, take-set-le, take-all, paste, paste-suc}
 use Rattle.lists.specs.Lists.{replaced, part}
 
 pub map-replicate : {A B : Type 0} (f : A → B) (n : ℕ) (x : A) → map f (replicate n x) ≡ replicate n (f x)
@@ -34,6 +35,21 @@ module _ {A : Type 0} where
   -- a list written over the front of another
   pub length-over : (n : ℕ) (ys zs xs : List A) → length ys ≡ n → n ≤ length xs → zs ≡ ys ++ drop n xs → length zs ≡ length xs
   length-over n ys zs xs e h q = ap length q ∙ length-append ys (drop n xs) ∙ rw (length-drop) (omega arith)
+
+  -- the first elements of xs copied over the front of d: after j of them, one more; and after n
+  pub copied-more : (xs d out : List A) (j : ℕ) (z : A) → out ≡ paste d 0 xs j → j < length d → j < length xs
+      → set out j (getD xs j z) ≡ paste d 0 xs (j + 1)
+  copied-more xs d out j z e l m =
+      let at : 0 + j ≡ j = zero-add j in
+      ap (λ o. set o j (getD xs j z)) e ∙ ap (λ i. set (paste d 0 xs j) i (getD xs j z)) (sym at)
+      ∙ paste-suc d 0 xs j z (omega arith) m ∙ ap (paste d 0 xs) (sym (add-one j))
+
+  pub copied-all : (xs d out : List A) (n : ℕ) → out ≡ paste d 0 xs n → out ≡ take n xs ++ drop n d
+  copied-all xs d out n e = e ∙ ap (λ i. take n xs ++ drop i d) (zero-add n)
+
+  pub copied-whole : (xs d out : List A) (n : ℕ) → out ≡ paste d 0 xs n → n ≡ length xs → length d ≡ n → out ≡ xs
+  copied-whole xs d out n e long room =
+      copied-all xs d out n e ∙ ap₂ (λ l m. l ++ m) (take-all n xs (omega arith)) (drop-of-length-le d {i = n} (omega arith)) ∙ append-nil xs
 
   -- a list from index a on, its first n elements apart
   pub part-next : (xs : List A) (a n : ℕ) → a + n ≤ length xs → drop a xs ≡ part xs a n ++ drop (a + n) xs

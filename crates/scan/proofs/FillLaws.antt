@@ -7,13 +7,13 @@ use Prim.Native.Nat.{ℕ, zero, suc, _+_, _-_, _*_, _/_, _^_, _≤_, _<_}
 use native.Mathlib.Decide.{decLt, ℕ-discrete}
 use native.Mathlib.Omega.{arith}
 use lib.ListN.{length, getD, take, drop, set, length-append, length-take, length-drop}
-use lib.Seq.{take-at, drop-at, take-length, drop-length, drop-drop, getD-drop, paste, paste-suc}
+use lib.Seq.{take-at, drop-at, take-length, drop-length, drop-drop, getD-drop, paste}
 use native.Mathlib.Nat.{mul-le-mul-right, mul-comm, le-div-iff-mul-le}
 use native.Mathlib.Numerals.{add-one}
 use borrow.Author.Tests.{lt-ltb, le-ltb}
 use Rattle.lists.specs.Lists.{part}
 use Rattle.lists.proofs.Cases.{bool-cases}
-use Rattle.lists.proofs.Parts.{part-in, length-over}
+use Rattle.lists.proofs.Parts.{part-in, length-over, copied-more, copied-all}
 use Rattle.store.specs.Head.{headOf, headRule}
 use Rattle.store.specs.declared.Format.{Format}
 use Rattle.store.specs.declared.Head.{Head}
@@ -69,23 +69,15 @@ append-at at pre X out first last o n e =
     rw (front, none, e, whole, ← drop-drop (length X) at first) (simp (append-nil, append-assoc))
 
 -- words of a page, from number a on, copied to the front of d: after j of them, one more, and all
-pub copied-more : (pg d out : List ℕ) (a j : ℕ) → out ≡ paste d 0 (drop a pg) j → j < length d → a + j < length pg
+pub words-more : (pg d out : List ℕ) (a j : ℕ) → out ≡ paste d 0 (drop a pg) j → j < length d → a + j < length pg
     → set out j (getD pg (a + j) 0) ≡ paste d 0 (drop a pg) (j + 1)
-copied-more pg d out a j e l m =
-    let z : 0 + j ≡ j = omega arith in
-    ap (λ (o : List ℕ). set o j (getD pg (a + j) 0)) e
-    ∙ ap (λ (x : ℕ). set (paste d 0 (drop a pg) j) j x) (sym (getD-drop a pg j 0))
-    ∙ ap (λ (x : ℕ). set (paste d 0 (drop a pg) j) x (getD (drop a pg) j 0)) (sym z)
-    ∙ paste-suc d 0 (drop a pg) j 0 (omega arith) (omega (arith, length-drop a pg))
-    ∙ ap (paste d 0 (drop a pg)) (sym (add-one j))
+words-more pg d out a j e l m =
+    ap (set out j) (sym (getD-drop a pg j 0)) ∙ copied-more (drop a pg) d out j 0 e l (omega (arith, length-drop a pg))
 
-pub copied-all : (pg d out : List ℕ) (a n j : ℕ) → out ≡ paste d 0 (drop a pg) j → j ≡ n → a + n ≤ length pg
+pub words-all : (pg d out : List ℕ) (a n j : ℕ) → out ≡ paste d 0 (drop a pg) j → j ≡ n → a + n ≤ length pg
     → out ≡ part pg a n ++ drop n d
-copied-all pg d out a n j e z l =
-    let y : 0 + n ≡ n = omega arith in
-    e ∙ ap (paste d 0 (drop a pg)) z
-    ∙ ap (λ (x : ℕ). take n (drop a pg) ++ drop x d) y
-    ∙ ap (λ (x : List ℕ). x ++ drop n d) (sym (part-in pg a n l))
+words-all pg d out a n j e z l =
+    copied-all (drop a pg) d out n (e ∙ ap (paste d 0 (drop a pg)) z) ∙ ap (λ x. x ++ drop n d) (sym (part-in pg a n l))
 
 pub copied-fits : (w v i n L M : ℕ) → w ≡ v → v * (i + n) < L → v * n ≤ M → (w * n ≤ M) × (1 + w * i + w * n ≤ L)
 copied-fits w v i n L M e p q = rw e (q, omega arith)

@@ -599,7 +599,8 @@ pub fn span_behind(
     reached_span(store, f, head, strict, key, t, a, checked)
 }
 
-// The records that follow a key, whose terminal node is t, in its own page or the first of the one after it.
+// The records that follow a key, whose terminal node is t, in its own page or the one after it. The node is handed on number by number, as
+// the head's limits are.
 pub fn span_at(
     store: &[u32],
     f: Format,

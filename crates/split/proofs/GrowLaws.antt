@@ -30,7 +30,7 @@ use Rattle.node.specs.Node.{depthWord, levelWord, backWord, forwardWord, entryD
 use Rattle.split.specs.Block.{block, like, overRun, halves, number, runLength, halveRun, double, grow, halfStart, fallen}
 use Rattle.split.specs.Block.{halfDepth, half, aim}
 use Rattle.split.specs.Value.{filled, Entries, parted, Shallow, Holder}
-use Rattle.split.proofs.ValueLaws.{block-ext, length-filled, filled-in, filled-below, filled-above}
+use Rattle.split.proofs.ValueLaws.{block-ext, length-filled, filled-in, filled-other}
 use Rattle.split.proofs.EntryLaws.{block-entry, over-in, over-below, over-above}
 
 -- blocks are equal by the entries in use
@@ -54,15 +54,15 @@ module _ (n i : ℕ) (g e : ℕ → Entry ℕ) (j : ℕ) where
   unfolding overRun
   over-new f same = ap {B = Entry ℕ} (λ x. elim (leb (i - i % n) j && ltb j (i - i % n + n)) [ true ↦ x | false ↦ e j ]) same
 
-  over-of : (x : Entry ℕ) → (i - i % n ≤ j → j < i - i % n + n → x ≡ g (j - (i - i % n))) → (j < i - i % n → x ≡ e j)
-      → (i - i % n + n ≤ j → x ≡ e j) → x ≡ overRun n i g e j
-  over-of x within below above =
+  over-of : (x : Entry ℕ) → (i - i % n ≤ j → j < i - i % n + n → x ≡ g (j - (i - i % n)))
+      → ((i - i % n ≤ j → i - i % n + n ≤ j) → x ≡ e j) → x ≡ overRun n i g e j
+  over-of x within outside =
       elim (decLe (i - i % n) j) [
-        | no p ↦ below (omega arith) ∙ sym (over-below n i g e j (omega arith))
+        | no p ↦ outside (λ q. absurd (p q)) ∙ sym (over-below n i g e j (omega arith))
         | yes p ↦
             elim (decLt j (i - i % n + n)) [
               | yes q ↦ within p q ∙ sym (over-in n i g e j p q)
-              | no q ↦ above (omega arith) ∙ sym (over-above n i g e j (omega arith))
+              | no q ↦ outside (λ w. omega arith) ∙ sym (over-above n i g e j (omega arith))
             ]
       ]
 
@@ -93,8 +93,7 @@ half-room H false some = omega (arith, pow-pred H some)
 half-room H true some = omega (arith, pow-pred H some)
 
 in-half : (H : ℕ) (b : Bool) (j : ℕ) → 1 ≤ H → j < 2 ^ pred H → startOf H b + j < 2 ^ H
-in-half H false j some l = omega (arith, pow-pred H some)
-in-half H true j some l = omega (arith, pow-pred H some)
+in-half H b j some l = omega (arith, half-room H b some)
 
 -- no local depth is over H, so the half is no deeper than H − 1; its entries are spread over 2^(H−1)
 module _ (H : ℕ) (e : ℕ → Entry ℕ) (some : 1 ≤ H) (low : (j : ℕ) → j < 2 ^ H → e j .0 ≤ H) (b : Bool) where
@@ -232,14 +231,15 @@ run-filled ws n i h a c j room =
     (λ l r.
     elim (decLt j (s + n / 2)) [
       | yes q ↦
-          filled-below left (s + n / 2) (h, c) (n - n / 2) j q ∙ filled-in ws s (h, a) (n / 2) j (omega arith) l q
+          filled-other left (s + n / 2) (h, c) (n - n / 2) j (λ w. absurd (omega arith)) ∙ filled-in ws s (h, a) (n / 2) j (omega arith) l q
           ∙ sym (parted-left n h a c (j - s) (omega arith))
       | no q ↦
           filled-in left (s + n / 2) (h, c) (n - n / 2) j (omega (arith, length-filled ws s (h, a) (n / 2))) (omega arith) (omega arith)
           ∙ sym (parted-right n h a c (j - s) (omega arith))
     ])
-    (λ l. filled-below left (s + n / 2) (h, c) (n - n / 2) j (omega arith) ∙ filled-below ws s (h, a) (n / 2) j l)
-    (λ l. filled-above left (s + n / 2) (h, c) (n - n / 2) j (omega arith) ∙ filled-above ws s (h, a) (n / 2) j (omega arith))
+    (λ o.
+    filled-other left (s + n / 2) (h, c) (n - n / 2) j (λ l. omega (arith, o (omega arith)))
+    ∙ filled-other ws s (h, a) (n / 2) j (λ l. omega (arith, o l)))
   where
     s : ℕ
     s = i - i % n
@@ -292,7 +292,7 @@ unfolding double
 doubled-words θ ws vs m em twice = block-same θ _ _ _ _ _ (add-one (depthWord ws 0)) (λ j l. twice .at j (omega arith))
 
 -- one bit more of a key: the two entries that one entry became
-index-half : (H : ℕ) (k : Key) → index (suc H) k / 2 ≡ index H k
+pub index-half : (H : ℕ) (k : Key) → index (suc H) k / 2 ≡ index H k
 index-half H k = omega (arith, rw (add-one H) at (index-add H 1 k), index-lt 1 (drop H k))
 
 -- these two are one run, if the entry was one
@@ -375,7 +375,7 @@ module _ (θ : ℕ) (ws : List ℕ) (some : 1 ≤ depthWord ws 0) (shallow : Sha
       ∙ ap₂ (λ y w. lowered (entryOf ws 0 (y + j * w))) es step)
       ∙ sym (half-read (plain-read ws) θ some (shallow .all) b)
 
-  half-is : ReadAs (half θ ws b) K (levelWord ws 0) (backWord ws 0) (forwardWord ws 0) (halfOf H (entryOf ws 0) b)
+  pub half-is : ReadAs (half θ ws b) K (levelWord ws 0) (backWord ws 0) (forwardWord ws 0) (halfOf H (entryOf ws 0) b)
   half-is =
       subst (λ t. ReadAs t K (levelWord ws 0) (backWord ws 0) (forwardWord ws 0) (halfOf H (entryOf ws 0) b))
       (sym (half-read (plain-read ws) θ some (shallow .all) b))
@@ -419,4 +419,4 @@ half-growable θ ws some shallow b i {vs} made long l =
 
 -- the key's depth is at most the node's
 pub here-low : (θ : ℕ) (ws : List ℕ) (k : Key) (h : ℕ) → Holder θ ws k h → h ≤ depthWord ws 0
-here-low θ ws k h w = omega (arith, w .here, w .all (index (depthWord ws 0) k) (index-lt (depthWord ws 0) k))
+here-low θ ws k h w = omega (arith, w .here, w .shallow .all (index (depthWord ws 0) k) (index-lt (depthWord ws 0) k))

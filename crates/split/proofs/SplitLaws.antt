@@ -18,7 +18,7 @@ use Rattle.node.specs.Node.{depthWord, backWord, forwardWord, entryDepth, entry
 use Rattle.node.proofs.EntryNumber.{entry-left}
 use Rattle.split.specs.Block.{block, number, halveRun, double, grow, half, lower, upper, linked}
 use Rattle.split.proofs.ValueLaws.{back-only, forward-only}
-use Rattle.split.specs.Value.{Shallow, localAt, Reached}
+use Rattle.split.specs.Value.{localAt, Reached}
 use Rattle.split.proofs.GrowLaws.{Aimable, Growable}
 
 -- the entry that a key takes, by the bits that are left
@@ -83,15 +83,12 @@ module _ (f : Format) (θ : ℕ) (ws : List ℕ) (key used : ℕ) (r : Reached f
   within = subst (λ x. x < 2 ^ depthWord ws 0) at-key (index-lt (depthWord ws 0) (bits (width f - used) key))
 
   pub reached-aimable : {vs : List ℕ} → vs ≡ ws → Aimable θ i vs
-  reached-aimable e = subst (Aimable θ i) (sym e) (long, r .low, within, omega (arith, r .all i within, r .low))
+  reached-aimable e = subst (Aimable θ i) (sym e) (long, r .shallow .low, within, omega (arith, r .shallow .all i within, r .shallow .low))
 
   pub reached-growable : localAt ws (bits (width f - used) key) < θ → {vs : List ℕ} → vs ≡ ws → Growable θ i vs
   reached-growable less e =
       let local = ap (entryDepth ws 0) at-key in
-      subst (Growable θ i) (sym e) (long, r .low, within, omega (arith, local), r .all i within)
-
-pub reached-shallow : (f : Format) (θ : ℕ) (ws : List ℕ) (key used : ℕ) → Reached f θ ws key used → Shallow θ ws
-reached-shallow f θ ws key used r = record { low = r .low; all = r .all }
+      subst (Growable θ i) (sym e) (long, r .shallow .low, within, omega (arith, local), r .shallow .all i within)
 
 -- a run halved, and a half, keep the links
 abbrev SameLinks : List ℕ → List ℕ → Type 0

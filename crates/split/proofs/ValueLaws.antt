@@ -1,6 +1,5 @@
 -- A node block's words, changed where they stand: entries set, the block settled, and its part lent from the store.
 --   spare        == the words of an array for the largest block, before it is lent
---   Front xs n f == the first n elements of xs are f 0, f 1, ..
 use mathlib.Core.Path.{_≡_, refl, sym, ap, ap₂, _∙_, subst}
 use mathlib.Core.List.{List, [], _∷_, _++_, append-nil}
 use Prim.Native.Nat.{ℕ, zero, suc, _+_, _-_, _*_, _/_, _^_, _≤_, _<_, max}
@@ -27,20 +26,6 @@ use Rattle.represent.specs.Image.{entryWords}
 use Rattle.split.specs.Block.{kept, block, halves, linked, top}
 use Rattle.split.specs.Value.{withEntry, filled, Entries}
 use Rattle.split.proofs.EntryLaws.{kept-in, kept-out, block-entries}
-
-pub record Front (xs : List ℕ) (n : ℕ) (f : ℕ → ℕ) : Type 0 where
-  pub at : (i : ℕ) → i < n → getD xs i 0 ≡ f i
-
-pub front-none : {xs : List ℕ} {f : ℕ → ℕ} → Front xs 0 f
-front-none = record { at = λ i h. absurd (omega arith) }
-
-pub front-more : {xs : List ℕ} {n : ℕ} {f : ℕ → ℕ} {x : ℕ} → Front xs n f → n < length xs → x ≡ f n → Front (set xs n x) (n + 1) f
-front-more {xs} {n} {f} {x} old h e =
-    record {
-      at = below-more (λ i. getD (set xs n x) i 0 ≡ f i) n
-          (λ i l. getD-set-other xs n i x 0 (λ q. omega arith) ∙ old .at i l)
-          (getD-set-same xs n x 0 h ∙ e);
-    }
 
 -- n steps of k from 0 on
 pub steps-within : (i n k : ℕ) → i < n → 1 ≤ k → (i * k < n * k) × (i ≤ i * k)
@@ -89,15 +74,12 @@ module _ (ws : List ℕ) (start : ℕ) (e : Entry ℕ) where
   unfolding filled
   filled-more n g = ap (λ vs. withEntry vs (start + n) e) g ∙ ap (λ m. filled ws start m e) (sym (add-one n))
 
-  pub filled-below : (n j : ℕ) → j < start → entryOf (filled ws start n e) 0 j ≡ entryOf ws 0 j
+  pub filled-other : (n j : ℕ) → (start ≤ j → start + n ≤ j) → entryOf (filled ws start n e) 0 j ≡ entryOf ws 0 j
   unfolding filled
-  filled-below zero j l = refl
-  filled-below (suc n) j l = with-other (filled ws start n e) (start + n) e j (λ q. omega arith) ∙ filled-below n j l
-
-  pub filled-above : (n j : ℕ) → start + n ≤ j → entryOf (filled ws start n e) 0 j ≡ entryOf ws 0 j
-  unfolding filled
-  filled-above zero j l = refl
-  filled-above (suc n) j l = with-other (filled ws start n e) (start + n) e j (λ q. omega arith) ∙ filled-above n j (omega arith)
+  filled-other zero j out = refl
+  filled-other (suc n) j out =
+      with-other (filled ws start n e) (start + n) e j (λ q. absurd (omega (arith, out (omega arith))))
+      ∙ filled-other n j (λ l. omega (arith, out l))
 
   pub filled-in : (n j : ℕ) → 4 + 2 * (start + n) ≤ length ws → start ≤ j → j < start + n → entryOf (filled ws start n e) 0 j ≡ e
   unfolding filled

@@ -50,8 +50,7 @@ pub record Shallow (θ : ℕ) (ws : List ℕ) : Type 0 where
   pub all : (j : ℕ) → j < 2 ^ depthWord ws 0 → entryDepth ws 0 j ≤ depthWord ws 0
 
 pub record Holder (θ : ℕ) (ws : List ℕ) (k : Key) (h : ℕ) : Type 0 where
-  pub low : depthWord ws 0 ≤ θ
-  pub all : (j : ℕ) → j < 2 ^ depthWord ws 0 → entryDepth ws 0 j ≤ depthWord ws 0
+  pub shallow : Shallow θ ws
   pub here : entryDepth ws 0 (index (depthWord ws 0) k) ≡ h
   -- "On a path, the bits used before a node and its H together are at most 32"
   pub left : depthWord ws 0 ≤ length k

@@ -7,7 +7,7 @@ use native.Mathlib.Omega.{arith}
 use lib.ListN.{length, drop, length-set}
 use lib.Seq.{paste}
 use Rattle.lists.specs.Lists.{part}
-use Rattle.scan.proofs.FillLaws.{scaled, copied-fits, copied-more, copied-all}
+use Rattle.scan.proofs.FillLaws.{scaled, copied-fits, words-more, words-all}
 use Rattle.scan.proofs.copy_rows.Statement.{statement}
 use Rattle.scan.proofs.copy_rows.Tie as tie
 
@@ -55,7 +55,7 @@ loop-again c =
       l .inv .2,
       l .inv .3,
       simp length-set (l .inv .4),
-      copied-more (a .page .now) (a .out .now) (l .out) _ (l .j) (l .inv .5) (omega (arith, l .inv .1)) (omega (arith, l .inv .2)),
+      words-more (a .page .now) (a .out .now) (l .out) _ (l .j) (l .inv .5) (omega (arith, l .inv .1)) (omega (arith, l .inv .2)),
     )
 
 same-length : tie.Need-same-length Inv-loop μ-loop
@@ -67,7 +67,7 @@ returns c =
     let a = c .before .before .before .before .before .args in
     let w = c .before .before .words-of .result in
     let e : l .j ≡ w * a .n = omega (arith, l .inv .0, c .loop-test .left) in
-    copied-all (a .page .now) (a .out .now) (l .out) (1 + w * a .i) (w * a .n) (l .j) (l .inv .5) e (l .inv .2)
+    words-all (a .page .now) (a .out .now) (l .out) (1 + w * a .i) (w * a .n) (l .j) (l .inv .5) e (l .inv .2)
     ∙ ap (λ v. part (a .page .now) (1 + v * a .i) (v * a .n) ++ drop (v * a .n) (a .out .now)) (c .before .before .words-of .ensures .0)
 
 pub copy-rows-spec : {M : Type 1} → statement M

@@ -3,21 +3,21 @@ use borrow.Author.Needs.{needs}
 use mathlib.Core.Path.{_≡_, refl, sym, _∙_}
 use Prim.Native.Nat.{_-_, _≤_}
 use native.Mathlib.Omega.{arith}
-use lib.ListN.{length, getD, length-set}
-use lib.Seq.{ext-getD}
-use Rattle.split.proofs.ValueLaws.{Front, front-none, front-more}
+use lib.ListN.{length, length-set}
+use lib.Seq.{paste}
+use Rattle.lists.proofs.Parts.{copied-more, copied-whole}
 use Rattle.split.proofs.copy.Statement.{statement}
 use Rattle.split.proofs.copy.Tie as tie
 
 abbrev Inv-loop : tie.InvT-loop
 Inv-loop part₀ words n j₀ part j =
-    (j ≤ n) × (n ≡ length words) × (length part ≡ n) × (length part₀ ≡ n) × Front part j (λ i. getD words i 0)
+    (j ≤ n) × (n ≡ length words) × (length part ≡ n) × (length part₀ ≡ n) × (part ≡ paste part₀ 0 words j)
 
 abbrev μ-loop : tie.MeasureT-loop
 μ-loop part₀ words n j₀ part j = n - j
 
 loop-holds : tie.Need-loop-holds Inv-loop μ-loop
-loop-holds c = (search needs, search needs, search needs, search needs, front-none)
+loop-holds c = (search needs, search needs, search needs, search needs, refl)
 
 loop-again : tie.Need-loop-again Inv-loop μ-loop
 loop-again c =
@@ -26,7 +26,7 @@ loop-again c =
       search needs,
       simp length-set (l .inv .2),
       search needs,
-      front-more (l .inv .4) (omega arith) refl,
+      copied-more _ _ _ (l .j) 0 (l .inv .4) (omega arith) (omega arith),
     )
 
 same-length : tie.Need-same-length Inv-loop μ-loop
@@ -35,7 +35,7 @@ same-length c = let i = c .before .loop .inv in i .2 ∙ sym (i .3)
 returns : tie.Need-returns Inv-loop μ-loop
 returns c =
     let l = c .before .loop in
-    ext-getD 0 _ _ (l .inv .2 ∙ l .inv .1) (λ i h. l .inv .4 .at i (omega arith))
+    copied-whole _ _ _ (l .j) (l .inv .4) (omega arith) (omega arith)
 
 pub copy-spec : {M : Type 1} → statement M
 copy-spec =

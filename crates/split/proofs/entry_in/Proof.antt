@@ -27,7 +27,7 @@ entry-number-requires c κs =
     let s = call (c .before) in
     let d = depth (c .before) in
     let r = s .pre .3 in
-    (omega (arith, d, reached-width _ _ _ _ _ r), omega (arith, d, r .low, s .pre .0))
+    (omega (arith, d, reached-width _ _ _ _ _ r), omega (arith, d, r .shallow .low, s .pre .0))
 
 returns : tie.Need-returns
 returns c =

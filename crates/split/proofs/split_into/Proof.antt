@@ -13,7 +13,7 @@ use Rattle.split.specs.Block.{half, grow}
 use Rattle.split.specs.Value.{Shallow}
 use Rattle.split.proofs.ValueLaws.{four-words}
 use Rattle.split.proofs.GrowLaws.{half-less, half-growable}
-use Rattle.split.proofs.SplitLaws.{entry-at, lower-clear, upper-clear, lower-set, upper-set, reached-width, reached-shallow}
+use Rattle.split.proofs.SplitLaws.{entry-at, lower-clear, upper-clear, lower-set, upper-set, reached-width}
 use Rattle.split.proofs.split_into.Statement.{statement}
 use Rattle.split.proofs.split_into.Tie as tie
 
@@ -22,7 +22,7 @@ left : (c : tie.Start) → (1 ≤ depthWord (c .args .node .now) 0) × (depthWor
 left c = (omega (arith, c .pre .0, c .pre .7), reached-width _ _ _ _ _ (c .pre .6))
 
 shallow : (c : tie.Start) → Shallow (c .args .theta) (c .args .node .now)
-shallow c = reached-shallow _ _ _ _ _ (c .pre .6)
+shallow c = c .pre .6 .shallow
 
 next : (c : tie.Start) → (c .args .used < width (c .args .f)) × (c .args .used + 1 < 2 ^ 32)
 next c = (omega (arith, left c), omega (arith, left c, width-within (c .args .f)))
@@ -46,7 +46,7 @@ fits : (s : tie.Start) (b : Bool) (vs : List ℕ) → vs ≡ half (s .args .thet
 fits s b vs made =
     let less = half-less (s .args .theta) (s .args .node .now) (left s .0) (shallow s) b in
     let e = ap (λ t. depthWord t 0) made in
-    (omega (arith, less, e, left s .1), omega (arith, less, e, s .pre .6 .low, s .pre .1))
+    (omega (arith, less, e, left s .1), omega (arith, less, e, s .pre .6 .shallow .low, s .pre .1))
 
 -- so it can grow at the entry of the key
 at-key : (s : tie.Start) (b : Bool) (vs : List ℕ) → vs ≡ half (s .args .theta) (s .args .node .now) b
