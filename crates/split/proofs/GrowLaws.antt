@@ -15,7 +15,7 @@ use native.Mathlib.Numerals.{add-one}
 use native.Mathlib.Omega.{arith}
 use native.Mathlib.Decide.{decLe, decLt}
 use lib.Dec.{leb, ltb}
-use lib.Pow.{pow-pos, ones-lt, shl-lt, shl-shr}
+use lib.Pow.{pow-pos, pow-mono, ones-lt, shl-lt, shl-shr}
 use lib.ListN.{length, drop}
 use borrow.Author.Tests.{lt-ltb, le-ltb}
 use Rattle.lists.specs.Bits.{bits, index}
@@ -29,8 +29,8 @@ use Rattle.store.specs.Head.{nodeWords}
 use Rattle.node.specs.Node.{depthWord, levelWord, backWord, forwardWord, entryDepth, entryOf}
 use Rattle.split.specs.Block.{block, like, overRun, halves, number, runLength, halveRun, double, grow, halfStart, fallen}
 use Rattle.split.specs.Block.{halfDepth, half, aim}
-use Rattle.split.specs.Value.{filled, Entries, parted, Shallow, Holder}
-use Rattle.split.proofs.ValueLaws.{block-ext, length-filled, filled-in, filled-other}
+use Rattle.split.specs.Value.{withEntries, parted, Shallow, Holder}
+use Rattle.split.proofs.ValueLaws.{block-ext, length-entries, entries-in, entries-other, entries-at}
 use Rattle.split.proofs.EntryLaws.{block-entry, over-in, over-below, over-above}
 
 -- blocks are equal by the entries in use
@@ -224,40 +224,40 @@ module _ (n h a c j : ℕ) where
 
 -- the two halves of the run of entry i filled
 run-filled : (ws : List ℕ) (n i h a c j : ℕ) → 4 + 2 * (i - i % n + n) ≤ length ws
-    → entryOf (filled (filled ws (i - i % n) (n / 2) (h, a)) (i - i % n + n / 2) (n - n / 2) (h, c)) 0 j
+    → entryOf (withEntries (withEntries ws (i - i % n) (n / 2) (λ x. (h, a))) (i - i % n + n / 2) (n - n / 2) (λ x. (h, c))) 0 j
     ≡ overRun n i (parted n h a c) (entryOf ws 0) j
 run-filled ws n i h a c j room =
     over-of n i (parted n h a c) (entryOf ws 0) j _
     (λ l r.
     elim (decLt j (s + n / 2)) [
       | yes q ↦
-          filled-other left (s + n / 2) (h, c) (n - n / 2) j (λ w. absurd (omega arith)) ∙ filled-in ws s (h, a) (n / 2) j (omega arith) l q
+          entries-other left (s + n / 2) (λ x. (h, c)) (n - n / 2) j (λ w. absurd (omega arith)) ∙ entries-in ws s (λ x. (h, a)) (n / 2) j (omega arith) l q
           ∙ sym (parted-left n h a c (j - s) (omega arith))
       | no q ↦
-          filled-in left (s + n / 2) (h, c) (n - n / 2) j (omega (arith, length-filled ws s (h, a) (n / 2))) (omega arith) (omega arith)
+          entries-in left (s + n / 2) (λ x. (h, c)) (n - n / 2) j (omega (arith, length-entries ws s (λ x. (h, a)) (n / 2))) (omega arith) (omega arith)
           ∙ sym (parted-right n h a c (j - s) (omega arith))
     ])
     (λ o.
-    filled-other left (s + n / 2) (h, c) (n - n / 2) j (λ l. omega (arith, o (omega arith)))
-    ∙ filled-other ws s (h, a) (n / 2) j (λ l. omega (arith, o l)))
+    entries-other left (s + n / 2) (λ x. (h, c)) (n - n / 2) j (λ l. omega (arith, o (omega arith)))
+    ∙ entries-other ws s (λ x. (h, a)) (n / 2) j (λ l. omega (arith, o l)))
   where
     s : ℕ
     s = i - i % n
 
     left : List ℕ
-    left = filled ws s (n / 2) (h, a)
+    left = withEntries ws s (n / 2) (λ x. (h, a))
 
 -- a node's words with the run of entry i, n entries from s on, written
 pub run-written : (θ : ℕ) (ws : List ℕ) (i n s h a c : ℕ) {one two : List ℕ} → n ≡ runLength ws i → s ≡ i - i % n
-    → 4 + 2 * (s + n) ≤ length ws → one ≡ filled ws s (n / 2) (h, a) → two ≡ filled one (s + n / 2) (n - n / 2) (h, c)
+    → 4 + 2 * (s + n) ≤ length ws → one ≡ withEntries ws s (n / 2) (λ x. (h, a)) → two ≡ withEntries one (s + n / 2) (n - n / 2) (λ x. (h, c))
     → like θ ws (depthWord ws 0) (entryOf two 0)
     ≡ like θ ws (depthWord ws 0) (overRun (runLength ws i) i (parted (runLength ws i) h a c) (entryOf ws 0))
 run-written θ ws i n s h a c {one} {two} run start room first second =
     block-same θ _ _ _ _ _ refl
     (λ j l.
     ap (λ vs. entryOf vs 0 j)
-    (second ∙ ap (λ vs. filled vs (s + n / 2) (n - n / 2) (h, c)) first
-    ∙ ap (λ x. filled (filled ws x (n / 2) (h, a)) (x + n / 2) (n - n / 2) (h, c)) start)
+    (second ∙ ap (λ vs. withEntries vs (s + n / 2) (n - n / 2) (λ x. (h, c))) first
+    ∙ ap (λ y. withEntries (withEntries ws y (n / 2) (λ x. (h, a))) (y + n / 2) (n - n / 2) (λ x. (h, c))) start)
     ∙ run-filled ws n i h a c j (omega arith)
     ∙ ap (λ m. overRun m i (parted m h a c) (entryOf ws 0) j) run)
 
@@ -286,10 +286,11 @@ module _ (θ : ℕ) (ws : List ℕ) (i : ℕ) (k : Key) (at-key : number ws k �
           elim (decLt j (n / 2)) [ yes l ↦ parted-left n h q q j l | no l ↦ parted-right n h q q j (omega arith) ]
 
 -- each entry twice
-pub doubled-words : (θ : ℕ) (ws vs : List ℕ) (m : ℕ) → m ≡ 2 ^ depthWord ws 0 → Entries vs (2 * m) (λ j. entryOf ws 0 (j / 2))
-    → like θ ws (depthWord ws 0 + 1) (entryOf vs 0) ≡ double θ ws
+pub doubled-words : (θ : ℕ) (ws : List ℕ) (m : ℕ) {vs : List ℕ} → m ≡ 2 ^ depthWord ws 0 → 4 + 4 * m ≤ length ws
+    → vs ≡ withEntries ws 0 (2 * m) (λ j. entryOf ws 0 (j / 2)) → like θ ws (depthWord ws 0 + 1) (entryOf vs 0) ≡ double θ ws
 unfolding double
-doubled-words θ ws vs m em twice = block-same θ _ _ _ _ _ (add-one (depthWord ws 0)) (λ j l. twice .at j (omega arith))
+doubled-words θ ws m em room twice =
+    block-same θ _ _ _ _ _ (add-one (depthWord ws 0)) (λ j l. entries-at ws (2 * m) _ twice (omega arith) j (omega arith))
 
 -- one bit more of a key: the two entries that one entry became
 pub index-half : (H : ℕ) (k : Key) → index (suc H) k / 2 ≡ index H k
@@ -362,16 +363,17 @@ module _ (θ : ℕ) (ws : List ℕ) (some : 1 ≤ depthWord ws 0) (shallow : Sha
   half-deep = depth-low H (entryOf ws 0) some (shallow .all) b
 
   -- n entries from s on lowered into the words l, of which every n / m-th is kept
-  pub half-words : (s n D m : ℕ) → s ≡ startOf H b → n ≡ 2 ^ pred H → D ≡ K → m ≡ 2 ^ D → (l t : List ℕ)
-      → Entries l n (λ j. lowered (entryOf ws 0 (s + j))) → Entries t m (λ j. entryOf l 0 (j * (n / m)))
-      → like θ ws D (entryOf t 0) ≡ half θ ws b
-  half-words s n D m es en eD em l t lowers thins =
+  pub half-words : (s n D m : ℕ) → s ≡ startOf H b → n ≡ 2 ^ pred H → D ≡ K → m ≡ 2 ^ D → (to : List ℕ) {l t : List ℕ}
+      → 4 + 2 * n ≤ length to → l ≡ withEntries to 0 n (λ j. lowered (entryOf ws 0 (s + j))) → length l ≡ length to
+      → t ≡ withEntries l 0 m (λ j. entryOf l 0 (j * (n / m))) → like θ ws D (entryOf t 0) ≡ half θ ws b
+  half-words s n D m es en eD em to {l} room lowers long thins =
       let mid : m ≡ 2 ^ K = em ∙ ap (λ d. 2 ^ d) eD in
       let step : n / m ≡ 2 ^ (pred H - K) = half-step (pred H) K n m half-deep en mid .0 in
+      let fewer : 4 + 2 * m ≤ length l = omega (arith, pow-mono {i = K} {j = pred H} half-deep, mid, en, long, room) in
       block-same θ _ _ _ _ _ eD
       (λ j r.
       let at : j * (n / m) < n = rw (step, en) (step-lt H (entryOf ws 0) some (shallow .all) b j r) in
-      thins .at j (omega arith) ∙ lowers .at (j * (n / m)) at
+      entries-at l m _ thins fewer j (omega arith) ∙ entries-at to n _ lowers room (j * (n / m)) at
       ∙ ap₂ (λ y w. lowered (entryOf ws 0 (y + j * w))) es step)
       ∙ sym (half-read (plain-read ws) θ some (shallow .all) b)
 

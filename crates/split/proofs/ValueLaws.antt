@@ -3,7 +3,7 @@
 use mathlib.Core.Path.{_≡_, refl, sym, ap, ap₂, _∙_, subst}
 use mathlib.Core.List.{List, [], _∷_, _++_, append-nil}
 use Prim.Native.Nat.{ℕ, zero, suc, _+_, _-_, _*_, _/_, _^_, _≤_, _<_, max}
-use native.Mathlib.Nat.{add-zero, mul-le-mul-left, mul-le-mul-right}
+use native.Mathlib.Nat.{add-zero, zero-add, mul-le-mul-left, mul-le-mul-right}
 use native.Mathlib.Decide.{decLt}
 use native.Mathlib.Numerals.{add-one}
 use native.Mathlib.Omega.{arith}
@@ -11,7 +11,7 @@ use borrow.Author.Count.{below-more}
 use lib.Pow.{pow-mono}
 use lib.ListN.{length, getD, take, drop, set, replicate, length-append, length-drop, length-set}
 use lib.ListN.{drop-of-length-le, take-append-drop}
-use lib.Seq.{length-take-le, take-set-lt, take-all, take-at, drop-at, drop-drop, getD-set-same}
+use lib.Seq.{length-take-le, take-set-lt, take-all, take-at, drop-at, drop-drop, set-comm, getD-set-same}
 use lib.Seq.{getD-set-other, getD-take, getD-drop, set-getD}
 use borrow.Rule.Slice.PartMut.{set-mid-at}
 use Rattle.lists.specs.Lists.{tab, greatest, replaced}
@@ -24,7 +24,7 @@ use Rattle.page.proofs.Flat.{set-four}
 use Rattle.node.specs.Node.{depthWord, backWord, forwardWord, entryOf}
 use Rattle.represent.specs.Image.{entryWords}
 use Rattle.split.specs.Block.{kept, block, halves, linked, top}
-use Rattle.split.specs.Value.{withEntry, filled, Entries}
+use Rattle.split.specs.Value.{withEntry, withEntries}
 use Rattle.split.proofs.EntryLaws.{kept-in, kept-out, block-entries}
 
 -- n steps of k from 0 on
@@ -60,117 +60,153 @@ with-other ws j e i apart =
     ∙ getD-set-other ws (4 + 2 * j) (5 + 2 * i) (e .0) 0 (λ q. omega arith))
 
 -- the same of several entries
-module _ (ws : List ℕ) (start : ℕ) (e : Entry ℕ) where
-  pub length-filled : (n : ℕ) → length (filled ws start n e) ≡ length ws
-  unfolding filled
-  length-filled zero = refl
-  length-filled (suc n) = length-with (filled ws start n e) (start + n) e ∙ length-filled n
+module _ (ws : List ℕ) (start : ℕ) (e : ℕ → Entry ℕ) where
+  pub length-entries : (n : ℕ) → length (withEntries ws start n e) ≡ length ws
+  unfolding withEntries
+  length-entries zero = refl
+  length-entries (suc n) = length-with (withEntries ws start n e) (start + n) (e n) ∙ length-entries n
 
-  pub filled-none : filled ws start 0 e ≡ ws
-  unfolding filled
-  filled-none = refl
+  pub entries-none : withEntries ws start 0 e ≡ ws
+  unfolding withEntries
+  entries-none = refl
 
-  pub filled-more : (n : ℕ) {vs : List ℕ} → vs ≡ filled ws start n e → withEntry vs (start + n) e ≡ filled ws start (n + 1) e
-  unfolding filled
-  filled-more n g = ap (λ vs. withEntry vs (start + n) e) g ∙ ap (λ m. filled ws start m e) (sym (add-one n))
+  pub entries-more : (n : ℕ) {vs : List ℕ} {i : ℕ} {x : Entry ℕ} → vs ≡ withEntries ws start n e → i ≡ start + n → x ≡ e n
+      → withEntry vs i x ≡ withEntries ws start (n + 1) e
+  unfolding withEntries
+  entries-more n {vs} {i} {x} g at is =
+      ap (λ v. withEntry v i x) g ∙ ap₂ (withEntry (withEntries ws start n e)) at is
+      ∙ ap (λ m. withEntries ws start m e) (sym (add-one n))
 
-  pub filled-other : (n j : ℕ) → (start ≤ j → start + n ≤ j) → entryOf (filled ws start n e) 0 j ≡ entryOf ws 0 j
-  unfolding filled
-  filled-other zero j out = refl
-  filled-other (suc n) j out =
-      with-other (filled ws start n e) (start + n) e j (λ q. absurd (omega (arith, out (omega arith))))
-      ∙ filled-other n j (λ l. omega (arith, out l))
+  pub entries-other : (n j : ℕ) → (start ≤ j → start + n ≤ j) → entryOf (withEntries ws start n e) 0 j ≡ entryOf ws 0 j
+  unfolding withEntries
+  entries-other zero j out = refl
+  entries-other (suc n) j out =
+      with-other (withEntries ws start n e) (start + n) (e n) j (λ q. absurd (omega (arith, out (omega arith))))
+      ∙ entries-other n j (λ l. omega (arith, out l))
 
-  pub filled-in : (n j : ℕ) → 4 + 2 * (start + n) ≤ length ws → start ≤ j → j < start + n → entryOf (filled ws start n e) 0 j ≡ e
-  unfolding filled
-  filled-in zero j room l r = absurd (omega arith)
-  filled-in (suc n) j room l r =
+  pub entries-in : (n j : ℕ) → 4 + 2 * (start + n) ≤ length ws → start ≤ j → j < start + n
+      → entryOf (withEntries ws start n e) 0 j ≡ e (j - start)
+  unfolding withEntries
+  entries-in zero j room l r = absurd (omega arith)
+  entries-in (suc n) j room l r =
       elim (decLt j (start + n)) [
         | yes q ↦
-            with-other (filled ws start n e) (start + n) e j (λ w. omega arith) ∙ filled-in n j (omega arith) l q
+            with-other (withEntries ws start n e) (start + n) (e n) j (λ w. omega arith) ∙ entries-in n j (omega arith) l q
         | no q ↦
             let at : j ≡ start + n = omega arith in
-            ap (entryOf (filled ws start (suc n) e) 0) at
-            ∙ with-same (filled ws start n e) (start + n) e (omega (arith, length-filled n))
+            let back : n ≡ j - start = omega arith in
+            ap (entryOf (withEntries ws start (suc n) e) 0) at
+            ∙ with-same (withEntries ws start n e) (start + n) (e n) (omega (arith, length-entries n)) ∙ ap e back
       ]
 
--- the first entries, one more of them
-pub entries-none : {ws : List ℕ} {e : ℕ → Entry ℕ} → Entries ws 0 e
-entries-none = record { at = λ j h. absurd (omega arith) }
+pub entries-at : (ws : List ℕ) (n : ℕ) (e : ℕ → Entry ℕ) {vs : List ℕ} → vs ≡ withEntries ws 0 n e → 4 + 2 * n ≤ length ws
+    → (j : ℕ) → j < n → entryOf vs 0 j ≡ e j
+entries-at ws n e g room j l =
+    let z : j - 0 ≡ j = omega arith in
+    ap (λ v. entryOf v 0 j) g ∙ entries-in ws 0 e n j (omega arith) (omega arith) (omega arith) ∙ ap e z
 
-pub entries-next : {ws vs : List ℕ} {n : ℕ} {e : ℕ → Entry ℕ} {x : Entry ℕ} → vs ≡ withEntry ws n x → Entries ws n e
-    → 5 + 2 * n < length ws → x ≡ e n → Entries vs (n + 1) e
-entries-next {ws} {vs} {n} {e} {x} new old h g =
-    record {
-      at = below-more (λ j. entryOf vs 0 j ≡ e j) n
-          (λ j l. ap (λ v. entryOf v 0 j) new ∙ with-other ws n x j (λ q. omega arith) ∙ old .at j l)
-          (ap (λ v. entryOf v 0 n) new ∙ with-same ws n x h ∙ g);
-    }
+pub entries-ext : (ws : List ℕ) (start n : ℕ) (e e′ : ℕ → Entry ℕ) → ((j : ℕ) → e j ≡ e′ j)
+    → withEntries ws start n e ≡ withEntries ws start n e′
+unfolding withEntries
+entries-ext ws start zero e e′ same = refl
+entries-ext ws start (suc n) e e′ same = ap₂ (λ v x. withEntry v (start + n) x) (entries-ext ws start n e e′ same) (same n)
 
--- entries kept, from n on: these a loop has not come to
-pub record Later (ws vs : List ℕ) (n : ℕ) : Type 0 where
-  pub at : (j : ℕ) → n ≤ j → entryOf vs 0 j ≡ entryOf ws 0 j
+-- entries are set in any order
+with-swap : (ws : List ℕ) (i j : ℕ) (e f : Entry ℕ) → (i ≡ j → ⊥) → withEntry (withEntry ws i e) j f ≡ withEntry (withEntry ws j f) i e
+unfolding withEntry
+with-swap ws i j e f apart =
+    let a : ℕ = 4 + 2 * i in
+    let b : ℕ = 4 + 2 * j in
+    let a′ : ℕ = 5 + 2 * i in
+    let b′ : ℕ = 5 + 2 * j in
+    ap (λ v. set v b′ (f .1)) (set-comm (set ws a (e .0)) a′ b (e .1) (f .0) (λ q. omega arith))
+    ∙ set-comm (set (set ws a (e .0)) b (f .0)) a′ b′ (e .1) (f .1) (λ q. apart (omega arith))
+    ∙ ap (λ v. set (set v b′ (f .1)) a′ (e .1)) (set-comm ws a b (e .0) (f .0) (λ q. apart (omega arith)))
+    ∙ ap (λ v. set v a′ (e .1)) (set-comm (set ws b (f .0)) a b′ (e .0) (f .1) (λ q. omega arith))
 
-pub later-all : {ws : List ℕ} {n : ℕ} → Later ws ws n
-later-all = record { at = λ j h. refl }
-
-pub later-next : {ws vs us : List ℕ} {n : ℕ} (x : Entry ℕ) → us ≡ withEntry vs n x → Later ws vs n → Later ws us (n + 1)
-later-next {ws} {vs} {us} {n} x new old =
-    record {
-      at = λ j h. ap (λ v. entryOf v 0 j) new ∙ with-other vs n x j (λ q. omega arith) ∙ old .at j (omega arith);
-    }
+-- so one more may come before the others
+entries-before : (ws : List ℕ) (start n : ℕ) (e : ℕ → Entry ℕ)
+    → withEntry (withEntries ws (suc start) n (λ j. e (suc j))) start (e 0) ≡ withEntries ws start (suc n) e
+unfolding withEntries
+entries-before ws start zero e = ap (λ i. withEntry ws i (e 0)) (sym (add-zero start))
+entries-before ws start (suc n) e =
+    let at : suc start + n ≡ start + suc n = omega arith in
+    with-swap (withEntries ws (suc start) n (λ j. e (suc j))) (suc start + n) start (e (suc n)) (e 0) (λ q. omega arith)
+    ∙ ap₂ (λ v i. withEntry v i (e (suc n))) (entries-before ws start n e) at
 
 -- entries spread from the top down, as far as entry j
-pub record Spread (ws vs : List ℕ) (n j : ℕ) : Type 0 where
-  pub before : (i : ℕ) → i < j → entryOf vs 0 i ≡ entryOf ws 0 i
-  pub after : (i : ℕ) → 2 * j ≤ i → i < 2 * n → entryOf vs 0 i ≡ entryOf ws 0 (i / 2)
+abbrev pub spreadFrom : List ℕ → ℕ → ℕ → List ℕ
+spreadFrom ws n j = withEntries ws (2 * j) (2 * (n - j)) (λ i. entryOf ws 0 (j + i / 2))
 
-pub spread-none : (ws : List ℕ) (n : ℕ) → Spread ws ws n n
-spread-none ws n = record { before = λ i h. refl; after = λ i h l. absurd (omega arith) }
+pub spread-none : (ws : List ℕ) (n : ℕ) → ws ≡ spreadFrom ws n n
+unfolding withEntries
+spread-none ws n =
+    let z : 2 * (n - n) ≡ 0 = omega arith in
+    sym (ap (λ m. withEntries ws (2 * n) m (λ i. entryOf ws 0 (n + i / 2))) z)
 
-spread-more : (ws vs : List ℕ) (n j : ℕ) (e : Entry ℕ) → j < n → 4 + 4 * n ≤ length vs → Spread ws vs n (suc j) → e ≡ entryOf vs 0 j
-    → Spread ws (withEntry (withEntry vs (2 * j) e) (2 * j + 1) e) n j
-spread-more ws vs n j e l room s g =
-    record {
-      before = λ i h.
-          with-other one (2 * j + 1) e i (λ q. omega arith) ∙ with-other vs (2 * j) e i (λ q. omega arith)
-          ∙ s .before i (omega arith);
-      after = λ i h r. elim (decLt i (2 * suc j)) [ yes q ↦ new i h q | no q ↦ old i (omega arith) r ];
-    }
-  where
-    one : List ℕ
-    one = withEntry vs (2 * j) e
-
-    is : e ≡ entryOf ws 0 j
-    is = g ∙ s .before j (omega arith)
-
-    old : (i : ℕ) → 2 * suc j ≤ i → i < 2 * n → entryOf (withEntry one (2 * j + 1) e) 0 i ≡ entryOf ws 0 (i / 2)
-    old i h r =
-        with-other one (2 * j + 1) e i (λ q. omega arith) ∙ with-other vs (2 * j) e i (λ q. omega arith) ∙ s .after i h r
-
-    new : (i : ℕ) → 2 * j ≤ i → i < 2 * suc j → entryOf (withEntry one (2 * j + 1) e) 0 i ≡ entryOf ws 0 (i / 2)
-    new i h r =
-        let half : j ≡ i / 2 = omega arith in
-        elim (decLt i (2 * j + 1)) [
-          | yes q ↦
-              let at : i ≡ 2 * j = omega arith in
-              with-other one (2 * j + 1) e i (λ w. omega arith) ∙ ap (entryOf one 0) at ∙ with-same vs (2 * j) e (omega arith)
-              ∙ is ∙ ap (entryOf ws 0) half
-          | no q ↦
-              let at : i ≡ 2 * j + 1 = omega arith in
-              ap (entryOf (withEntry one (2 * j + 1) e) 0) at
-              ∙ with-same one (2 * j + 1) e (omega (arith, length-with vs (2 * j) e)) ∙ is ∙ ap (entryOf ws 0) half
-        ]
-
-pub spread-turn : (ws vs : List ℕ) (n j : ℕ) (one two : List ℕ) → 1 ≤ j → j ≤ n → 4 + 4 * n ≤ length vs → Spread ws vs n j
+pub spread-turn : (ws vs : List ℕ) (n j : ℕ) (one two : List ℕ) → 1 ≤ j → j ≤ n → vs ≡ spreadFrom ws n j
     → one ≡ withEntry vs (2 * (j - 1)) (entryOf vs 0 (j - 1)) → two ≡ withEntry one (2 * (j - 1) + 1) (entryOf vs 0 (j - 1))
-    → Spread ws two n (j - 1)
-spread-turn ws vs n j one two some l room s first second =
-    let m : ℕ = j - 1 in
-    let e : j ≡ suc m = omega arith in
-    let x : Entry ℕ = entryOf vs 0 m in
-    subst (λ v. Spread ws v n m) (sym (second ∙ ap (λ v. withEntry v (2 * m + 1) x) first))
-    (spread-more ws vs n m x (omega arith) room (subst (Spread ws vs n) e s) refl)
+    → two ≡ spreadFrom ws n (j - 1)
+spread-turn ws vs n j one two some l s first second =
+    second ∙ ap (λ v. withEntry v (2 * m + 1) x) first
+    ∙ with-swap vs (2 * m) (2 * m + 1) x x (λ q. omega arith)
+    ∙ ap (λ v. withEntry (withEntry v (2 * m + 1) x) (2 * m) x) (s ∙ rest)
+    ∙ ap₂ (λ y z. withEntry (withEntry (withEntries ws (suc (suc (2 * m))) k (λ i. e (suc (suc i)))) (2 * m + 1) y) (2 * m) z) (is ∙ one-is) (is ∙ zero-is)
+    ∙ ap (λ i. withEntry (withEntry (withEntries ws (suc (suc (2 * m))) k (λ i. e (suc (suc i)))) i (e 1)) (2 * m) (e 0)) next
+    ∙ ap (λ v. withEntry v (2 * m) (e 0)) (entries-before ws (suc (2 * m)) k (λ i. e (suc i)))
+    ∙ entries-before ws (2 * m) (suc k) e
+    ∙ ap (λ c. withEntries ws (2 * m) c e) all
+  where
+    m : ℕ
+    m = j - 1
+
+    k : ℕ
+    k = 2 * (n - j)
+
+    x : Entry ℕ
+    x = entryOf vs 0 m
+
+    e : ℕ → Entry ℕ
+    e i = entryOf ws 0 (m + i / 2)
+
+    next : 2 * m + 1 ≡ suc (2 * m)
+    next = omega arith
+
+    all : suc (suc k) ≡ 2 * (n - m)
+    all = omega arith
+
+    is : x ≡ entryOf ws 0 m
+    is =
+        ap (λ v. entryOf v 0 m) s
+        ∙ entries-other ws (2 * j) (λ i. entryOf ws 0 (j + i / 2)) (2 * (n - j)) m (λ q. absurd (omega arith))
+
+    one-is : entryOf ws 0 m ≡ e 1
+    one-is = let h : m ≡ m + 1 / 2 = omega arith in ap (entryOf ws 0) h
+
+    zero-is : entryOf ws 0 m ≡ e 0
+    zero-is = let h : m ≡ m + 0 / 2 = omega arith in ap (entryOf ws 0) h
+
+    from : 2 * j ≡ suc (suc (2 * m))
+    from = omega arith
+
+    rest : spreadFrom ws n j ≡ withEntries ws (suc (suc (2 * m))) k (λ i. e (suc (suc i)))
+    rest =
+        entries-ext ws (2 * j) k (λ i. entryOf ws 0 (j + i / 2)) (λ i. e (suc (suc i)))
+        (λ i. let h : j + i / 2 ≡ m + suc (suc i) / 2 = omega arith in ap (entryOf ws 0) h)
+        ∙ ap (λ a. withEntries ws a k (λ i. e (suc (suc i)))) from
+
+pub spread-all : (ws : List ℕ) (n : ℕ) {vs : List ℕ} → vs ≡ spreadFrom ws n 0 → vs ≡ withEntries ws 0 (2 * n) (λ j. entryOf ws 0 (j / 2))
+spread-all ws n s =
+    s
+    ∙ entries-ext ws (2 * 0) (2 * (n - 0)) (λ i. entryOf ws 0 (0 + i / 2)) (λ j. entryOf ws 0 (j / 2))
+    (λ j. ap (entryOf ws 0) (zero-add (j / 2)))
+    ∙ ap₂ (λ a c. withEntries ws a c (λ j. entryOf ws 0 (j / 2))) none all
+  where
+    none : 2 * 0 ≡ 0
+    none = omega arith
+
+    all : 2 * (n - 0) ≡ 2 * n
+    all = omega arith
 
 -- a block asks its entries only below 2^H, and below 2^θ
 pub block-ext : (θ H level back forward : ℕ) (e e′ : ℕ → Entry ℕ) → ((j : ℕ) → j < 2 ^ H → j < 2 ^ θ → e j ≡ e′ j)

@@ -1,7 +1,6 @@
 -- A node block's words, changed where they stand.
 --   withEntry ws j e == the words ws with entry j set to e
---   filled ws start n e == the words ws with n entries from start on set to e
---   Entries ws n e  == the first n entries of ws are e 0, e 1, ..
+--   withEntries ws start n e == the words ws with n entries from start on set to e 0, e 1, ..
 --   parted n h a c j == entry j of a run of n entries of local depth h, of which the first half points to a, the second to c
 --   newDepth ws start i == the local depth of the entry i of a half that begins at start, less by one
 --   running ws start j  == the largest new depth among the first j entries of the half, 0 for none
@@ -27,12 +26,9 @@ use Rattle.split.specs.Block.{number}
 unfoldable pub withEntry : List ℕ → ℕ → Entry ℕ → List ℕ
 withEntry ws j e = set (set ws (4 + 2 * j) (e .0)) (5 + 2 * j) (e .1)
 
-unfoldable pub filled : List ℕ → ℕ → ℕ → Entry ℕ → List ℕ
-filled ws start zero e = ws
-filled ws start (suc n) e = withEntry (filled ws start n e) (start + n) e
-
-pub record Entries (ws : List ℕ) (n : ℕ) (e : ℕ → Entry ℕ) : Type 0 where
-  pub at : (j : ℕ) → j < n → entryOf ws 0 j ≡ e j
+unfoldable pub withEntries : List ℕ → ℕ → ℕ → (ℕ → Entry ℕ) → List ℕ
+withEntries ws start zero e = ws
+withEntries ws start (suc n) e = withEntry (withEntries ws start n e) (start + n) (e n)
 
 unfoldable pub parted : ℕ → ℕ → ℕ → ℕ → ℕ → Entry ℕ
 parted n h a c j = elim (ltb j (n / 2)) [ true ↦ (h, a) | false ↦ (h, c) ]

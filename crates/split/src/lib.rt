@@ -15,7 +15,7 @@ ghost use Rattle.store.specs.Head.{nodeWords, nodeStart, nodeAt};
 ghost use Rattle.node.specs.Node.{depthWord, backWord, forwardWord, entryDepth, entryOf};
 ghost use Rattle.split.specs.Block.{block, like, overRun, number, runLength, halveRun, double, grow, half};
 ghost use Rattle.split.specs.Block.{lower, upper, aim, linked, top};
-ghost use Rattle.split.specs.Value.{withEntry, filled, Entries, parted, running, Shallow, localAt, Reached};
+ghost use Rattle.split.specs.Value.{withEntry, withEntries, parted, running, Shallow, localAt, Reached};
 
 // Sets entry j of a node block.
 fn set_entry(part: &mut [u32], j: usize, h: u32, p: u32)
@@ -29,7 +29,7 @@ fn set_entry(part: &mut [u32], j: usize, h: u32, p: u32)
 // Sets n entries of a node block from `start` on.
 fn fill(part: &mut [u32], start: usize, n: usize, h: u32, p: u32)
     requires { ⌜ 4 + 2 * (start + n) ≤ length (now part) ⌝ }
-    ensures { λ _. ⌜ now (part .exit) ≡ filled (now (part .entry)) start n (h, p) ⌝ }
+    ensures { λ _. ⌜ now (part .exit) ≡ withEntries (now (part .entry)) start n (λ j. (h, p)) ⌝ }
 {
     let mut j: usize = 0;
     while j < n {
@@ -41,7 +41,7 @@ fn fill(part: &mut [u32], start: usize, n: usize, h: u32, p: u32)
 // Each of the first n entries twice, the last one first.
 fn spread(part: &mut [u32], n: usize)
     requires { ⌜ 4 + 4 * n ≤ length (now part) ⌝ }
-    ensures { λ _. ⌜ Entries (now (part .exit)) (2 * n) (λ j. entryOf (now (part .entry)) 0 (j / 2)) ⌝ }
+    ensures { λ _. ⌜ now (part .exit) ≡ withEntries (now (part .entry)) 0 (2 * n) (λ j. entryOf (now (part .entry)) 0 (j / 2)) ⌝ }
 {
     let mut j: usize = n;
     while 0 < j {
@@ -56,7 +56,7 @@ fn spread(part: &mut [u32], n: usize)
 // Of the first entries every step-th: n of them.
 fn thin(part: &mut [u32], step: usize, n: usize)
     requires { ⌜ (1 ≤ step) × (4 + 2 * (n * step) ≤ length (now part)) ⌝ }
-    ensures { λ _. ⌜ Entries (now (part .exit)) n (λ j. entryOf (now (part .entry)) 0 (j * step)) ⌝ }
+    ensures { λ _. ⌜ now (part .exit) ≡ withEntries (now (part .entry)) 0 n (λ j. entryOf (now (part .entry)) 0 (j * step)) ⌝ }
 {
     let mut j: usize = 0;
     while j < n {
@@ -82,7 +82,7 @@ fn one_less(x: u32) -> u32
 // value while they are copied; no half is walked again for it.
 fn lower_entries(node: &[u32], start: usize, n: usize, to: &mut [u32]) -> u32
     requires { ⌜ (4 + 2 * (start + n) ≤ length (now node)) × (4 + 2 * n ≤ length (now to)) ⌝ }
-    ensures { λ r. ⌜ Entries (now (to .exit)) n (λ j. lowered (entryOf (now (node .entry)) 0 (start + j)))
+    ensures { λ r. ⌜ (now (to .exit) ≡ withEntries (now (to .entry)) 0 n (λ j. lowered (entryOf (now (node .entry)) 0 (start + j))))
         × (r ≡ running (now (node .entry)) start n) ⌝ }
 {
     let mut largest: u32 = 0;

@@ -36,7 +36,8 @@ returns c =
     let pow = spread .before in
     let s = pow .before .before .before .before .before .before .before in
     settle .settle .ensures
-    ∙ doubled-words (s .args .theta) (s .args .part .now) _ (pow .pow2 .result) (pow .pow2 .ensures .0) (spread .spread .ensures)
+    ∙ doubled-words (s .args .theta) (s .args .part .now) (pow .pow2 .result) (pow .pow2 .ensures .0)
+    (omega (arith, long s, pow .pow2 .ensures .0)) (spread .spread .ensures)
 
 pub double-part-spec : {M : Type 1} → statement M
 double-part-spec =

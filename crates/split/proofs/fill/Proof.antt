@@ -4,20 +4,20 @@ use mathlib.Core.Path.{_≡_, refl, sym, ap, _∙_}
 use Prim.Native.Nat.{_+_, _-_, _*_, _≤_}
 use native.Mathlib.Omega.{arith}
 use lib.ListN.{length}
-use Rattle.split.specs.Value.{filled}
-use Rattle.split.proofs.ValueLaws.{filled-none, filled-more}
+use Rattle.split.specs.Value.{withEntries}
+use Rattle.split.proofs.ValueLaws.{entries-none, entries-more}
 use Rattle.split.proofs.fill.Statement.{statement}
 use Rattle.split.proofs.fill.Tie as tie
 
 abbrev Inv-loop : tie.InvT-loop
 Inv-loop part₀ start n h p j₀ part j =
-    (j ≤ n) × (4 + 2 * (start + n) ≤ length part₀) × (length part ≡ length part₀) × (part ≡ filled part₀ start j (h, p))
+    (j ≤ n) × (4 + 2 * (start + n) ≤ length part₀) × (length part ≡ length part₀) × (part ≡ withEntries part₀ start j (λ i. (h, p)))
 
 abbrev μ-loop : tie.MeasureT-loop
 μ-loop part₀ start n h p j₀ part j = n - j
 
 loop-holds : tie.Need-loop-holds Inv-loop μ-loop
-loop-holds c = (search needs, search needs, refl, sym (filled-none _ _ _))
+loop-holds c = (search needs, search needs, refl, sym (entries-none _ _ _))
 
 loop-again : tie.Need-loop-again Inv-loop μ-loop
 loop-again c =
@@ -25,7 +25,7 @@ loop-again c =
       search needs,
       search needs,
       c .before .part .given ∙ l .inv .2,
-      c .before .before .set-entry .ensures ∙ filled-more _ _ _ (l .j) (l .inv .3),
+      c .before .before .set-entry .ensures ∙ entries-more _ _ _ (l .j) (l .inv .3) refl refl,
     )
 
 same-length : tie.Need-same-length Inv-loop μ-loop
@@ -36,7 +36,7 @@ returns c =
     let l = c .before .loop in
     let a = c .before .before .before .args in
     let e : l .j ≡ a .n = omega arith in
-    l .inv .3 ∙ ap (λ k. filled (a .part .now) (a .start) k (a .h, a .p)) e
+    l .inv .3 ∙ ap (λ k. withEntries (a .part .now) (a .start) k (λ i. (a .h, a .p))) e
 
 pub fill-spec : {M : Type 1} → statement M
 fill-spec =

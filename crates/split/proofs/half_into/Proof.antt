@@ -38,13 +38,18 @@ start c =
     (λ w. w .1 ∙ ap (startOf (depthWord (a .node .now) 0)) (sym (w .0 .left)))
     (c .if1 .came)
 
+-- the other block has room for the half
+room : (c : tie.After-pow2) → 4 + 2 * c .pow2 .result ≤ length (call c .args .to .now)
+room c =
+    let s = call c in
+    omega (arith, size c, half-room (depthWord (s .args .node .now) 0) (s .args .upper) (s .pre .3), long s, s .pre .1, s .pre .2)
+
 lower-entries-requires : tie.Need-lower-entries-requires
 lower-entries-requires c κs =
     let join = c .before in
     let pow = join .before in
     let s = call pow in
-    let room = half-room (depthWord (s .args .node .now) 0) (s .args .upper) (s .pre .3) in
-    (omega (arith, start join, size pow, room, long s), omega (arith, size pow, room, long s, s .pre .1, s .pre .2))
+    (omega (arith, start join, size pow, half-room (depthWord (s .args .node .now) 0) (s .args .upper) (s .pre .3), long s), room pow)
 
 abbrev half : tie.After-lower-entries → tie.Joined1
 half c = c .before .before
@@ -82,12 +87,7 @@ step c =
 thin-requires : tie.Need-thin-requires
 thin-requires c κs =
     let pow = c .before in
-    let l = lowers pow in
-    let s = began l in
-    let room = half-room (depthWord (s .args .node .now) 0) (s .args .upper) (s .pre .3) in (
-      step pow .0,
-      omega (arith, step pow .1, size (half l .before), room, long s, s .pre .1, s .pre .2, c .before .before .before .to .given),
-    )
+    (step pow .0, omega (arith, step pow .1, room (half (lowers pow) .before), c .before .before .before .to .given))
 
 abbrev thinned : tie.After-thin → tie.After-pow22
 thinned c = c .before .before
@@ -120,7 +120,8 @@ returns c =
     settle .settle .ensures
     ∙ half-words (s .args .theta) (s .args .node .now) (s .pre .3) (s .pre .4) (s .args .upper) (join .if1 .start)
     (join .before .pow2 .result) (l .lower-entries .result) (pow .pow22 .result) (start join) (size (join .before)) (deepest l)
-    (pow .pow22 .ensures .0) _ _ (l .lower-entries .ensures .0) (thin .thin .ensures)
+    (pow .pow22 .ensures .0) (s .args .to .now) (room (join .before)) (l .lower-entries .ensures .0) (pow .before .before .to .given)
+    (thin .thin .ensures)
 
 pub half-into-spec : {M : Type 1} → statement M
 half-into-spec =

@@ -1,28 +1,28 @@
 -- The entries so far are copied, and the running value is the largest of their new depths.
 use borrow.Author.Needs.{needs}
-use mathlib.Core.Path.{_≡_, refl, ap, _∙_}
+use mathlib.Core.Path.{_≡_, refl, sym, ap, _∙_}
 use Prim.Native.Nat.{_+_, _-_, _*_, _≤_}
 use native.Mathlib.Omega.{arith}
 use lib.ListN.{length}
 use Rattle.lists.specs.Lists.{greatest}
 use Rattle.tree.specs.Node.{lowered}
 use Rattle.node.specs.Node.{entryOf, entryPointer}
-use Rattle.split.specs.Value.{Entries, running}
-use Rattle.split.proofs.ValueLaws.{entries-none, entries-next, greatest-more}
+use Rattle.split.specs.Value.{withEntries, running}
+use Rattle.split.proofs.ValueLaws.{entries-none, entries-more, greatest-more}
 use Rattle.split.proofs.lower_entries.Statement.{statement}
 use Rattle.split.proofs.lower_entries.Tie as tie
 
 abbrev Inv-loop : tie.InvT-loop
 Inv-loop node start n to₀ largest₀ j₀ to largest j =
     (j ≤ n) × (4 + 2 * (start + n) ≤ length node) × (4 + 2 * n ≤ length to₀) × (length to ≡ length to₀)
-    × Entries to j (λ i. lowered (entryOf node 0 (start + i))) × (largest ≡ running node start j)
+    × (to ≡ withEntries to₀ 0 j (λ i. lowered (entryOf node 0 (start + i)))) × (largest ≡ running node start j)
 
 abbrev μ-loop : tie.MeasureT-loop
 μ-loop node start n to₀ largest₀ j₀ to largest j = n - j
 
 loop-holds : tie.Need-loop-holds Inv-loop μ-loop
 unfolding running greatest
-loop-holds c = (search needs, search needs, search needs, refl, entries-none, refl)
+loop-holds c = (search needs, search needs, search needs, refl, sym (entries-none _ _ _), refl)
 
 loop-again : tie.Need-loop-again Inv-loop μ-loop
 unfolding running
@@ -37,7 +37,7 @@ loop-again c =
       search needs,
       search needs,
       c .before .before .to .given ∙ l .inv .3,
-      entries-next (set .set-entry .ensures) (l .inv .4) (omega arith) (ap (λ x. (x, p)) (one .one-less .ensures)),
+      set .set-entry .ensures ∙ entries-more _ _ _ (l .j) (l .inv .4) (omega arith) (ap (λ x. (x, p)) (one .one-less .ensures)),
       c .larger .ensures ∙ greatest-more _ _ (l .inv .5) (one .one-less .ensures),
     )
 
@@ -49,7 +49,7 @@ returns c =
     let l = c .before .loop in
     let a = c .before .before .before .before .args in
     let e : l .j ≡ a .n = omega arith in
-    (record { at = λ i h. l .inv .4 .at i (omega arith) }, rw e at (l .inv .5))
+    (rw e at (l .inv .4), rw e at (l .inv .5))
 
 pub lower-entries-spec : {M : Type 1} → statement M
 lower-entries-spec =

@@ -1,18 +1,18 @@
--- Every entry that is set is the one at so many steps, and the entries from there on are the old ones.
+-- Every entry that is set is the one at so many steps, which has not been set before.
 use borrow.Author.Needs.{needs}
-use mathlib.Core.Path.{_≡_, refl, _∙_}
+use mathlib.Core.Path.{_≡_, refl, sym, ap, _∙_}
 use Prim.Native.Nat.{_+_, _-_, _*_, _≤_, _<_}
 use native.Mathlib.Omega.{arith}
 use lib.ListN.{length}
 use Rattle.node.specs.Node.{entryOf}
-use Rattle.split.specs.Value.{Entries}
-use Rattle.split.proofs.ValueLaws.{entries-none, entries-next, Later, later-all, later-next, steps-within}
+use Rattle.split.specs.Value.{withEntries}
+use Rattle.split.proofs.ValueLaws.{entries-none, entries-more, entries-other, steps-within}
 use Rattle.split.proofs.thin.Statement.{statement}
 use Rattle.split.proofs.thin.Tie as tie
 
 abbrev Inv-loop : tie.InvT-loop
 Inv-loop part₀ step n j₀ part j =
-    (j ≤ n) × (length part ≡ length part₀) × Entries part j (λ i. entryOf part₀ 0 (i * step)) × Later part₀ part j
+    (j ≤ n) × (length part ≡ length part₀) × (part ≡ withEntries part₀ 0 j (λ i. entryOf part₀ 0 (i * step)))
 
 abbrev μ-loop : tie.MeasureT-loop
 μ-loop part₀ step n j₀ part j = n - j
@@ -26,7 +26,7 @@ inside c =
     (s .1, omega (arith, s .0, c .before .before .before .pre .1))
 
 loop-holds : tie.Need-loop-holds Inv-loop μ-loop
-loop-holds c = (search needs, refl, entries-none, later-all)
+loop-holds c = (search needs, refl, sym (entries-none _ _ _))
 
 mul-k : tie.Need-mul-k Inv-loop μ-loop
 mul-k c = omega (arith, inside c)
@@ -63,18 +63,24 @@ loop-again c =
     let set = c .before .before in
     let in-loop = set .before .before .before .before in
     let l = in-loop .before .loop in
+    let a = in-loop .before .before .before .args in
     let i = inside in-loop in (
       search needs,
       c .before .part .given ∙ l .inv .1,
-      entries-next (set .set-entry .ensures) (l .inv .2) (omega (arith, i)) (l .inv .3 .at _ (i .0)),
-      later-next _ (set .set-entry .ensures) (l .inv .3),
+      set .set-entry .ensures
+          ∙ entries-more _ _ _ (l .j) (l .inv .2) (omega arith)
+          (ap (λ v. entryOf v 0 (l .j * a .step)) (l .inv .2) ∙ entries-other _ _ _ (l .j) _ (λ q. omega (arith, i .0))),
     )
 
 same-length : tie.Need-same-length Inv-loop μ-loop
 same-length c = c .before .loop .inv .1
 
 returns : tie.Need-returns Inv-loop μ-loop
-returns c = record { at = λ i h. c .before .loop .inv .2 .at i (omega arith) }
+returns c =
+    let l = c .before .loop in
+    let a = c .before .before .before .args in
+    let e : l .j ≡ a .n = omega arith in
+    l .inv .2 ∙ ap (λ k. withEntries (a .part .now) 0 k (λ i. entryOf (a .part .now) 0 (i * a .step))) e
 
 pub thin-spec : {M : Type 1} → statement M
 thin-spec =
