@@ -1,7 +1,7 @@
 -- What the functions' proofs and the promises share: bounds on products and quotients, days left and balances, and the limits of labels
 -- and keys.
 use mathlib.Core.Bool.{Bool, true, false, and-false, and-eq-true-iff, not-eq-not}
-use mathlib.Core.Path.{_≡_, sym, ap, subst⁻¹, _∙_}
+use mathlib.Core.Path.{_≡_, sym, subst⁻¹, _∙_}
 use mathlib.Core.Logic.{inl, inr}
 use Prim.Native.Nat.{ℕ, _+_, _*_, _/_, _^_, _≤_, _<_, max}
 use native.Mathlib.Nat.{le-of-lt, lt-of-le-of-lt, mul-le-mul-left, mul-lt-mul-of-pos-right, mul-comm}

@@ -9,7 +9,6 @@ use native.Mathlib.Omega.{arith}
 use lib.ListN.{length, getD, take, drop, set, length-append, length-take, length-drop}
 use lib.Seq.{take-at, drop-at, take-length, drop-length, drop-drop, getD-drop, paste}
 use native.Mathlib.Nat.{mul-le-mul-right, mul-comm, le-div-iff-mul-le}
-use native.Mathlib.Numerals.{add-one}
 use borrow.Author.Tests.{lt-ltb, le-ltb}
 use Rattle.lists.specs.Lists.{part}
 use Rattle.lists.proofs.Cases.{bool-cases}

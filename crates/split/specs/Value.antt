@@ -20,7 +20,7 @@ use Rattle.lists.specs.Bits.{bits, index}
 use Rattle.tree.specs.Trie.{Key}
 use Rattle.store.specs.declared.Format.{Format}
 use Rattle.store.specs.Format.{width}
-use Rattle.node.specs.Node.{depthWord, entryDepth, entryOf}
+use Rattle.node.specs.Node.{depthWord, entryDepth}
 use Rattle.split.specs.Block.{number}
 
 unfoldable pub withEntry : List ℕ → ℕ → Entry ℕ → List ℕ

@@ -1,5 +1,5 @@
 -- The first pointer in the block is the node's.
-use mathlib.Core.Path.{_≡_, _∙_}
+use mathlib.Core.Path.{_∙_}
 use native.Mathlib.Omega.{arith}
 use Rattle.search.proofs.BlockLaws.{block-words}
 use Rattle.search.proofs.ReachLaws.{depth-small, entries-inside, pointer-is}
