@@ -33,7 +33,8 @@ uint32_t plots_set_up(uint32_t *store, size_t store_words, uint32_t theta, uint3
 
 /* Enters a record: a key other than 0, the price in pence, the lease days (1 to 36,525, or 0 for a perpetual lease, whose last day is 0),
  * the last day (0 to 99,999).
- * Reply: the key, the levels, the nodes taken, the pages taken. Returns 0, 3, 6, 9, 8 or 10. */
+ * Takes the last released block before an unused one. Reply: the key, the levels, the nodes in use, the pages in use.
+ * Returns 0, 3, 6, 9, 8 or 10. */
 uint32_t plots_enter(uint32_t *store, size_t store_words, uint32_t key, uint32_t price, uint32_t lease, uint32_t last, uint64_t *reply,
                      size_t reply_words);
 

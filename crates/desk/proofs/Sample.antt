@@ -10,6 +10,8 @@ use Rattle.tree.specs.Build.{rounds, pagesAt}
 use Rattle.tree.specs.Carry.{bump, bumpCost}
 use Rattle.store.specs.Format.{width, words}
 use Rattle.store.specs.Head.{zeros, headOf, nodeWords, pageWords, size, nodeStart, pageStart, pageAt, lawfulSizes, lawfulCounts, headRule}
+use Rattle.store.specs.Head.{releasedOf, named, lawfulReleased}
+use Rattle.store.specs.Released.{releasedNode, releasedPage, nodeForm, pageForm, chainOf, afterAll, passed, member, linkOk, chainOk, nodesOk, pagesOk, releasedNodes, releasedPages, upFrom, nodesToCome, pagesToCome, nextNode, nodeTaken, nextPage, pageTaken}
 use Rattle.store.specs.SetUp.{setUpWords, setUp}
 use Rattle.store.specs.Tests.{failing}
 use Rattle.store.specs.Head.{nodeAt}
@@ -25,7 +27,7 @@ use Rattle.search.specs.Next.{fromDescent, nextOf}
 use Rattle.scan.specs.Summary.{damage, sumFrom, summed, summaryOf}
 use Rattle.split.specs.Block.{kept, block, overRun, halves, halveRun, double, grow, half, lower, upper, aim, top}
 use Rattle.split.specs.Block as blocks
-use Rattle.split.specs.Frame.{putNode, putPage, putHead, putPagesTaken}
+use Rattle.split.specs.Frame.{putNode, putPage, putHead}
 use Rattle.split.specs.Round.{putBoth, grown, splitNode, relink, splitFirst, newRoot, climb, round, aimAt}
 use Rattle.represent.specs.Image.{pageImage, nodeImage}
 use Rattle.insert.specs.Enter.{itemsIn, ownItems, ownPasses, neighbourOk, pathIn, parted, roundOf, placed, roundsFor, planOf, wayOf}
@@ -46,7 +48,8 @@ unfolding bytes request response transcript served bit replaced part tab every g
     firstAbove unlawful noTotals worth ahead earlier updatedOf noSteps damagedNode entryVisit stepOf lost stepTaken descend descent soundPage
     inPage findOf checked findReply firstPointer runAfter visitAfter linked onward hop reach visited behind afterOwn fromDescent nextOf damage
     sumFrom summed summaryOf kept block overRun halves halveRun double grow half lower upper aim top blocks.linked putNode putPage putHead
-    putPagesTaken putBoth grown splitNode relink splitFirst newRoot climb round aimAt pageImage nodeImage nodeAt itemsIn ownItems ownPasses
+    releasedOf named lawfulReleased releasedNode releasedPage nodeForm pageForm chainOf afterAll passed member linkOk chainOk nodesOk pagesOk releasedNodes releasedPages upFrom nodesToCome pagesToCome nextNode nodeTaken nextPage pageTaken
+    putBoth grown splitNode relink splitFirst newRoot climb round aimAt pageImage nodeImage nodeAt itemsIn ownItems ownPasses
     neighbourOk pathIn parted roundOf placed roundsFor planOf wayOf undamaged enteredWords done enterOf digit skipped plain value numberOf
     isNumber byteAt column requestLine fieldOf unused requestOf wellFormed parsed fourFields summaryFields replyLine told setUpTold
     enterTold findTold summaryTold answered outcomeBytes ending

@@ -1,4 +1,5 @@
--- The tests of each call, in document 01's order. "Set-up tests 4, 5; the others 3, 7, 6, then 9, 8, 10."
+-- The tests of each call, in document 01's order. "Set-up tests 4, 5; the others 3, 7, 6, then 9, 8, 10." By M-106 enter tests the released
+-- blocks that it is to take last, under 9.
 --   sound a      == what was sought met no damage
 --   checks f c s == the tests of the call c on the words s, each with the number that refuses it
 --   Done c n     == the number of an answer where no test fails: 0; of find and next also 1, "none"
@@ -13,6 +14,7 @@ use Rattle.lists.specs.Keyed.{contains}
 use Rattle.plot.specs.Plot.{lawfulDay}
 use Rattle.store.specs.declared.Format.{Format}
 use Rattle.store.specs.Head.{headOf, headRule, lawfulSizes, size, nodesLeft, pagesLeft}
+use Rattle.store.specs.Released.{nodesOk, pagesOk}
 use Rattle.store.specs.Tests.{Test}
 use Rattle.store.specs.Format.{words}
 use Rattle.search.specs.declared.Sought.{Sought}
@@ -39,7 +41,8 @@ checks f (enter it) s =
     ∷ (unlawful f, lawfulItem f it)
     ∷ (9, undamaged f s (headOf s) (it .key) (found f s it))
     ∷ (8, not (contains keyOf (it .key) (startOf f s it .items)))
-    ∷ (10, leb (planFor f s it .nodes) (nodesLeft (headOf s)) && leb (planFor f s it .pages) (pagesLeft (headOf s)))
+    ∷ (10, leb (planFor f s it .nodes) (nodesLeft s) && leb (planFor f s it .pages) (pagesLeft s))
+    ∷ (9, nodesOk s (planFor f s it .nodes) && pagesOk f s (planFor f s it .pages))
     ∷ []
 checks f (find k) s = (3, headRule f s) ∷ (9, sound (findOf f s (headOf s) k)) ∷ []
 checks f (next k) s = (3, headRule f s) ∷ (9, sound (nextOf f s (headOf s) true k)) ∷ []

@@ -18,6 +18,7 @@ use Rattle.store.specs.declared.Format.{Format}
 use Rattle.store.specs.declared.Head.{Head}
 use Rattle.store.specs.Format.{width}
 use Rattle.store.specs.Head.{headOf}
+use Rattle.store.specs.Released.{nextNode}
 use Rattle.search.specs.declared.Step.{Step}
 use Rattle.search.specs.Descent.{noStep}
 use Rattle.split.specs.Frame.{nodeOf}
@@ -26,49 +27,49 @@ use Rattle.split.specs.Insertion.{wordStore}
 use Rattle.split.specs.Block.{grow, nodeOps}
 use Rattle.split.proofs.Climb.{climb-room, climb-full}
 use Rattle.insert.specs.Enter.{placeOf, places}
-use Rattle.insert.specs.Fine.{Climbable, Carries, Ready, Held, climbed, depths}
-use Rattle.insert.proofs.InsideWrites.{among-more, node-head, length-grow}
+use Rattle.insert.specs.Fine.{Climbable, Carries, Ready, Held, Supply, Clear, climbed, depths}
+use Rattle.insert.proofs.InsideWrites.{among-more, clear-behind, node-head, length-grow}
 use Rattle.insert.proofs.HeldRound.{Cut, split-cut, held-beside}
 use Rattle.insert.proofs.SplitCode.{split-levels}
-use Rattle.insert.proofs.RootCode.{room-left, root-levels, root-root}
+use Rattle.insert.proofs.RootCode.{some, next-room, room-left, root-levels, root-root}
 
 -- what a split leaves of a climb: its rest
-pub cut-climbable : (f : Format) (s t : List ℕ) (p : Place) (path : List Place) (a c : ℕ) → Climbable f s (p ∷ path)
-    → headOf s .theta ≤ p .depth
-    → Cut f (headOf s .theta) s t p a c → Climbable f t path
-cut-climbable f s t p path a c y full w =
+pub cut-climbable : (f : Format) (s t : List ℕ) (p : Place) (path : List Place) (a c : ℕ) (y : Climbable f s (p ∷ path)) (n : ℕ) (ns : List ℕ)
+    → y .numbers ≡ n ∷ ns → headOf s .theta ≤ p .depth
+    → Cut f (headOf s .theta) s t p a c n ns → Climbable f t path
+cut-climbable f s t p path a c y n ns e full w =
     let θ : ℕ = headOf s .theta in
     let cost = bump-full θ (p .depth) (depths path) full .1 in
     let theta : headOf t .theta ≡ θ = w .kept .sizes-same .theta in
+    let clear : Clear (n ∷ ns) (p ∷ path) = subst (λ l. Clear l (p ∷ path)) e (y .clear) in
     record {
       sized = w .kept .sized;
       among = among-more f θ (headOf s .nodesTaken) (headOf t .nodesTaken) path (omega (arith, w .taken)) (y .among .1);
-      room =
-          omega (
-            arith,
-            ap (λ x. bumpCost x (depths path)) theta,
-            w .taken,
-            w .kept .sizes-same .nodes,
-            y .room,
-            cost,
-          );
+      numbers = ns;
+      supply = w .supply;
+      enough = omega (arith, ap (λ x. bumpCost x (depths path)) theta, y .enough, ap length e, cost);
+      clear = clear-behind f θ n ns path (clear .1);
       held =
           subst (λ x. Held x t path) (sym theta)
-          (held-beside θ (p .at) (headOf s .nodesTaken) s t path (w .other-is) (y .among .1) (y .apart .0) (y .held .1));
+          (held-beside θ (p .at) (headOf s .nodesTaken) (n ∷ ns) s t path (w .other-is) (y .among .1) (clear .1) (y .apart .0) (y .held .1));
       apart = y .apart .1;
       slack = y .slack .1;
     }
 
+pub full-some : (f : Format) (s : List ℕ) (p : Place) (path : List Place) (y : Climbable f s (p ∷ path)) → headOf s .theta ≤ p .depth
+    → 1 ≤ length (y .numbers)
+full-some f s p path y full = omega (arith, y .enough, bump-full (headOf s .theta) (p .depth) (depths path) full .1)
+
 pub full-more : (f : Format) (s : List ℕ) (p : Place) (path : List Place) → Climbable f s (p ∷ path) → headOf s .theta ≤ p .depth
-    → headOf s .nodesTaken < headOf s .nodeBlocks
-full-more f s p path y full = omega (arith, y .room, bump-full (headOf s .theta) (p .depth) (depths path) full .1)
+    → (1 ≤ nextNode s) × (nextNode s ≤ headOf s .nodeBlocks)
+full-more f s p path y full = next-room f s (y .numbers) (y .sized) (y .supply) (full-some f s p path y full)
 
 pub ready-first : (f : Format) (s : List ℕ) (p : Place) (path : List Place) → Climbable f s (p ∷ path) → Ready f s p
 ready-first f s p path y =
     record {
       sized = y .sized;
       in-use = record { positive = y .among .0 .0; within = y .among .0 .1 };
-      fits = omega (arith, y .room);
+      fits = y .supply .fits;
       holder = y .held .0;
       left = omega (arith, y .slack .0);
     }
@@ -168,9 +169,10 @@ module _ (f : Format) (k : ℕ) (s₀ : List ℕ) (path₀ : List Place) (a₀ c
     pub climb-ready : Ready f s p
     climb-ready = ready-first f s p (drop (suc i) path) able
 
-    pub climb-more : h .theta ≤ t .depth → h .nodesTaken < h .nodeBlocks
+    pub climb-more : h .theta ≤ t .depth → (1 ≤ nextNode s) × (nextNode s ≤ h .nodeBlocks)
     climb-more =
-        subst (λ x. x .theta ≤ t .depth → x .nodesTaken < x .nodeBlocks) (sym (w .head-is)) (full-more f s p (drop (suc i) path) able)
+        subst (λ x. x .theta ≤ t .depth → (1 ≤ nextNode s) × (nextNode s ≤ x .nodeBlocks)) (sym (w .head-is))
+        (full-more f s p (drop (suc i) path) able)
 
     module _ (t′ : Step) where
       after : drop (suc i) (places f k n (set ts i t′)) ≡ drop (suc i) path
@@ -212,41 +214,43 @@ module _ (f : Format) (k : ℕ) (s₀ : List ℕ) (path₀ : List Place) (a₀ c
           subst (λ x. x .levels ≡ n → Stops x v) (sym (w .head-is)) (λ lv. stops-own lv v) (w .levels)
 
       -- its node splits
-      abbrev On : Head → Head → List ℕ → Type 0
-      On x h′ v =
-          x .theta ≤ t .depth → v ≡ splitNode (nodeOps (x .theta)) (wordStore f (x .theta)) s p a c → h′ ≡ headOf v
-          → placeOf f k t′ ≡ inHalf (h′ .theta) p (h′ .nodesTaken)
-          → Climbing f k s₀ path₀ a₀ c₀ n v h′ (set ts i t′) (i + 1) (t .node) (h′ .nodesTaken)
+      abbrev On : Head → Head → ℕ → List ℕ → Type 0
+      On x h′ m′ v =
+          x .theta ≤ t .depth → m′ ≡ nextNode s → v ≡ splitNode (nodeOps (x .theta)) (wordStore f (x .theta)) s p a c → h′ ≡ headOf v
+          → placeOf f k t′ ≡ inHalf (h′ .theta) p m′
+          → Climbing f k s₀ path₀ a₀ c₀ n v h′ (set ts i t′) (i + 1) (t .node) m′
 
-      on-own : (h′ : Head) (v : List ℕ) → headOf s .levels ≡ n → On (headOf s) h′ v
-      on-own h′ v lv full is own e =
+      on-own : (h′ : Head) (m′ : ℕ) (v : List ℕ) → headOf s .levels ≡ n → On (headOf s) h′ m′ v
+      on-own h′ m′ v lv full taken is own e =
           let rest : List Place = drop (suc i) path in
           let more = full-more f s p rest able full in
-          let cut = split-cut f θ s p a c (able .sized) refl (able .among .0) more in
+          let o = some (able .numbers) (full-some f s p rest able full) in
+          let cut =
+          split-cut f θ s p a c (o .n) (o .ns) (able .sized) refl (able .among .0) (subst (Supply s) (o .is) (able .supply))
+          (subst (λ l. Clear l (p ∷ rest)) (o .is) (able .clear) .0) in
           let sp : List ℕ = splitNode (nodeOps θ) (wordStore f θ) s p a c in
-          let m : ℕ = suc (headOf s .nodesTaken) in
+          let m : ℕ = nextNode s in
           let one : i + 1 ≡ suc i = omega arith in
           let split : h′ ≡ headOf sp = own ∙ ap headOf is in
           let theta : headOf sp .theta ≡ θ = cut .kept .sizes-same .theta in
-          let taken : h′ .nodesTaken ≡ m = ap (λ (x : Head). x .nodesTaken) split ∙ cut .taken in
           let left : drop (i + 1) (places f k n (set ts i t′)) ≡ rest = ap (λ j. drop j (places f k n (set ts i t′))) one ∙ after in
           let done : take (i + 1) (places f k n (set ts i t′)) ≡ take i path ++ (inHalf θ p m ∷ []) =
           ap (λ j. take j (places f k n (set ts i t′))) one ∙ before
           ∙ ap (λ q. take i path ++ (q ∷ [])) (e ∙ ap₂ (λ x y. inHalf x p y) (ap (λ (x : Head). x .theta) split ∙ theta) taken) in
           let up = climb (nodeOps θ) (wordStore f θ) θ (bits (width f) k) sp rest (p .at) m in
-          let above : climbed f v k (drop (i + 1) (places f k n (set ts i t′))) (t .node) (h′ .nodesTaken) ≡ up =
-          ap₂ (λ x q. climbed f x k q (t .node) (h′ .nodesTaken)) is left
+          let above : climbed f v k (drop (i + 1) (places f k n (set ts i t′))) (t .node) m′ ≡ up =
+          ap₂ (λ x q. climbed f x k q (t .node) m′) is left
           ∙ ap₂ (λ x y. climb (nodeOps x) (wordStore f x) x (bits (width f) k) sp rest (p .at) y) theta taken in
           let whole-is : climbed f s k (drop i path) a c ≡ record { store = up .store; path = inHalf θ p m ∷ up .path } =
           ap (λ q. climbed f s k q a c) at ∙ climb-full (nodeOps θ) (wordStore f θ) θ (bits (width f) k) s p a c rest full in
           record {
             head-is = own;
-            levels = ap (λ (x : Head). x .levels) split ∙ split-levels f s p a c climb-ready more ∙ lv;
+            levels = ap (λ (x : Head). x .levels) split ∙ split-levels f s p a c climb-ready (more .0) (more .1) ∙ lv;
             long = length-set ts i t′ ∙ w .long;
             low = omega arith;
             high = omega arith;
             top = w .top;
-            able = subst₂ (Climbable f) (sym is) (sym left) (cut-climbable f s sp p rest a c able full cut);
+            able = subst₂ (Climbable f) (sym is) (sym left) (cut-climbable f s sp p rest a c able (o .n) (o .ns) (o .is) full cut);
             store-is = ap (λ r. r .store) above ∙ ap (λ r. r .store) (sym whole-is) ∙ w .store-is;
             path-is =
                 ap₂ (λ q r. q ++ r .path) done above ∙ append-snoc (take i path) (inHalf θ p m) (up .path)
@@ -254,8 +258,8 @@ module _ (f : Format) (k : ℕ) (s₀ : List ℕ) (path₀ : List Place) (a₀ c
                 ∙ w .path-is;
           }
 
-      pub climb-on : (h′ : Head) (v : List ℕ) → On h h′ v
-      climb-on h′ v = subst (λ x. x .levels ≡ n → On x h′ v) (sym (w .head-is)) (on-own h′ v) (w .levels)
+      pub climb-on : (h′ : Head) (m′ : ℕ) (v : List ℕ) → On h h′ m′ v
+      climb-on h′ m′ v = subst (λ x. x .levels ≡ n → On x h′ m′ v) (sym (w .head-is)) (on-own h′ m′ v) (w .levels)
 
   -- no level is left
   module _ (last : n ≤ i) where
@@ -265,11 +269,11 @@ module _ (f : Format) (k : ℕ) (s₀ : List ℕ) (path₀ : List Place) (a₀ c
     pub climb-rest : Climbable f s []
     climb-rest = subst (Climbable f s) none (w .able)
 
-    more : headOf s .nodesTaken < headOf s .nodeBlocks
-    more = room-left f s climb-rest (headOf s) refl .0
+    more : (1 ≤ nextNode s) × (nextNode s ≤ headOf s .nodeBlocks) × (nextNode s ≤ headOf s .nodeBlocks)
+    more = room-left f s climb-rest (headOf s) refl
 
     abbrev root : Place
-    root = record { at = suc (headOf s .nodesTaken); bits = bits (width f) k; depth = 1 }
+    root = record { at = nextNode s; bits = bits (width f) k; depth = 1 }
 
     end : climbed f s k (drop i path) a c ≡ record { store = newRoot (nodeOps θ) (wordStore f θ) s a c; path = root ∷ [] }
     unfolding climb
@@ -297,8 +301,8 @@ module _ (f : Format) (k : ℕ) (s₀ : List ℕ) (path₀ : List Place) (a₀ c
         let t′ : Step = record { node = h′ .root; entry = 0; depth = 1; used = 0 } in
         let ok = climb-rest .sized in
         let top = own ∙ ap headOf is in
-        let levels : h′ .levels ≡ suc n = ap (λ (x : Head). x .levels) top ∙ root-levels f s a c ok more ∙ ap suc lv in
-        let number : h′ .root ≡ suc (headOf s .nodesTaken) = ap (λ (x : Head). x .root) top ∙ root-root f s a c ok more in
+        let levels : h′ .levels ≡ suc n = ap (λ (x : Head). x .levels) top ∙ root-levels f s a c ok (more .0) (more .1) ∙ ap suc lv in
+        let number : h′ .root ≡ nextNode s = ap (λ (x : Head). x .root) top ∙ root-root f s a c ok (more .0) (more .1) in
         let small = climb-short short in
         let place : placeOf f k t′ ≡ root =
         ap₂ (λ x j. record { at = x; bits = bits j k; depth = 1 }) number (sub-zero (width f)) in (

@@ -7,9 +7,10 @@ use mathlib.Core.Bool.{Bool, true, false, _&&_, _||_, not}
 use mathlib.Core.List.{List, [], _∷_, map}
 use Prim.Native.Nat.{ℕ, zero, suc, _-_, _^_, _≤_, _<_}
 use native.Mathlib.Omega.{arith}
+use native.Mathlib.Decide.{decLt, ℕ-discrete}
 use lib.Dec.{leb, eqb}
 use lib.ListN.{length, getD, take, length-set, length-replicate}
-use borrow.Author.Tests.{ne-eqb, le-leb, lt-leb, le-ltb}
+use borrow.Author.Tests.{ne-eqb, le-ltb, le-leb, lt-leb}
 use Rattle.lists.specs.Bits.{bit}
 use Rattle.lists.specs.Lists.{all}
 use Rattle.lists.specs.Keyed.{contains}
@@ -21,52 +22,77 @@ use Rattle.tree.specs.Book.{refused}
 use Rattle.tree.proofs.InsertLaws.{rounds-on, rounds-end, pagesAt-room, pagesAt-full}
 use Rattle.store.specs.declared.Format.{Format}
 use Rattle.store.specs.declared.Head.{Head}
+use Rattle.store.specs.declared.Released.{Released}
 use Rattle.store.specs.declared.Item.{Item}
 use Rattle.store.specs.Format.{width}
-use Rattle.store.specs.Head.{largestCapacity, headOf, headRule, pageAt, nodesLeft, pagesLeft}
+use Rattle.store.specs.Head.{largestCapacity, headOf, releasedOf, headRule, pageAt, nodesLeft, pagesLeft}
+use Rattle.store.specs.Released.{chainOk, nodesOk, pagesOk}
 use Rattle.store.proofs.HeadLaws.{head-facts, width-within, levels-within}
 use Rattle.page.specs.Page.{count, itemAt, lawfulItem, pageRule, agrees}
 use Rattle.page.specs.Schema.{keyOf}
 use Rattle.page.proofs.Laws.{lawful-key, rule-facts}
 use Rattle.search.specs.declared.Step.{Step}
 use Rattle.search.specs.declared.Descent.{Descent}
-use Rattle.search.specs.Descent.{noStep, noSteps, stepOf, lost, stepTaken, descend, descent}
+use Rattle.search.specs.declared.End.{End}
+use Rattle.search.specs.Descent.{noStep, noSteps, endOf, stepOf, lost, stepTaken, descend, descent}
 use Rattle.search.specs.Find.{soundPage}
 use Rattle.search.proofs.DescentLaws.{step-lost, step-on}
 use Rattle.insert.specs.declared.Plan.{Plan}
+use Rattle.insert.specs.declared.EnterAnswer.{EnterAnswer}
 use Rattle.insert.specs.declared.EnterAnswer.the-variants.{Entered}
 use Rattle.insert.specs.Enter.{Way, itemsIn, ownItems, ownPasses, neighbourOk, placeOf, pathIn, roundsFor, planOf, wayOf, undamaged}
 use Rattle.insert.specs.Enter.{roundOf, roundsOf, placed, found, startOf, planFor, enteredWords}
 use Rattle.insert.specs.Enter.{enterReply, After, unchanged, done, enterOf}
-use Rattle.insert.specs.Fine.{Carries, Fine, Turnable}
+use Rattle.insert.specs.Fine.{Carries, Fine, Turnable, Accepted, Placing}
 use Rattle.insert.proofs.TestLaws.{items-null, items-some}
-use Rattle.insert.proofs.Refusals.{Passed, enter-9, enter-8, enter-10, enter-done}
+use Rattle.insert.proofs.Refusals.{Passed, enter-9, enter-8, enter-10, enter-chain, enter-done}
 use Rattle.insert.proofs.InsideWay.{no-rounds, round-full, round-fine, rounds-fine}
 use Rattle.insert.proofs.InsideEnter.{passed-fine}
 
 -- the tests of a way down
-module _ (f : Format) (s : List ℕ) (h : Head) (k : ℕ) (d : Descent) where
-  pub way-is : (a b c : Bool) → a ≡ d .ok → b ≡ (eqb (d .page) 0 || soundPage f h (pageAt f s h (d .page)) k (d .used))
-      → c ≡ neighbourOk s h (getD (d .steps) 0 noStep .node) → (a && b && c) ≡ undamaged f s h k d
-  unfolding undamaged ownPasses
-  way-is a b c p q r = rw (p, q, r)
+module _ (f : Format) (s : List ℕ) (h : Head) (k : ℕ) where
+  -- of the key's own page
+  abbrev ownTest : ℕ → ℕ → Bool
+  ownTest p used = eqb p 0 || soundPage f h (pageAt f s h p) k used
+
+  wayTest : End → Bool
+  wayTest e = e .ok && ownTest (e .page) (e .used) && neighbourOk s h (e .node)
+
+  way-test : (d : Descent) → wayTest (endOf d) ≡ undamaged f s h k d
+  unfolding undamaged ownPasses wayTest
+  way-test d = refl
+
+  pub way-is : (d : Descent) {e : End} → e ≡ endOf d → (a b c : Bool) → a ≡ e .ok → b ≡ ownTest (e .page) (e .used)
+      → c ≡ neighbourOk s h (e .node) → (a && b && c) ≡ undamaged f s h k d
+  unfolding wayTest
+  way-is d {e} ends a b c p q r = ap₂ (λ x y. x && y && c) p q ∙ ap (λ x. e .ok && ownTest (e .page) (e .used) && x) r ∙ ap wayTest ends ∙ way-test d
+
+  pub end-sound : (d : Descent) {e : End} → e ≡ endOf d → undamaged f s h k d ≡ true → ownTest (e .page) (e .used) ≡ true
+  unfolding wayTest
+  end-sound d {e} ends o =
+      and-three (e .ok) (ownTest (e .page) (e .used)) (neighbourOk s h (e .node)) (ap wayTest ends ∙ way-test d ∙ o) .1
 
   -- the key's own page, where there is one
-  module _ (some : d .page ≡ 0 → ⊥) {pg : List ℕ} (is : pg ≡ pageAt f s h (d .page)) where
-    own-sound : ownPasses f s h k d ≡ true → soundPage f h pg k (d .used) ≡ true
-    unfolding ownPasses
-    own-sound e =
-        ap (λ x. soundPage f h x k (d .used)) is
-        ∙ sym (ap (λ b. b || soundPage f h (pageAt f s h (d .page)) k (d .used)) (ne-eqb (d .page) 0 some))
-        ∙ e
+  module _ (p used : ℕ) (some : p ≡ 0 → ⊥) {pg : List ℕ} (is : pg ≡ pageAt f s h p) (pass : ownTest p used ≡ true) where
+    own-sound : soundPage f h pg k used ≡ true
+    own-sound = ap (λ x. soundPage f h x k used) is ∙ sym (ap (λ b. b || soundPage f h (pageAt f s h p) k used) (ne-eqb p 0 some)) ∙ pass
 
-    pub own-rule : ownPasses f s h k d ≡ true → pageRule f (h .capacity) pg ≡ true
+    pub own-rule : pageRule f (h .capacity) pg ≡ true
     unfolding soundPage
-    own-rule e = and-true (pageRule f (h .capacity) pg) (agrees f pg k (d .used)) (own-sound e) .0
+    own-rule = and-true (pageRule f (h .capacity) pg) (agrees f pg k used) own-sound .0
 
-    pub own-agrees : ownPasses f s h k d ≡ true → agrees f pg k (d .used) ≡ true
+    pub own-agrees : agrees f pg k used ≡ true
     unfolding soundPage
-    own-agrees e = and-true (pageRule f (h .capacity) pg) (agrees f pg k (d .used)) (own-sound e) .1
+    own-agrees = and-true (pageRule f (h .capacity) pg) (agrees f pg k used) own-sound .1
+
+pub own-test : (f : Format) (s : List ℕ) (h : Head) (k : ℕ) (d : Descent) → ownPasses f s h k d ≡ true
+    → (eqb (d .page) 0 || soundPage f h (pageAt f s h (d .page)) k (d .used)) ≡ true
+unfolding ownPasses
+own-test f s h k d o = o
+
+length-items : (f : Format) (pg : List ℕ) → length (itemsIn f pg) ≡ count pg
+unfolding itemsIn
+length-items f pg = length-tab (count pg) (itemAt f pg)
 
 -- the records of a page
 module _ (f : Format) (s : List ℕ) (h : Head) (p : ℕ) where
@@ -80,6 +106,13 @@ module _ (f : Format) (s : List ℕ) (h : Head) (p : ℕ) where
   pub held-some : (k : ℕ) {pg : List ℕ} {r : Bool} → (p ≡ 0 → ⊥) → pg ≡ pageAt f s h p → r ≡ contains keyOf k (itemsIn f pg)
       → r ≡ contains keyOf k (ownItems f s h p)
   held-some k some is e = e ∙ ap (contains keyOf k) (sym (items-are some is))
+
+  pub full-null : p ≡ 0 → 1 ≤ h .capacity → false ≡ leb (h .capacity) (length (ownItems f s h p))
+  full-null z low = sym (lt-leb (h .capacity) (length (ownItems f s h p)) (omega (arith, ap length (items-null f s h p z))))
+
+  pub full-some : {pg : List ℕ} {c n : ℕ} → (p ≡ 0 → ⊥) → pg ≡ pageAt f s h p → c ≡ h .capacity → n ≡ count pg
+      → leb c n ≡ leb (h .capacity) (length (ownItems f s h p))
+  full-some some is a b = ap₂ leb a (b ∙ sym (length-items f _) ∙ sym (ap length (items-are some is)))
 
 -- the plan
 rounds-le : (w k : ℕ) (xs : List Item) → rounds keyOf w k xs ≤ w
@@ -96,10 +129,6 @@ rounds-small f used k xs e = omega (arith, e, rounds-le (width f - used) k xs, w
 full-rounds : (C w k : ℕ) (xs : List Item) → C ≤ length xs → roundsFor C w k xs ≡ rounds keyOf w k xs
 unfolding roundsFor
 full-rounds C w k xs h = rw (le-ltb (length xs) C h, roundsFor)
-
-length-items : (f : Format) (pg : List ℕ) → length (itemsIn f pg) ≡ count pg
-unfolding itemsIn
-length-items f pg = length-tab (count pg) (itemAt f pg)
 
 plan-is : (f : Format) (θ C k : ℕ) (w : Way) {r n p : ℕ} → roundsFor C (width f - w .used) k (w .items) ≡ r
     → bumpCosts r θ (map (λ p. p .depth) (w .path)) ≡ n → pagesAt C (w .items) ≡ p
@@ -125,15 +154,19 @@ module _ (f : Format) (s : List ℕ) (h : Head) (k : ℕ) (d : Descent) where
     long : length (ownItems f s h (d .page)) ≡ count pg
     long = ap length (items-are f s h (d .page) some is) ∙ length-items f pg
 
-    pub plan-room : {n m : ℕ} → n ≡ count pg → m ≡ h .capacity → n < m
+    pub plan-some : length (ownItems f s h (d .page)) < h .capacity
         → record { rounds = 0; nodes = 0; pages = 0 } ≡ planOf f (h .theta) (h .capacity) k (wayOf f s h k d)
     unfolding wayOf
-    plan-room e g l =
+    plan-some l =
         plan-is f (h .theta) (h .capacity) k (wayOf f s h k d)
-        (no-rounds (h .capacity) (width f - d .used) k (ownItems f s h (d .page)) (omega (arith, long)))
+        (no-rounds (h .capacity) (width f - d .used) k (ownItems f s h (d .page)) l)
         refl
         (pagesAt-room (h .capacity) (ownItems f s h (d .page))
-        (omega (arith, long, rule-facts f (h .capacity) pg (own-rule f s h k d some is pass) .some)) (omega (arith, long)))
+        (omega (arith, long, rule-facts f (h .capacity) pg (own-rule f s h k (d .page) (d .used) some is (own-test f s h k d pass)) .some)) l)
+
+    pub plan-room : {n m : ℕ} → n ≡ count pg → m ≡ h .capacity → n < m
+        → record { rounds = 0; nodes = 0; pages = 0 } ≡ planOf f (h .theta) (h .capacity) k (wayOf f s h k d)
+    plan-room e g l = plan-some (omega (arith, long))
 
     pub plan-full : {n m r c : ℕ} → n ≡ count pg → m ≡ h .capacity → m ≤ n → r ≡ rounds keyOf (width f - d .used) k (itemsIn f pg)
         → c ≡ bumpCosts r (h .theta) (map (λ t. t .depth) (take (h .levels) (d .steps)))
@@ -206,7 +239,6 @@ pub record Begun (f : Format) (s : List ℕ) (it : Item) (h : Head) (d : Descent
   pub lawful : lawfulItem f it ≡ true
   pub own : h ≡ headOf s
   pub way : d ≡ descent f s h (it .key)
-  pub used : d .used ≤ width f
 
 module _ {f : Format} {s : List ℕ} {it : Item} {h : Head} {d : Descent} (b : Begun f s it h d) where
   pub begun-limits : (1 ≤ h .theta) × (h .theta ≤ 6) × (1 ≤ h .capacity) × (h .capacity ≤ largestCapacity) × (h .levels ≤ 32)
@@ -218,11 +250,6 @@ module _ {f : Format} {s : List ℕ} {it : Item} {h : Head} {d : Descent} (b : B
 
   pub begun-narrow : it .key < 2 ^ width f
   begun-narrow = lawful-key f it (b .lawful) .1
-
-  pub begun-counts : (h .nodesTaken ≤ h .nodeBlocks) × (h .pagesTaken ≤ h .pageBlocks)
-  begun-counts =
-      let t = head-facts f s (b .rule) .counts in
-      subst (λ x. (x .nodesTaken ≤ x .nodeBlocks) × (x .pagesTaken ≤ x .pageBlocks)) (sym (b .own)) (t .taken, t .filled)
 
   pub begun-long : length (d .steps) ≡ 32
   unfolding descent noSteps
@@ -264,6 +291,15 @@ module _ {f : Format} {s : List ℕ} {it : Item} {h : Head} {d : Descent} (b : B
     pub begun-held : {r : Bool} → r ≡ contains keyOf (it .key) (ownItems f s h (d .page)) → r ≡ true → enterOf f s it ≡ unchanged s 8
     begun-held e q = enter-8 f s it (b .rule) (b .lawful) (sym sound-is ∙ sound) (new-is true (sym e ∙ q))
 
+pages-one : (C : ℕ) (xs : List Item) → pagesAt C xs ≤ 1
+unfolding pagesAt
+pages-one C [] = omega arith
+pages-one C (x ∷ xs) =
+    elim (decLt (length (x ∷ xs)) C) [
+      | yes h ↦ omega (arith, pagesAt-room C (x ∷ xs) (omega arith) h)
+      | no h ↦ omega (arith, pagesAt-full C (x ∷ xs) (omega arith))
+    ]
+
 -- past the test of the key
 pub record Tested (f : Format) (s : List ℕ) (it : Item) (h : Head) (d : Descent) (p : Plan) : Type 0 where
   pub begun : Begun f s it h d
@@ -276,25 +312,31 @@ module _ {f : Format} {s : List ℕ} {it : Item} {h : Head} {d : Descent} {p : P
   plan-same =
       t .plan ∙ ap₂ (λ x w. planOf f (x .theta) (x .capacity) (it .key) w) (t .begun .own) (start-is (t .begun))
 
-  abbrev fits : Bool
-  fits = leb (p .nodes) (nodesLeft h) && leb (p .pages) (pagesLeft h)
+  abbrev fits : Plan → Bool
+  fits q = leb (q .nodes) (nodesLeft s) && leb (q .pages) (pagesLeft s)
 
-  fits-is : fits ≡ (leb (planFor f s it .nodes) (nodesLeft (headOf s)) && leb (planFor f s it .pages) (pagesLeft (headOf s)))
-  fits-is = ap₂ (λ q x. leb (q .nodes) (nodesLeft x) && leb (q .pages) (pagesLeft x)) plan-same (t .begun .own)
+  abbrev chained : Plan → Bool
+  chained q = nodesOk s (q .nodes) && pagesOk f s (q .pages)
 
-  no-room : fits ≡ false → enterOf f s it ≡ unchanged s 10
+  -- at most one page is taken
+  pub one-page : p .pages ≤ 1
+  unfolding planOf
+  one-page = omega (arith, ap (λ q. q .pages) (t .plan), pages-one (h .capacity) (wayOf f s h (it .key) d .items))
+
+  pub no-room : fits p ≡ false → enterOf f s it ≡ unchanged s 10
   no-room e =
       let b = t .begun in
-      enter-10 f s it (b .rule) (b .lawful) (sym (sound-is b) ∙ t .sound) (new-is b (t .sound) false (t .new)) (sym fits-is ∙ e)
+      enter-10 f s it (b .rule) (b .lawful) (sym (sound-is b) ∙ t .sound) (new-is b (t .sound) false (t .new))
+      (sym (ap fits plan-same) ∙ e)
 
-  pub no-nodes : nodesLeft h < p .nodes → enterOf f s it ≡ unchanged s 10
-  no-nodes l = no-room (ap (λ x. x && leb (p .pages) (pagesLeft h)) (lt-leb (p .nodes) (nodesLeft h) l))
-
-  pub no-pages : p .nodes ≤ nodesLeft h → pagesLeft h < p .pages → enterOf f s it ≡ unchanged s 10
-  no-pages q l = no-room (ap₂ _&&_ (le-leb (p .nodes) (nodesLeft h) q) (lt-leb (p .pages) (pagesLeft h) l))
+  pub no-chain : fits p ≡ true → chained p ≡ false → enterOf f s it ≡ unchanged s 9
+  no-chain g e =
+      let b = t .begun in
+      enter-chain f s it (b .rule) (b .lawful) (sym (sound-is b) ∙ t .sound) (new-is b (t .sound) false (t .new))
+      (sym (ap fits plan-same) ∙ g) (sym (ap chained plan-same) ∙ e)
 
   -- all tests are passed
-  module _ (nodes : p .nodes ≤ nodesLeft h) (pages : p .pages ≤ pagesLeft h) where
+  module _ (room : fits p ≡ true) (chain : chained p ≡ true) where
     all-passed : Passed f s it
     all-passed =
         let b = t .begun in
@@ -303,7 +345,8 @@ module _ {f : Format} {s : List ℕ} {it : Item} {h : Head} {d : Descent} {p : P
           lawful = b .lawful;
           sound = sym (sound-is b) ∙ t .sound;
           new = new-is b (t .sound) false (t .new);
-          room = sym fits-is ∙ ap₂ _&&_ (le-leb (p .nodes) (nodesLeft h) nodes) (le-leb (p .pages) (pagesLeft h) pages);
+          room = sym (ap fits plan-same) ∙ room;
+          chained = sym (ap chained plan-same) ∙ chain;
         }
 
     pub tested-fine : Fine f (h .theta) (h .capacity) (it .key) (p .rounds) (wayOf f s h (it .key) d)
@@ -314,12 +357,21 @@ module _ {f : Format} {s : List ℕ} {it : Item} {h : Head} {d : Descent} {p : P
         (subst (λ n. Fine f (headOf s .theta) (headOf s .capacity) (it .key) n (startOf f s it)) (sym (ap (λ q. q .rounds) plan-same))
         (passed-fine f s it all-passed)))
 
+    -- where no round is left, the record may be put
+    pub tested-placing : p .rounds ≡ 0 → {e : End} → e ≡ endOf d → Placing f s h e it d
+    tested-placing z g =
+        record {
+          ends = g;
+          carries = begun-carries (t .begun);
+          fine = subst (λ n. Fine f (h .theta) (h .capacity) (it .key) n (wayOf f s h (it .key) d)) z tested-fine;
+        }
+
 -- with room made
 pub record Roomy (f : Format) (s : List ℕ) (it : Item) (h : Head) (d : Descent) (p : Plan) (v : List ℕ) (g : Head) (e : Descent) :
     Type 0 where
   pub tested : Tested f s it h d p
-  pub nodes : p .nodes ≤ nodesLeft h
-  pub pages : p .pages ≤ pagesLeft h
+  pub room : (leb (p .nodes) (nodesLeft s) && leb (p .pages) (pagesLeft s)) ≡ true
+  pub chain : (nodesOk s (p .nodes) && pagesOk f s (p .pages)) ≡ true
   pub own : g ≡ headOf v
   pub way : wayOf f v g (it .key) e ≡ roundsOf f (h .theta) (h .capacity) (it .key) (p .rounds) (wayOf f s h (it .key) d)
 
@@ -329,7 +381,7 @@ module _ {f : Format} {s : List ℕ} {it : Item} {h : Head} {d : Descent} {p : P
   last-fine =
       subst (Fine f (h .theta) (h .capacity) (it .key) 0) (sym (m .way))
       (rounds-fine f (h .theta) (h .capacity) (it .key) (p .rounds) (wayOf f s h (it .key) d)
-      (tested-fine (m .tested) (m .nodes) (m .pages)) .fine)
+      (tested-fine (m .tested) (m .room) (m .chain)) .fine)
 
   theta-is : g .theta ≡ h .theta
   unfolding wayOf
@@ -339,10 +391,13 @@ module _ {f : Format} {s : List ℕ} {it : Item} {h : Head} {d : Descent} {p : P
   unfolding wayOf
   capacity-is = ap (λ x. x .capacity) (m .own) ∙ last-fine .capacity
 
-  pub room-fine : Fine f (g .theta) (g .capacity) (it .key) 0 (wayOf f v g (it .key) e)
+  room-fine : Fine f (g .theta) (g .capacity) (it .key) 0 (wayOf f v g (it .key) e)
   room-fine =
       subst (λ θ. Fine f θ (g .capacity) (it .key) 0 (wayOf f v g (it .key) e)) (sym theta-is)
       (subst (λ C. Fine f (h .theta) C (it .key) 0 (wayOf f v g (it .key) e)) (sym capacity-is) last-fine)
+
+  pub room-placing : Carries v g (e .steps) → {z : End} → z ≡ endOf e → Placing f v g z it e
+  room-placing c q = record { ends = q; carries = c; fine = room-fine }
 
   -- and the record put
   module _ {u : List ℕ} (put : u ≡ placed f (g .theta) (g .capacity) it (wayOf f v g (it .key) e)) where
@@ -360,17 +415,75 @@ module _ {f : Format} {s : List ℕ} {it : Item} {h : Head} {d : Descent} {p : P
         (ap (λ q. q .rounds) (plan-same (m .tested)))
 
     done-is : enterOf f s it ≡ done it u
-    done-is = enter-done f s it (all-passed (m .tested) (m .nodes) (m .pages)) ∙ ap (done it) (sym words-are)
+    done-is = enter-done f s it (all-passed (m .tested) (m .room) (m .chain)) ∙ ap (done it) (sym words-are)
 
-    pub enters : {r : Head} → r ≡ headOf u
-        → (enterReply f (Entered (it .key) (r .levels) (r .nodesTaken) (r .pagesTaken)) ≡ enterOf f s it .reply)
-        × (u ≡ enterOf f s it .words)
+    pub enters : (a : EnterAnswer) → enterReply f a ≡ done it u .reply → (enterReply f a ≡ enterOf f s it .reply) × (u ≡ enterOf f s it .words)
     unfolding done
-    enters q = (
-      ap (λ (x : Head). enterReply f (Entered (it .key) (x .levels) (x .nodesTaken) (x .pagesTaken))) q
-          ∙ sym (ap (λ a. a .reply) done-is),
-      sym (ap (λ a. a .words) done-is),
-    )
+    enters a e = (e ∙ sym (ap (λ x. x .reply) done-is), sym (ap (λ x. x .words) done-is))
+
+-- the answer to an entry that was done
+pub entered-is : (f : Format) (it : Item) (u : List ℕ) {r : Head} {z : Released} {k n m : ℕ} → it .key ≡ k → r ≡ headOf u → z ≡ releasedOf u
+    → n ≡ r .nodesTaken - z .nodes → m ≡ r .pagesTaken - z .pages → enterReply f (Entered k (r .levels) n m) ≡ done it u .reply
+unfolding done
+entered-is f it u {r} {z} {k} {n} {m} e q o i j =
+    ap₂ (λ n m. enterReply f (Entered k (r .levels) n m)) i j
+    ∙ ap₂ (λ (x : Head) (z : Released). enterReply f (Entered k (x .levels) (x .nodesTaken - z .nodes) (x .pagesTaken - z .pages))) q o
+    ∙ ap (λ k. enterReply f (Entered k (headOf u .levels) (headOf u .nodesTaken - releasedOf u .nodes) (headOf u .pagesTaken - releasedOf u .pages)))
+    (sym e)
+
+-- past the tests 3, 6, 9 and 8
+module _ {f : Format} {s : List ℕ} {it : Item} {h : Head} (a : Accepted f s it h) where
+  pub accepted-tested : {d : Descent} {p : Plan} → d ≡ descent f s h (it .key)
+      → p ≡ planOf f (h .theta) (h .capacity) (it .key) (wayOf f s h (it .key) d) → Tested f s it h d p
+  accepted-tested {d} e g =
+      record {
+        begun = record { rule = a .rule; lawful = a .lawful; own = a .own; way = e };
+        sound = ap (undamaged f s h (it .key)) e ∙ a .sound;
+        new = ap (λ (x : Descent). contains keyOf (it .key) (ownItems f s h (x .page))) e ∙ a .new;
+        plan = g;
+      }
+
+  pub accepted-way : descent f s h (it .key) .ok ≡ true
+  unfolding undamaged
+  accepted-way = and-three _ (ownPasses f s h (it .key) (descent f s h (it .key))) (neighbourOk s h (getD (descent f s h (it .key) .steps) 0 noStep .node)) (a .sound) .0
+
+  pub accepted-limits : (1 ≤ h .theta) × (h .theta ≤ 6) × (1 ≤ h .capacity) × (h .capacity ≤ largestCapacity) × (h .levels ≤ 32)
+  accepted-limits = begun-limits (record { rule = a .rule; lawful = a .lawful; own = a .own; way = refl })
+
+  pub accepted-own : {d : Descent} → d ≡ descent f s h (it .key) → ownPasses f s h (it .key) d ≡ true
+  accepted-own e = let t = accepted-tested e refl in begun-own (t .begun) (t .sound)
+
+  -- where the way ends
+  module _ {e : End} (ends : e ≡ endOf (descent f s h (it .key))) where
+    abbrev d : Descent
+    d = descent f s h (it .key)
+
+    page-is : e .page ≡ d .page
+    page-is = ap (λ x. x .page) ends
+
+    pub null-tested : e .page ≡ 0 → Tested f s it h d (record { rounds = 0; nodes = 0; pages = 1 })
+    null-tested z = accepted-tested refl (plan-null f s h (it .key) d (sym page-is ∙ z) (accepted-limits .2))
+
+    pub room-tested : (e .page ≡ 0 → ⊥) → length (ownItems f s h (e .page)) < h .capacity
+        → Tested f s it h d (record { rounds = 0; nodes = 0; pages = 0 })
+    room-tested some small =
+        accepted-tested refl
+        (plan-some f s h (it .key) d (λ q. some (page-is ∙ q)) refl (accepted-own refl)
+        (subst (λ p. length (ownItems f s h p) < h .capacity) page-is small))
+
+-- no block is asked for
+pub no-blocks : (f : Format) (s : List ℕ) → (nodesOk s 0 && pagesOk f s 0) ≡ true
+unfolding nodesOk pagesOk chainOk
+no-blocks f s = refl
+
+pub no-need : (s : List ℕ) → (leb 0 (nodesLeft s) && leb 0 (pagesLeft s)) ≡ true
+no-need s = ap₂ _&&_ (le-leb 0 (nodesLeft s) (omega arith)) (le-leb 0 (pagesLeft s) (omega arith))
+
+-- where there is no round, nothing is to be made
+pub still : {f : Format} {s : List ℕ} {it : Item} {h : Head} {d : Descent} {n : ℕ} (t : Tested f s it h d (record { rounds = 0; nodes = 0; pages = n }))
+    → (leb 0 (nodesLeft s) && leb n (pagesLeft s)) ≡ true → (nodesOk s 0 && pagesOk f s n) ≡ true
+    → Roomy f s it h d (record { rounds = 0; nodes = 0; pages = n }) s h d
+still t room chain = record { tested = t; room = room; chain = chain; own = t .begun .own; way = refl }
 
 -- a refusal
 pub refuses : {a : After} {s : List ℕ} {n : ℕ} → a ≡ unchanged s n → (refused n ≡ a .reply) × (s ≡ a .words)

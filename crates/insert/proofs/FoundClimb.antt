@@ -12,10 +12,10 @@ use Prim.Native.Nat.{ℕ, zero, suc, _+_, _-_, _≤_, _<_}
 use native.Mathlib.Nat.{sub-zero}
 use native.Mathlib.Omega.{arith}
 use native.Mathlib.Decide.{decLt}
-use lib.ListN.{drop}
+use lib.ListN.{length, drop}
 use Rattle.lists.specs.Bits.{bit, bits}
 use Rattle.lists.specs.Lists.{All}
-use Rattle.lists.proofs.ListLaws.{all-both}
+use Rattle.lists.proofs.ListLaws.{all-map, all-both}
 use Rattle.tree.specs.Trie.{Trie, fork, Key, height, depth, rest, graft, pair}
 use Rattle.tree.specs.Carry.{bumpCost}
 use Rattle.tree.proofs.CarryLaws.{bump-full}
@@ -27,18 +27,23 @@ use Rattle.node.specs.Node.{backWord, forwardWord}
 use Rattle.represent.specs.Image.{NodeIs}
 use Rattle.represent.specs.Labelled.{occ}
 use Rattle.split.specs.Frame.{nodeOf}
-use Rattle.split.specs.Round.{NodeLaws, StoreLaws, Place, Climbed, chosen, deeper, inHalf, takeNode, grown, splitNode, newRoot, climb}
-use Rattle.split.specs.Insertion.{Ok, others, wordStore}
+use Rattle.split.specs.Round.{NodeLaws, Place, Climbed, chosen, deeper, inHalf, grown, splitNode, newRoot, climb}
+use Rattle.split.specs.Insertion.{others, wordStore}
 use Rattle.split.specs.Block.{top, nodeOps}
 use Rattle.split.proofs.BlockLaws.{node-ops-are}
 use Rattle.split.proofs.Blocks.{Written, top-written, grow-written, lower-written, upper-written}
 use Rattle.split.proofs.Grafts.{forked}
-use Rattle.split.proofs.Writes.{taken-head, two-nodes}
-use Rattle.split.proofs.WordStore.{store-laws, others-pagesTaken}
+use Rattle.split.proofs.WordStore.{others-pagesTaken}
+use Rattle.split.proofs.Frame.{nodeTaken-root, nodeTaken-levels}
+use Rattle.store.specs.Released.{nextNode}
+use Rattle.represent.specs.Rep.{Sized}
+use Rattle.represent.specs.Labelled.{count as counted}
+use Rattle.represent.proofs.LabelLaws.{ind-eq, ind-self}
+use Rattle.insert.proofs.Supplies.{supply-next}
 use Rattle.split.proofs.Climb.{climb-room, climb-full}
-use Rattle.insert.specs.Fine.{Among, Apart, depths, sum}
-use Rattle.insert.proofs.InsideWrites.{climb-now}
-use Rattle.insert.proofs.InsideRound.{off-among}
+use Rattle.insert.specs.Fine.{Off, Among, Apart, Supply, Clear, depths, sum}
+use Rattle.insert.proofs.InsideWrites.{clear-behind, grown-now, grown-head, grown-here, grown-other, halve-now, halve-head, halve-lower, halve-upper}
+use Rattle.insert.proofs.InsideWrites.{root-now, root-head, climb-now}
 use Rattle.insert.proofs.HeldRound.{Beside, beside-off}
 use Rattle.insert.proofs.FoundPath.{Enters, LinksIn, More, enters-more, links-more, halfOf, half-here, half-depth, half-leaf}
 use Rattle.insert.proofs.FoundPath.{half-height, half-occ, graft-labels, pair-labels, Stands, Sound, sound-moved}
@@ -52,11 +57,14 @@ pub more-others : (s t : List ℕ) → headOf s .nodesTaken ≤ headOf t .nodesT
 more-others s t h e = record { nodes = h; pages = omega (arith, others-pagesTaken s t e) }
 
 -- nodes of a path that a write leaves
-pub path-same : (s t : List ℕ) (n m : ℕ) (path : List Place) → Among m path → Beside n path
-    → ((x : ℕ) → 1 ≤ x → x ≤ m → (x ≡ n → ⊥) → nodeOf t x ≡ nodeOf s x) → All (λ p. nodeOf t (p .at) ≡ nodeOf s (p .at)) path
-path-same s t n m path among off same =
-    all-both (λ p. (1 ≤ p .at) × (p .at ≤ m)) (λ p. n ≡ p .at → ⊥) (λ p. nodeOf t (p .at) ≡ nodeOf s (p .at)) path
-    (λ p a b. same (p .at) (a .0) (a .1) (λ e. b (sym e))) among off
+pub path-same : (s t : List ℕ) (n m : ℕ) (ns : List ℕ) (path : List Place) → Among m path → Clear ns path → Beside n path
+    → ((x : ℕ) → 1 ≤ x → counted x ns ≡ 0 → (x ≡ n → ⊥) → nodeOf t x ≡ nodeOf s x) → All (λ p. nodeOf t (p .at) ≡ nodeOf s (p .at)) path
+path-same s t n m ns path among clear off same =
+    all-both (λ p. ((1 ≤ p .at) × (p .at ≤ m)) × (counted (p .at) ns ≡ 0)) (λ p. n ≡ p .at → ⊥) (λ p. nodeOf t (p .at) ≡ nodeOf s (p .at)) path
+    (λ p a b. same (p .at) (a .0 .0) (a .1) (λ e. b (sym e)))
+    (all-both (λ p. (1 ≤ p .at) × (p .at ≤ m)) (λ p. counted (p .at) ns ≡ 0) (λ p. ((1 ≤ p .at) × (p .at ≤ m)) × (counted (p .at) ns ≡ 0)) path
+    (λ p a b. (a, b)) among clear)
+    off
 
 module _ (f : Format) (θ key : ℕ) where
   abbrev pub Here : List ℕ → ℕ → ℕ → Trie ℕ → Type 0
@@ -128,48 +136,47 @@ module _ (f : Format) (θ key : ℕ) where
   abbrev pub reachedBy : List Place → ℕ → ℕ → ℕ
   reachedBy path a c = chosen (bits (width f - sum (depths path)) key) a c
 
-  pub record SplitInto (s t : List ℕ) (l : ℕ) (p : Place) (path : List Place) (lo up : Trie ℕ) : Type 0 where
-    pub ok : Ok f θ t
-    pub taken : headOf t .nodesTaken ≡ suc (headOf s .nodesTaken)
-    pub cap-same : headOf t .nodeBlocks ≡ headOf s .nodeBlocks
+  pub record SplitInto (s t : List ℕ) (l : ℕ) (p : Place) (path : List Place) (lo up : Trie ℕ) (ns : List ℕ) : Type 0 where
+    pub sized : Sized f t
+    pub theta : headOf t .theta ≡ θ
+    pub supply : Supply t ns
+    pub taken : headOf s .nodesTaken ≤ headOf t .nodesTaken
     pub root-same : headOf t .root ≡ headOf s .root
     pub levels-same : headOf t .levels ≡ headOf s .levels
     pub others-same : others t ≡ others s
     pub lower-is : Here t l (p .at) lo
-    pub upper-is : Here t l (suc (headOf s .nodesTaken)) up
+    pub upper-is : Here t l (nextNode s) up
     pub above-same : All (λ q. nodeOf t (q .at) ≡ nodeOf s (q .at)) path
 
   module _ (pos : 1 ≤ θ) where
     laws : NodeLaws θ (nodeOps θ)
     laws = node-ops-are θ pos
 
-    words : StoreLaws θ (wordStore f θ)
-    words = store-laws f θ
-
     abbrev pub ClimbSound : List Place → Type 0
     ClimbSound path =
-        (s : List ℕ) (l a c next : ℕ) → Ok f θ s → headOf s .nodesTaken ≤ headOf s .nodeBlocks
-        → headOf s .nodesTaken + bumpCost θ (depths path) ≤ headOf s .nodeBlocks
+        (s : List ℕ) (l a c next : ℕ) (ns : List ℕ) → Sized f s → headOf s .theta ≡ θ → Supply s ns → Clear ns path
+        → bumpCost θ (depths path) ≤ length ns
         → Sound f θ key s l path next → Apart path → sum (depths path) < width f → Enters s l a → Enters s l c
         → Climbs l path (reachedBy path a c) (climb (nodeOps θ) (wordStore f θ) θ (bits (width f) key) s path a c)
 
     -- a node that has room
-    pub grown-sound : (s : List ℕ) (l : ℕ) (p : Place) (path : List Place) (a c next : ℕ) → Ok f θ s
-        → headOf s .nodesTaken ≤ headOf s .nodeBlocks → Sound f θ key s l (p ∷ path) next → Apart (p ∷ path)
+    pub grown-sound : (s : List ℕ) (l : ℕ) (p : Place) (path : List Place) (a c next : ℕ) (ns : List ℕ) → Sized f s → headOf s .theta ≡ θ
+        → Supply s ns → Clear ns (p ∷ path) → Sound f θ key s l (p ∷ path) next → Apart (p ∷ path)
         → sum (depths (p ∷ path)) < width f → Enters s l a → Enters s l c → p .depth < θ
         → Climbs l (p ∷ path) (reachedBy (p ∷ path) a c)
         (record { store = grown (nodeOps θ) (wordStore f θ) s p a c; path = deeper p ∷ path })
-    unfolding grown
-    grown-sound s l p path a c next ok fits y apart left ea ec room =
+    grown-sound s l p path a c next ns ok own supply clear y apart left ea ec room =
         let z = y .0 in
         let v : Trie ℕ = z .trie in
         let w = grow-written laws (z .is) (p .bits) a c (omega (arith, z .depth-is)) in
         let u : Trie ℕ = graft v (p .bits) (pair a c) in
-        let put = words .put-is s (p .at) _ (suc l) u ok (z .within .0) (omega (arith, z .within .1)) (w .is) in
         let t : List ℕ = grown (nodeOps θ) (wordStore f θ) s p a c in
-        let more : More s t = more-others s t (omega (arith, put .taken-same)) (put .others-same) in
+        let put = grown-now f θ s p a c ok own (z .within) ns supply (clear .0) path in
+        let head = grown-head f θ s p a c ok own (z .within) (supply .fits) in
+        let more : More s t = more-others s t (put .taken) (put .others-same) in
         let here =
-        written-here t l (p .at) _ _ _ u (z .within .0, omega (arith, z .within .1, put .taken-same)) (put .here) w
+        written-here t l (p .at) _ _ _ u (z .within .0, omega (arith, z .within .1, put .taken))
+        (grown-here f θ s p a c ok own (z .within) (supply .fits)) w
         (links-more s t l _ _ more (z .links)) in
         record {
           sound = (
@@ -185,48 +192,51 @@ module _ (f : Format) (θ key : ℕ) where
               depth-is = depth-split v (p .bits) a c ∙ ap suc (z .depth-is);
               next-is = leafAt-graft v (p .bits) (pair a c) ∙ ap (λ q. chosen q a c) (stands-rest f θ key z);
             },
-            sound-moved f θ key s t (suc l) path (p .at) more (put .root-same) (put .levels-same)
-                (path-same s t (p .at) (headOf s .nodesTaken) path (sound-among f θ key s (suc l) path (p .at) (y .1)) (apart .0)
-                (λ x low high ne. put .elsewhere x low (omega arith) ne))
+            sound-moved f θ key s t (suc l) path (p .at) more (ap (λ h. h .root) head) (ap (λ h. h .levels) head)
+                (path-same s t (p .at) (headOf s .nodesTaken) ns path (sound-among f θ key s (suc l) path (p .at) (y .1)) (clear .1) (apart .0)
+                (λ x low z ne. grown-other f θ s p a c ok own (y .0 .within) (supply .fits) x low ne))
                 (y .1),
           );
           longer = omega arith;
         }
 
     -- a node that splits, and the climb above it
-    pub above-sound : (s t : List ℕ) (l : ℕ) (p : Place) (path : List Place) (a c next : ℕ) (lo up : Trie ℕ)
-        → headOf s .nodesTaken + bumpCost θ (depths (p ∷ path)) ≤ headOf s .nodeBlocks
+    pub above-sound : (s t : List ℕ) (l : ℕ) (p : Place) (path : List Place) (a c next : ℕ) (lo up : Trie ℕ) (n : ℕ) (ns : List ℕ)
+        → Sized f s → Supply s (n ∷ ns) → Clear (n ∷ ns) (p ∷ path) → bumpCost θ (depths (p ∷ path)) ≤ length (n ∷ ns)
         → (y : Sound f θ key s l (p ∷ path) next) → Apart (p ∷ path) → sum (depths (p ∷ path)) < width f → Enters s l a → Enters s l c
-        → θ ≤ p .depth → graft (y .0 .trie) (p .bits) (pair a c) ≡ fork lo up → SplitInto s t l p path lo up → ClimbSound path
+        → θ ≤ p .depth → graft (y .0 .trie) (p .bits) (pair a c) ≡ fork lo up → SplitInto s t l p path lo up ns → ClimbSound path
         → Climbs l (p ∷ path) (reachedBy (p ∷ path) a c)
-        (let r = climb (nodeOps θ) (wordStore f θ) θ (bits (width f) key) t path (p .at) (suc (headOf s .nodesTaken)) in
-        record { store = r .store; path = inHalf θ p (suc (headOf s .nodesTaken)) ∷ r .path })
-    above-sound s t l p path a c next lo up room y apart left ea ec full e w climbs =
+        (let r = climb (nodeOps θ) (wordStore f θ) θ (bits (width f) key) t path (p .at) (nextNode s) in
+        record { store = r .store; path = inHalf θ p (nextNode s) ∷ r .path })
+    above-sound s t l p path a c next lo up n ns ok supply clear room y apart left ea ec full e w climbs =
         let cost = bump-full θ (p .depth) (depths path) full .1 in
-        let m : ℕ = suc (headOf s .nodesTaken) in
+        let m : ℕ = nextNode s in
+        let q = supply-next f s n ns ok supply in
         let r : Climbed (List ℕ) = climb (nodeOps θ) (wordStore f θ) θ (bits (width f) key) t path (p .at) m in
         let v : List ℕ = r .store in
         let z = y .0 in
         let deep : p .depth ≡ θ = omega (arith, stands-deep f θ key z) in
-        let more : More s t = more-others s t (omega (arith, w .taken)) (w .others-same) in
+        let more : More s t = more-others s t (w .taken) (w .others-same) in
         let up-t : Sound f θ key t (suc l) path (p .at) =
         sound-moved f θ key s t (suc l) path (p .at) more (w .root-same) (w .levels-same) (w .above-same) (y .1) in
-        let among = sound-among f θ key s (suc l) path (p .at) (y .1) in
-        let fits-t : headOf t .nodesTaken ≤ headOf t .nodeBlocks = omega (arith, w .taken, w .cap-same, cost) in
-        let room-t : headOf t .nodesTaken + bumpCost θ (depths path) ≤ headOf t .nodeBlocks = omega (arith, w .taken, w .cap-same, cost) in
+        let clear-t = clear-behind f θ n ns path (clear .1) in
+        let room-t : bumpCost θ (depths path) ≤ length ns = omega (arith, cost) in
         let now =
-        climb-now f θ path (bits (width f) key) t (p .at) m (w .ok .sized) (w .ok .theta)
-        (sound-among f θ key t (suc l) path (p .at) up-t) fits-t room-t .0 in
+        climb-now f θ path (bits (width f) key) t (p .at) m ns (w .sized) (w .theta)
+        (sound-among f θ key t (suc l) path (p .at) up-t) (w .supply) clear-t room-t .0 in
         let g =
-        climbs t (suc l) (p .at) m (p .at) (w .ok) fits-t room-t up-t (apart .1) (omega arith)
-        (z .within .0, omega (arith, z .within .1, w .taken)) (omega arith, omega (arith, w .taken)) in
-        let more-v : More t v = more-others t v (omega (arith, now .taken)) (now .others-same) in
+        climbs t (suc l) (p .at) m (p .at) ns (w .sized) (w .theta) (w .supply) clear-t room-t up-t (apart .1) (omega arith)
+        (z .within .0, omega (arith, z .within .1, w .taken)) (w .upper-is .0) in
+        let more-v : More t v = more-others t v (now .taken) (now .others-same) in
+        let off-m : Off m path =
+        all-map (λ p. counted (p .at) (n ∷ ns) ≡ 0) (λ p. p .at ≡ m → ⊥) path (λ p d i. omega (arith, ind-eq (p .at) n (i ∙ q .is)))
+        (clear .1) in
         let here-n : Here v l (p .at) lo =
         here-moved t v l (p .at) lo more-v
-        (now .frame (p .at) (z .within .0) (omega (arith, z .within .1, w .taken)) (beside-off (p .at) path (apart .0))) (w .lower-is) in
+        (now .frame (p .at) (z .within .0) (omega (arith, clear .0)) (beside-off (p .at) path (apart .0))) (w .lower-is) in
         let here-m : Here v l m up =
         here-moved t v l m up more-v
-        (now .frame m (omega arith) (omega (arith, w .taken)) (off-among f θ (bits (width f) key) (headOf s .nodesTaken) path among))
+        (now .frame m (omega (arith, q .is, q .low)) (ap (λ x. counted x ns) (q .is) ∙ q .gone) off-m)
         (w .upper-is) in
         let more-s : More s v =
         record { nodes = omega (arith, more .nodes, more-v .nodes); pages = omega (arith, more .pages, more-v .pages) } in
@@ -241,32 +251,24 @@ module _ (f : Format) (θ key : ℕ) where
         }
 
     -- a new root
-    root-sound : (s : List ℕ) (l a c : ℕ) → Ok f θ s → headOf s .nodesTaken < headOf s .nodeBlocks → headOf s .levels ≡ l
+    root-sound : (s : List ℕ) (l a c n : ℕ) (ns : List ℕ) → Sized f s → headOf s .theta ≡ θ → Supply s (n ∷ ns) → headOf s .levels ≡ l
         → 0 < width f → Enters s l a → Enters s l c
         → Climbs l [] (chosen (bits (width f - 0) key) a c) (record {
           store = newRoot (nodeOps θ) (wordStore f θ) s a c;
-          path = record { at = suc (headOf s .nodesTaken); bits = bits (width f) key; depth = 1 } ∷ [];
+          path = record { at = nextNode s; bits = bits (width f) key; depth = 1 } ∷ [];
         })
-    unfolding newRoot
-    root-sound s l a c ok room level left ea ec =
-        let m : ℕ = suc (headOf s .nodesTaken) in
+    root-sound s l a c n ns ok own supply level left ea ec =
+        let m : ℕ = nextNode s in
+        let q = supply-next f s n ns ok supply in
         let w = top-written laws (suc (headOf s .levels)) a c pos in
-        let h = taken-head words s ok room in
-        let p =
-        words .put-is (takeNode (wordStore f θ) s) m _ (suc (headOf s .levels)) (pair a c) (h .ok) (omega arith)
-        (omega (arith, h .cap-same)) (w .is) in
-        let u : List ℕ = wordStore f θ .put (takeNode (wordStore f θ) s) m (top θ (suc (headOf s .levels)) a c) in
-        let g =
-        words .head-is u m (suc (headOf u .levels)) (headOf u .nodesTaken) (p .ok)
-        (omega (arith, p .taken-same, p .cap-same, h .taken-is, h .cap-same)) in
+        let now = root-now f θ s a c n ns ok own supply in
+        let head = root-head f θ s a c n ns ok own supply in
         let t : List ℕ = newRoot (nodeOps θ) (wordStore f θ) s a c in
-        let same : others t ≡ others s = g .others-same ∙ p .others-same ∙ h .others-same in
-        let taken : headOf t .nodesTaken ≡ m = g .taken-is ∙ p .taken-same ∙ h .taken-is in
-        let more : More s t = more-others s t (omega (arith, taken)) same in
-        let at : nodeOf t m ≡ top θ (suc (headOf s .levels)) a c =
-        g .nodes-same m (omega arith) (omega (arith, p .cap-same, h .cap-same)) ∙ p .here in
+        let more : More s t = more-others s t (now .0 .taken) (now .0 .others-same) in
+        let in-t : (1 ≤ m) × (m ≤ headOf t .nodesTaken) =
+        (omega (arith, q .is, q .low), omega (arith, q .is, now .0 .new n (omega (arith, ind-self n)))) in
         let here =
-        written-here t l m _ 0 0 (pair a c) (omega arith, omega (arith, taken)) at
+        written-here t l m _ 0 0 (pair a c) in-t (now .1)
         (subst (λ n. Written θ (top θ (suc (headOf s .levels)) a c) (suc n) 0 0 (pair a c)) level w) (links-none t l) in
         record {
           sound = (
@@ -281,60 +283,77 @@ module _ (f : Format) (θ key : ℕ) where
               depth-is = depth-pair a c (bits (width f) key);
               next-is = ap (λ n. chosen (bits n key) a c) (sym (sub-zero (width f)));
             },
-            (g .root-is, g .levels-is ∙ ap suc (p .levels-same ∙ h .levels-is ∙ level)),
+            (head .0, head .1 ∙ ap suc level),
           );
           longer = refl;
         }
 
     -- a node above level 1 splits
-    node-cut : (s : List ℕ) (l : ℕ) (p : Place) (path : List Place) (a c next : ℕ) (lo up : Trie ℕ) → Ok f θ s
-        → headOf s .nodesTaken < headOf s .nodeBlocks → (y : Sound f θ key s l (p ∷ path) next) → Beside (p .at) path
+    node-cut : (s : List ℕ) (l : ℕ) (p : Place) (path : List Place) (a c next : ℕ) (lo up : Trie ℕ) (n : ℕ) (ns : List ℕ) → Sized f s
+        → headOf s .theta ≡ θ → Supply s (n ∷ ns) → Clear (n ∷ ns) (p ∷ path)
+        → (y : Sound f θ key s l (p ∷ path) next) → Beside (p .at) path
         → θ ≤ depth (y .0 .trie) (p .bits) → graft (y .0 .trie) (p .bits) (pair a c) ≡ fork lo up
-        → SplitInto s (splitNode (nodeOps θ) (wordStore f θ) s p a c) l p path lo up
-    unfolding splitNode
-    node-cut s l p path a c next lo up ok more y off deep e =
+        → SplitInto s (splitNode (nodeOps θ) (wordStore f θ) s p a c) l p path lo up ns
+    node-cut s l p path a c next lo up n ns ok own supply clear y off deep e =
         let z = y .0 in
+        let q = supply-next f s n ns ok supply in
         let lw = lower-written laws (z .is) (p .bits) a c deep e in
         let uw = upper-written laws (z .is) (p .bits) a c deep e in
-        let w = two-nodes words s (p .at) {v = lo} {v′ = up} ok (z .within .0) (z .within .1) more (lw .is) (uw .is) in
         let t : List ℕ = splitNode (nodeOps θ) (wordStore f θ) s p a c in
-        let g : More s t = more-others s t (omega (arith, w .kept .now)) (w .kept .others-same) in
+        let now = halve-now f θ s p a c ok own (z .within) n ns supply (clear .0) in
+        let head = halve-head f θ s p a c ok own (z .within) n ns supply (clear .0) in
+        let g : More s t = more-others s t (now .taken) (now .others-same) in
         record {
-          ok = w .kept .ok;
-          taken = w .kept .now;
-          cap-same = w .kept .cap-same;
-          root-same = w .kept .root-same;
-          levels-same = w .kept .levels-same;
-          others-same = w .kept .others-same;
+          sized = now .kept .sized;
+          theta = now .kept .sizes-same .theta ∙ own;
+          supply = now .supply;
+          taken = now .taken;
+          root-same = ap (λ h. h .root) head ∙ nodeTaken-root s;
+          levels-same = ap (λ h. h .levels) head ∙ nodeTaken-levels s;
+          others-same = now .others-same;
           lower-is =
-              written-here t l (p .at) _ _ _ lo (z .within .0, omega (arith, z .within .1, w .kept .now)) (w .at-n) lw
+              written-here t l (p .at) _ _ _ lo (z .within .0, omega (arith, z .within .1, now .taken))
+              (halve-lower f θ s p a c ok own (z .within) n ns supply (clear .0)) lw
               (links-more s t l _ _ g (z .links));
           upper-is =
-              written-here t l (suc (headOf s .nodesTaken)) _ _ _ up (omega arith, omega (arith, w .kept .now)) (w .at-m) uw
+              written-here t l (nextNode s) _ _ _ up
+              (omega (arith, q .is, q .low), omega (arith, q .is, now .new n (omega (arith, ind-self n))))
+              (halve-upper f θ s p a c ok own (z .within) n ns supply (clear .0)) uw
               (links-more s t l _ _ g (z .links));
           above-same =
-              path-same s t (p .at) (headOf s .nodesTaken) path (sound-among f θ key s (suc l) path (p .at) (y .1)) off (w .off);
+              path-same s t (p .at) (headOf s .nodesTaken) (n ∷ ns) path (sound-among f θ key s (suc l) path (p .at) (y .1)) (clear .1) off
+              (λ x low d ne. now .frame x low d ((λ i. ne (sym i)), tt));
         }
 
-    pub climb-sound : (path : List Place) → ClimbSound path
+    sound-top : ClimbSound []
     unfolding climb bumpCost
-    climb-sound [] s l a c next ok fits room y apart left ea ec = root-sound s l a c ok (omega arith) (y .1) left ea ec
-    climb-sound (p ∷ path) s l a c next ok fits room y apart left ea ec =
+    sound-top s l a c next [] ok own supply clear room y apart left ea ec = absurd (omega arith)
+    sound-top s l a c next (n ∷ ns) ok own supply clear room y apart left ea ec =
+        root-sound s l a c n ns ok own supply (y .1) left ea ec
+
+    sound-up : (p : Place) (path : List Place) → ClimbSound path → θ ≤ p .depth → ClimbSound (p ∷ path)
+    sound-up p path up full s l a c next [] ok own supply clear room y apart left ea ec =
+        absurd (omega (arith, bump-full θ (p .depth) (depths path) full .1))
+    sound-up p path up full s l a c next (n ∷ ns) ok own supply clear room y apart left ea ec =
+        let z = y .0 in
+        let deep : θ ≤ depth (z .trie) (p .bits) = omega (arith, z .depth-is) in
+        let q = forked (z .trie) (p .bits) a c in
+        subst (Climbs l (p ∷ path) (reachedBy (p ∷ path) a c))
+        (sym (climb-full (nodeOps θ) (wordStore f θ) θ (bits (width f) key) s p a c path full))
+        (above-sound s (splitNode (nodeOps θ) (wordStore f θ) s p a c) l p path a c next (q .0) (q .1) n ns ok supply clear room y apart left
+        ea ec full (q .2)
+        (node-cut s l p path a c next (q .0) (q .1) n ns ok own supply clear y (apart .0) deep (q .2))
+        up)
+
+    pub climb-sound : (path : List Place) → ClimbSound path
+    climb-sound [] s l a c next ns ok own supply clear room y apart left ea ec =
+        sound-top s l a c next ns ok own supply clear room y apart left ea ec
+    climb-sound (p ∷ path) s l a c next ns ok own supply clear room y apart left ea ec =
         elim (decLt (p .depth) θ) [
           | yes h ↦
               subst (Climbs l (p ∷ path) (reachedBy (p ∷ path) a c))
               (sym (climb-room (nodeOps θ) (wordStore f θ) θ (bits (width f) key) s p a c path h))
-              (grown-sound s l p path a c next ok fits y apart left ea ec h)
+              (grown-sound s l p path a c next ns ok own supply clear y apart left ea ec h)
           | no h ↦
-              let full : θ ≤ p .depth = omega arith in
-              let z = y .0 in
-              let deep : θ ≤ depth (z .trie) (p .bits) = omega (arith, z .depth-is) in
-              let q = forked (z .trie) (p .bits) a c in
-              subst (Climbs l (p ∷ path) (reachedBy (p ∷ path) a c))
-              (sym (climb-full (nodeOps θ) (wordStore f θ) θ (bits (width f) key) s p a c path full))
-              (above-sound s (splitNode (nodeOps θ) (wordStore f θ) s p a c) l p path a c next (q .0) (q .1) room y apart left ea ec full
-              (q .2)
-              (node-cut s l p path a c next (q .0) (q .1) ok (omega (arith, bump-full θ (p .depth) (depths path) full .1)) y (apart .0) deep
-              (q .2))
-              (climb-sound path))
+              sound-up p path (climb-sound path) (omega arith) s l a c next ns ok own supply clear room y apart left ea ec
         ]

@@ -134,6 +134,7 @@ module _ (f : Format) (it : Item) (t : List ℕ) (y : Ends f it t) where
         levels-low = omega (arith, l, y .some);
         levels = y .levels-in;
       })
+      (y .chains)
 
   ends-sound : soundPage f (headOf t) (pageAt f t (headOf t) (y .page)) (it .key) (sum (depths (y .path))) ≡ true
   ends-sound =

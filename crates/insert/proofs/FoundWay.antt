@@ -30,10 +30,10 @@ use Rattle.split.specs.Round.{Place, Climbed, chosen, round}
 use Rattle.split.specs.Insertion.{wordStore}
 use Rattle.split.specs.Block.{nodeOps}
 use Rattle.insert.specs.Enter.{Way, Parted, parted, roundOf, roundsOf}
-use Rattle.insert.specs.Fine.{Off, Led, Fine, depths, sum}
-use Rattle.insert.specs.Frame.{behindIn}
+use Rattle.insert.specs.Fine.{behindIn, Off, Led, Fine, depths, sum}
+use Rattle.represent.specs.Labelled.{behind}
 use Rattle.insert.proofs.Turned.{turned, turned-slack, turned-full}
-use Rattle.insert.proofs.InsideWay.{Halved, bit-left, positive, page-step, positive-theta, theta-q, fits-q, room-q}
+use Rattle.insert.proofs.InsideWay.{Halved, bit-left, positive, page-step, positive-theta, theta-q, supply-q, far-q, room-q}
 use Rattle.insert.proofs.InsideWay.{turn, round-fine, round-full}
 use Rattle.insert.proofs.FoundPath.{More, Sound, sound-moved, sound-among, sound-levels}
 use Rattle.insert.proofs.FoundClimb.{Climbs, reachedBy}
@@ -41,17 +41,17 @@ use Rattle.insert.proofs.FrameWay.{Paged, halves, stays, round-off}
 use Rattle.insert.proofs.FoundRound.{round-sound}
 
 -- a level more only where every run is at θ
-turned-grows : (θ : ℕ) (k : Key) (m : ℕ) (path : List Place)
-    → (length (turned θ k m path) ≡ length path)
-    ⊎ ((length (turned θ k m path) ≡ suc (length path)) × (length path * θ ≤ sum (depths path)))
+turned-grows : (θ : ℕ) (k : Key) (ns : List ℕ) (path : List Place)
+    → (length (turned θ k ns path) ≡ length path)
+    ⊎ ((length (turned θ k ns path) ≡ suc (length path)) × (length path * θ ≤ sum (depths path)))
 unfolding turned
-turned-grows θ k m [] = inr (refl, omega arith)
-turned-grows θ k m (p ∷ path) =
+turned-grows θ k ns [] = inr (refl, omega arith)
+turned-grows θ k ns (p ∷ path) =
     elim (decLt (p .depth) θ) [
-      | yes h ↦ inl (ap length (turned-slack θ k m p path h))
+      | yes h ↦ inl (ap length (turned-slack θ k ns p path h))
       | no h ↦
-          let e = ap length (turned-full θ k m p path (omega arith)) in
-          elim (turned-grows θ k (suc m) path) [
+          let e = ap length (turned-full θ k ns p path (omega arith)) in
+          elim (turned-grows θ k (behind ns) path) [
             | inl g ↦ inl (e ∙ ap suc g)
             | inr g ↦ inr (e ∙ ap suc (g .0), omega (arith, g .1, suc-mul (length path) θ))
           ]
@@ -98,10 +98,10 @@ module _ (f : Format) (θ C : ℕ) (it : Item) where
     t = r .store
 
     -- the page halved
-    step : Halved f C s low high q
+    step : Halved f C s (y .page-numbers) low high q
     step = page-step f θ C key d w y full
 
-    pages : Paged f s (q .words) (w .page)
+    pages : Paged f s (q .words) (w .page) (y .page-numbers)
     pages = halves f θ C key d w y (g .behind) .paged
 
     more : More s (q .words)
@@ -110,7 +110,7 @@ module _ (f : Format) (θ C : ℕ) (it : Item) where
     same : All (λ p. nodeOf (q .words) (p .at) ≡ nodeOf s (p .at)) (w .path)
     same =
         all-map (λ p. (1 ≤ p .at) × (p .at ≤ headOf s .nodesTaken)) (λ p. nodeOf (q .words) (p .at) ≡ nodeOf s (p .at)) (w .path)
-        (λ p i. step .nodes (p .at) (i .0) (omega (arith, i .1, y .nodes))) (sound-among f θ key s 0 (w .path) (w .page) (g .sound))
+        (λ p i. step .nodes (p .at) (i .0) (omega (arith, i .1, y .nodes .fits))) (sound-among f θ key s 0 (w .path) (w .page) (g .sound))
 
     left : suc b ≡ width f - w .used
     left = bit-left f θ C key (suc d) w y full
@@ -121,8 +121,8 @@ module _ (f : Format) (θ C : ℕ) (it : Item) where
     climbed : Climbs f θ key 0 (w .path) (reachedBy f θ key (w .path) (q .left) (q .right)) r
     climbed =
         round-sound f θ key (positive-theta f θ C key d w y full) (w .path) (q .words) (q .left) (q .right) (w .page)
-        (record { theta = theta-q f θ C key d w y full; sized = step .kept .sized }) (fits-q f θ C key d w y full)
-        (room-q f θ C key d w y full)
+        (y .numbers) (step .kept .sized) (theta-q f θ C key d w y full) (supply-q f θ C key d w y full) (y .clear)
+        (far-q f θ C key d w y full) (room-q f θ C key d w y full)
         (sound-moved f θ key s (q .words) 0 (w .path) (w .page) more (pages .rooted .root) (pages .rooted .levels) same (g .sound)) some
         (y .apart) (subst (λ n. Off n (w .path)) (sym (stays f θ C key d w y (g .behind))) (g .behind))
         (omega (arith, g .used-is, left)) (step .left-in) (step .right-in)
@@ -146,7 +146,7 @@ module _ (f : Format) (θ C : ℕ) (it : Item) where
         let way = turn f θ C key d w y full .way in
         let now = sound-levels f θ key t 0 (r .path) _ (climbed .sound) in
         let old = sound-levels f θ key s 0 (w .path) (w .page) (g .sound) in
-        elim (turned-grows θ (bits (width f) key) (headOf (q .words) .nodesTaken) (w .path)) [
+        elim (turned-grows θ (bits (width f) key) (y .numbers) (w .path)) [
           | inl e ↦ omega (arith, now, old, ap length way, e, g .levels-in)
           | inr e ↦
               let n : ℕ = length (w .path) in

@@ -22,13 +22,14 @@ use Rattle.represent.specs.Rep.{Sized}
 use Rattle.split.specs.Frame.{nodeOf}
 use Rattle.split.specs.Round.{Place}
 use Rattle.insert.specs.Enter.{ownPasses, neighbourOk, pathIn, done, wayOf, undamaged, found, startOf, planFor, enteredWords}
-use Rattle.insert.specs.Fine.{Off, Among, Fine}
-use Rattle.insert.specs.Frame.{behindIn, Framed, EnterFrame}
+use Rattle.insert.specs.Fine.{Off, Among, behindIn, Fine}
+use Rattle.insert.specs.Frame.{Framed, EnterFrame}
 use Rattle.insert.proofs.TestLaws.{neighbour-facts}
 use Rattle.insert.proofs.Refusals.{Passed, ways, enter-done}
 use Rattle.insert.proofs.InsideWay.{led-among}
-use Rattle.insert.proofs.InsideEnter.{Visited, StepIn, step, others-in, node-word, head-sized, start-down, passed-fine}
-use Rattle.insert.proofs.FrameWay.{way-framed}
+use Rattle.insert.proofs.InsideEnter.{Visited, StepIn, step, others-in, node-word, head-sized, start-down, passed-fine, passed-on}
+use Rattle.insert.proofs.FrameWay.{way-framed, framed-more}
+use Rattle.store.specs.Released.{nodesToCome, pagesToCome}
 
 off-null : (m : ℕ) (path : List Place) → Among m path → Off 0 path
 off-null m path = all-map (λ p. (1 ≤ p .at) × (p .at ≤ m)) (λ p. p .at ≡ 0 → ⊥) path (λ p q e. omega (arith, q .0))
@@ -81,9 +82,12 @@ module _ (f : Format) (s : List ℕ) (it : Item) (p : Passed f s it) where
       (λ i l r. z .steps-in i l r) (w .2) (led-among s (startOf f s it .path) (fine .led))
 
   passed-framed : Framed f s (enteredWords f s it) (startOf f s it .path) (startOf f s it .page) (behindIn s (startOf f s it .path))
+      (take (planFor f s it .nodes) (nodesToCome s)) (take (planFor f s it .pages) (pagesToCome f s))
   unfolding enteredWords wayOf
   passed-framed =
-      way-framed f (headOf s .theta) (headOf s .capacity) (it .key) it (planFor f s it .rounds) (startOf f s it) fine start-off
+      let on = passed-on f s it p in
+      framed-more f _ _ _ _ _ _ _ _ _ (on .1) (on .2)
+      (way-framed f (headOf s .theta) (headOf s .capacity) (it .key) it (planFor f s it .rounds) (startOf f s it) (on .0) start-off)
 
 pub enter-frame : EnterFrame
 unfolding done
@@ -91,6 +95,7 @@ enter-frame f s it zero-is =
     elim (ways f s it) [
       | inl r ↦ absurd (r .some (sym (ap (λ a. a .reply .number) (r .is)) ∙ zero-is))
       | inr p ↦
-          subst (λ a. Framed f s (a .words) (startOf f s it .path) (startOf f s it .page) (behindIn s (startOf f s it .path)))
+          subst (λ a. Framed f s (a .words) (startOf f s it .path) (startOf f s it .page) (behindIn s (startOf f s it .path))
+          (take (planFor f s it .nodes) (nodesToCome s)) (take (planFor f s it .pages) (pagesToCome f s)))
           (sym (enter-done f s it p)) (passed-framed f s it p)
     ]

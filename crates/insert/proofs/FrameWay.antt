@@ -27,26 +27,27 @@ use Rattle.page.specs.Schema.{keyOf}
 use Rattle.represent.specs.Rep.{Sized}
 use Rattle.split.specs.Frame.{nodeOf, pageOf}
 use Rattle.split.specs.Round.{Place, round, aimAt, Climbed}
-use Rattle.split.specs.Insertion.{SameSizes, wordStore, putItems, nextPage, takePage}
+use Rattle.split.specs.Insertion.{SameSizes, wordStore, putItems}
 use Rattle.split.specs.Block.{aim, nodeOps}
-use Rattle.split.proofs.Frame.{putPagesTaken-sizes, putPagesTaken-sized, putPagesTaken-root, putPagesTaken-levels}
+use Rattle.split.proofs.Frame.{pageTaken-sizes, pageTaken-sized, pageTaken-root, pageTaken-levels}
+use Rattle.store.specs.Released.{nextPage, pageTaken}
+use Rattle.represent.specs.Labelled.{count as counted}
+use Rattle.represent.proofs.LabelLaws.{ind-eq}
+use Rattle.insert.proofs.PageSupplies.{page-next}
 use Rattle.split.proofs.Kept.{Kept, same-head}
-use Rattle.split.proofs.PageLaws.{put-head, put-other, take-pagesTaken, take-other}
+use Rattle.split.proofs.PageLaws.{put-head, put-other, take-other}
 use Rattle.split.proofs.WordStore.{others-pages, others-pagesTaken}
 use Rattle.insert.specs.Enter.{Way, Parted, noPlace, parted, roundOf, roundsOf, placed}
-use Rattle.insert.specs.Fine.{Off, Among, Led, Fine}
-use Rattle.insert.specs.Frame.{behindIn, Framed}
+use Rattle.insert.specs.Fine.{Off, Led, Supply, PageSupply, Clear, behindIn, Fine}
+use Rattle.insert.specs.Frame.{Framed}
 use Rattle.insert.proofs.PlaceLaws.{place-null, place-some}
 use Rattle.insert.proofs.InsideWrites.{put-now, length-aim}
-use Rattle.insert.proofs.InsideWay.{items-kept, items-nodes, items-taken, take-kept, take-nodes, take-taken, Halved}
-use Rattle.insert.proofs.InsideWay.{led-among, positive, page-step, theta-q, led-q, fits-q, room-q, round-fine, round-full}
+use Rattle.insert.proofs.InsideWay.{items-kept, items-nodes, items-taken, take-kept, take-nodes, take-taken, take-pages, take-supply, Halved}
+use Rattle.insert.proofs.InsideWay.{positive, page-step, theta-q, led-q, supply-q, far-q, room-q, round-on, round-full, null-page}
 use Rattle.insert.proofs.InsideWay.{one-page, round-kept, room-at-last, null-items}
 use Rattle.insert.proofs.FrameRound.{Noded, noded-none, now-noded, Onward, round-noded}
 
 -- paths
-off-past : (m x : ℕ) (path : List Place) → Among m path → m < x → Off x path
-off-past m x path a h = all-map (λ p. (1 ≤ p .at) × (p .at ≤ m)) (λ p. p .at ≡ x → ⊥) path (λ p q e. omega (arith, q .1)) a
-
 led-behind : (s : List ℕ) (path : List Place) → Led s path → behindIn s path ≤ headOf s .nodesTaken
 led-behind s [] led = absurd led
 led-behind s (p ∷ path) led = led .4
@@ -56,11 +57,6 @@ set-again : (ws : List ℕ) (i a b : ℕ) → set (set ws i a) i b ≡ set ws i 
 set-again [] i a b = refl
 set-again (x ∷ ws) zero a b = refl
 set-again (x ∷ ws) (suc i) a b = ap (λ l. x ∷ l) (set-again ws i a b)
-
--- a number that is old, or beyond the one taken next
-beside : (x a n : ℕ) → (x ≤ a) ⊎ (n < x) → n ≡ suc a → x ≡ suc a → ⊥
-beside x a n (inl h) e i = omega arith
-beside x a n (inr h) e i = omega arith
 
 -- the root and the levels, where pages are written
 pub record Rooted (s t : List ℕ) : Type 0 where
@@ -74,26 +70,26 @@ pub rooted-then : (s t v : List ℕ) → Rooted s t → Rooted t v → Rooted s 
 rooted-then s t v a b = record { root = b .root ∙ a .root; levels = b .levels ∙ a .levels }
 
 pub take-rooted : (f : Format) (C : ℕ) (s : List ℕ) (p : ℕ) (rs : List Item) → Sized f s → 1 ≤ p → p ≤ headOf s .pageBlocks
-    → headOf s .capacity ≡ C → length rs ≤ C → Rooted s (putItems f C (takePage s) p rs)
+    → headOf s .capacity ≡ C → length rs ≤ C → Rooted s (putItems f C (pageTaken f s) p rs)
 take-rooted f C s p rs ok low high full fits =
-    let k = putPagesTaken-sizes s (nextPage s) in
-    rooted-then s (takePage s) _
-    (record { root = putPagesTaken-root s (nextPage s); levels = putPagesTaken-levels s (nextPage s) })
-    (rooted-head (takePage s) _
-    (put-head f C (takePage s) p rs (putPagesTaken-sized s (nextPage s) f ok) low (omega (arith, k .pages)) (k .capacity ∙ full) fits))
+    let k = pageTaken-sizes f s in
+    rooted-then s (pageTaken f s) _
+    (record { root = pageTaken-root f s; levels = pageTaken-levels f s })
+    (rooted-head (pageTaken f s) _
+    (put-head f C (pageTaken f s) p rs (pageTaken-sized f s ok) low (omega (arith, k .pages)) (k .capacity ∙ full) fits))
 
 -- pages written
-pub record Paged (f : Format) (s t : List ℕ) (page : ℕ) : Type 0 where
+pub record Paged (f : Format) (s t : List ℕ) (page : ℕ) (ps : List ℕ) : Type 0 where
   sizes : SameSizes (headOf s) (headOf t)
   pub rooted : Rooted s t
   taken : headOf t .nodesTaken ≡ headOf s .nodesTaken
   nodes : (x : ℕ) → 1 ≤ x → x ≤ headOf s .nodeBlocks → nodeOf t x ≡ nodeOf s x
   pub low : headOf s .pagesTaken ≤ headOf t .pagesTaken
   high : headOf t .pagesTaken ≤ headOf s .pageBlocks
-  pages : (p : ℕ) → 1 ≤ p → (p ≤ headOf s .pagesTaken) ⊎ (headOf t .pagesTaken < p) → (p ≡ page → ⊥) → pageOf f t p ≡ pageOf f s p
+  pages : (p : ℕ) → 1 ≤ p → counted p ps ≡ 0 → (p ≡ page → ⊥) → pageOf f t p ≡ pageOf f s p
 
-paged-none : (f : Format) (s : List ℕ) (page : ℕ) → headOf s .pagesTaken ≤ headOf s .pageBlocks → Paged f s s page
-paged-none f s page fits =
+paged-none : (f : Format) (s : List ℕ) (page : ℕ) (ps : List ℕ) → headOf s .pagesTaken ≤ headOf s .pageBlocks → Paged f s s page ps
+paged-none f s page ps fits =
     record {
       sizes = same-head (headOf s) (headOf s) refl;
       rooted = rooted-head s s refl;
@@ -106,9 +102,9 @@ paged-none f s page fits =
 
 module _ (f : Format) (C : ℕ) (s : List ℕ) (rs : List Item) (ok : Sized f s) (full : headOf s .capacity ≡ C) (fits : length rs ≤ C) where
   -- records put into a page, and into one that is taken for them
-  items-paged : (p : ℕ) → 1 ≤ p → p ≤ headOf s .pageBlocks → headOf s .pagesTaken ≤ headOf s .pageBlocks
-      → Paged f s (putItems f C s p rs) p
-  items-paged p low high room =
+  items-paged : (p : ℕ) (ps : List ℕ) → 1 ≤ p → p ≤ headOf s .pageBlocks → headOf s .pagesTaken ≤ headOf s .pageBlocks
+      → Paged f s (putItems f C s p rs) p ps
+  items-paged p ps low high room =
       let head = put-head f C s p rs ok low high full fits in
       let e = ap (λ h. h .pagesTaken) head in
       record {
@@ -121,109 +117,123 @@ module _ (f : Format) (C : ℕ) (s : List ℕ) (rs : List Item) (ok : Sized f s)
         pages = λ x l d far. put-other f C s p rs ok low high full fits x l far;
       }
 
-  take-paged : (page : ℕ) → nextPage s ≤ headOf s .pageBlocks → Paged f s (putItems f C (takePage s) (nextPage s) rs) page
-  take-paged page room =
+  take-paged : (page n : ℕ) (ps : List ℕ) → PageSupply f s (n ∷ ps)
+      → Paged f s (putItems f C (pageTaken f s) (nextPage s) rs) page (n ∷ ps)
+  take-paged page n ps y =
       let m : ℕ = nextPage s in
-      let e = take-pagesTaken f C s m rs ok (omega arith) room full fits in
+      let q = page-next f s n ps ok y in
+      let low : 1 ≤ m = omega (arith, q .is, q .low) in
+      let room : m ≤ headOf s .pageBlocks = omega (arith, q .is, q .high) in
+      let e = take-pages f C s m rs ok low room full fits in
       record {
-        sizes = take-kept f C s m rs ok (omega arith) room full fits .sizes-same;
-        rooted = take-rooted f C s m rs ok (omega arith) room full fits;
-        taken = take-taken f C s m rs ok (omega arith) room full fits;
-        nodes = take-nodes f C s m rs ok (omega arith) room full fits;
-        low = omega (arith, e);
-        high = omega (arith, e);
-        pages = λ x l d far. take-other f C s m rs ok (omega arith) room full fits x l (beside x _ _ d e);
+        sizes = take-kept f C s m rs ok low room full fits .sizes-same;
+        rooted = take-rooted f C s m rs ok low room full fits;
+        taken = take-taken f C s m rs ok low room full fits;
+        nodes = take-nodes f C s m rs ok low room full fits;
+        low = omega (arith, e, q .more);
+        high = omega (arith, e, q .left .fits, pageTaken-sizes f s .pages);
+        pages = λ x l d far. take-other f C s m rs ok low room full fits x l (λ i. omega (arith, d, ind-eq x n (i ∙ q .is)));
       }
 
 -- a page halved
-pub record Parts (f : Format) (s : List ℕ) (p : ℕ) (q : Parted) : Type 0 where
-  pub paged : Paged f s (q .words) p
-  left-old : (x : ℕ) → 1 ≤ x → x ≤ headOf s .pagesTaken → (x ≡ p → ⊥) → x ≡ q .left → ⊥
-  right-old : (x : ℕ) → 1 ≤ x → x ≤ headOf s .pagesTaken → (x ≡ p → ⊥) → x ≡ q .right → ⊥
+pub record Parts (f : Format) (s : List ℕ) (p : ℕ) (ps : List ℕ) (q : Parted) : Type 0 where
+  pub paged : Paged f s (q .words) p ps
+  left-old : (x : ℕ) → 1 ≤ x → counted x ps ≡ 0 → (x ≡ p → ⊥) → x ≡ q .left → ⊥
+  right-old : (x : ℕ) → 1 ≤ x → counted x ps ≡ 0 → (x ≡ p → ⊥) → x ≡ q .right → ⊥
 
-pub parts : (f : Format) (C : ℕ) (s : List ℕ) (p : ℕ) (low high : List Item) → Sized f s → headOf s .capacity ≡ C → 1 ≤ p
-    → p ≤ headOf s .pagesTaken
-    → suc (headOf s .pagesTaken) ≤ headOf s .pageBlocks → length low + length high ≡ C → Halved f C s low high (parted f C s p low high)
-    → Parts f s p (parted f C s p low high)
+pub parts : (f : Format) (C : ℕ) (s : List ℕ) (p : ℕ) (ps : List ℕ) (low high : List Item) → Sized f s → headOf s .capacity ≡ C → 1 ≤ p
+    → p ≤ headOf s .pagesTaken → PageSupply f s ps → 1 ≤ length ps
+    → length low + length high ≡ C → Halved f C s ps low high (parted f C s p low high)
+    → Parts f s p ps (parted f C s p low high)
 unfolding parted
-parts f C s p [] high ok full one within room sum z =
+parts f C s p ps [] high ok full one within y room sum z =
     record {
-      paged = paged-none f s p (omega arith);
+      paged = paged-none f s p ps (y .fits);
       left-old = λ x l h far i. omega arith;
       right-old = λ x l h far i. far i;
     }
-parts f C s p (x ∷ xs) [] ok full one within room sum z =
+parts f C s p ps (x ∷ xs) [] ok full one within y room sum z =
     record {
-      paged = paged-none f s p (omega arith);
+      paged = paged-none f s p ps (y .fits);
       left-old = λ x l h far i. far i;
       right-old = λ x l h far i. omega arith;
     }
-parts f C s p (x ∷ xs) (y ∷ ys) ok full one within room sum z =
+parts f C s p [] (x ∷ xs) (y ∷ ys) ok full one within v room sum z = absurd (omega arith)
+parts f C s p (g ∷ ps) (x ∷ xs) (y ∷ ys) ok full one within v room sum z =
     let m : ℕ = nextPage s in
+    let q = page-next f s g ps ok v in
+    let low-m : 1 ≤ m = omega (arith, q .is, q .low) in
+    let not-m : (i : ℕ) → counted i (g ∷ ps) ≡ 0 → i ≡ m → ⊥ = λ i d e. omega (arith, d, ind-eq i g (e ∙ q .is)) in
     let fits₀ : length (x ∷ xs) ≤ C = omega arith in
-    let high : p ≤ headOf s .pageBlocks = omega arith in
-    let t : List ℕ = putItems f C (takePage s) p (x ∷ xs) in
+    let high : p ≤ headOf s .pageBlocks = omega (arith, v .fits) in
+    let t : List ℕ = putItems f C (pageTaken f s) p (x ∷ xs) in
     let k : Kept f s t = take-kept f C s p (x ∷ xs) ok one high full fits₀ in
-    let e : headOf (putItems f C t m (y ∷ ys)) .pagesTaken ≡ m = omega (arith, z .count) in
-    let room₁ : m ≤ headOf t .pageBlocks = omega (arith, k .sizes-same .pages) in
+    let room₁ : m ≤ headOf t .pageBlocks = omega (arith, k .sizes-same .pages, q .is, q .high) in
     let full₁ : headOf t .capacity ≡ C = k .sizes-same .capacity ∙ full in
     record {
       paged = record {
         sizes = z .kept .sizes-same;
         rooted =
             rooted-then s t _ (take-rooted f C s p (x ∷ xs) ok one high full fits₀)
-            (rooted-head t _ (put-head f C t m (y ∷ ys) (k .sized) (omega arith) room₁ full₁ (omega arith)));
+            (rooted-head t _ (put-head f C t m (y ∷ ys) (k .sized) low-m room₁ full₁ (omega arith)));
         taken = z .taken;
         nodes = z .nodes;
-        low = omega (arith, e);
-        high = omega (arith, e);
+        low = z .more;
+        high = omega (arith, z .pages .fits, z .kept .sizes-same .pages);
         pages = λ n l d far.
-            put-other f C t m (y ∷ ys) (k .sized) (omega arith) room₁ full₁ (omega arith) n l (beside n _ _ d e)
+            put-other f C t m (y ∷ ys) (k .sized) low-m room₁ full₁ (omega arith) n l (not-m n d)
             ∙ take-other f C s p (x ∷ xs) ok one high full fits₀ n l far;
       };
       left-old = λ n l h far i. far i;
-      right-old = λ n l h far i. omega arith;
+      right-old = λ n l h far i. not-m n h i;
     }
 
 module _ (f : Format) where
   -- a step on pages, and then one on nodes
-  both-framed : (s t u : List ℕ) (path : List Place) (page behind : ℕ) → Paged f s t page → Noded t u path behind
-      → behind ≤ headOf s .nodeBlocks → Framed f s u path page behind
-  both-framed s t u path page behind a b inside =
+  both-framed : (s t u : List ℕ) (path : List Place) (page behind : ℕ) (ns ps : List ℕ) → Paged f s t page ps → Noded t u path behind ns
+      → behind ≤ headOf s .nodeBlocks → Framed f s u path page behind ns ps
+  both-framed s t u path page behind ns ps a b inside =
       let e : headOf u .pagesTaken ≡ headOf t .pagesTaken = others-pagesTaken t u (b .others-same) in
       record {
         nodes-low = omega (arith, a .taken, b .low);
         nodes-high = omega (arith, b .high, a .sizes .nodes);
         pages-low = omega (arith, a .low, e);
         pages-high = omega (arith, a .high, e);
-        node-same = λ x low high d off far.
-            b .node-same x low (subst (λ n. (x ≤ n) ⊎ (headOf u .nodesTaken < x)) (sym (a .taken)) d) off far ∙ a .nodes x low high;
+        node-same = λ x low high d off far. b .node-same x low d off far ∙ a .nodes x low high;
         behind-same = λ low.
             let z = b .behind-same low in (z .0, z .1 ∙ ap (λ ws. set ws 2 (z .0)) (a .nodes behind low inside));
-        page-same = λ p low high d far.
-            others-pages f t u p (b .others-same) ∙ a .pages p low (subst (λ n. (p ≤ headOf s .pagesTaken) ⊎ (n < p)) e d) far;
+        page-same = λ p low high d far. others-pages f t u p (b .others-same) ∙ a .pages p low d far;
+      }
+
+  -- fewer blocks newly taken
+  pub framed-more : (s t : List ℕ) (path : List Place) (page behind : ℕ) (ns ps ns′ ps′ : List ℕ)
+      → ((x : ℕ) → counted x ns ≤ counted x ns′) → ((x : ℕ) → counted x ps ≤ counted x ps′)
+      → Framed f s t path page behind ns ps → Framed f s t path page behind ns′ ps′
+  framed-more s t path page behind ns ps ns′ ps′ g g′ a =
+      record {
+        nodes-low = a .nodes-low;
+        nodes-high = a .nodes-high;
+        pages-low = a .pages-low;
+        pages-high = a .pages-high;
+        node-same = λ x low high d. a .node-same x low high (omega (arith, g x));
+        behind-same = a .behind-same;
+        page-same = λ p low high d. a .page-same p low high (omega (arith, g′ p));
       }
 
   -- one step after another
-  module _ (s t u : List ℕ) (path path′ : List Place) (page page′ : ℕ) (sizes : SameSizes (headOf s) (headOf t)) (led : Led s path)
-      (off : Off (behindIn s path) path) (led′ : Led t path′) (on : Onward s t path path′)
-      (page-old : (x : ℕ) → 1 ≤ x → x ≤ headOf s .pagesTaken → (x ≡ page → ⊥) → x ≡ page′ → ⊥)
-      (page-in : page′ ≤ headOf t .pagesTaken)
-      (a : Framed f s t path page (behindIn s path)) (b : Framed f t u path′ page′ (behindIn t path′)) where
+  module _ (s t u : List ℕ) (path path′ : List Place) (page page′ : ℕ) (ns ps : List ℕ) (sizes : SameSizes (headOf s) (headOf t))
+      (led : Led s path)
+      (off : Off (behindIn s path) path) (fresh : counted (behindIn s path) ns ≡ 0) (on : Onward s t path path′ ns)
+      (page-old : (x : ℕ) → 1 ≤ x → counted x ps ≡ 0 → (x ≡ page → ⊥) → x ≡ page′ → ⊥)
+      (a : Framed f s t path page (behindIn s path) ns ps) (b : Framed f t u path′ page′ (behindIn t path′) ns ps) where
     abbrev q : ℕ
     q = behindIn s path
 
-    node-then : (x : ℕ) → 1 ≤ x → x ≤ headOf s .nodeBlocks → (x ≤ headOf s .nodesTaken) ⊎ (headOf u .nodesTaken < x) → Off x path
+    node-then : (x : ℕ) → 1 ≤ x → x ≤ headOf s .nodeBlocks → counted x ns ≡ 0 → Off x path
         → (x ≡ q → ⊥) → nodeOf u x ≡ nodeOf s x
-    node-then x low high (inl h) off-x far =
-        b .node-same x low (omega (arith, sizes .nodes)) (inl (omega (arith, a .nodes-low))) (on .path-old x h off-x)
-        (on .behind-old x h far)
-        ∙ a .node-same x low high (inl h) off-x far
-    node-then x low high (inr h) off-x far =
-        b .node-same x low (omega (arith, sizes .nodes)) (inr h)
-        (off-past (headOf t .nodesTaken) x path′ (led-among t path′ led′) (omega (arith, b .nodes-low)))
-        (λ i. omega (arith, led-behind t path′ led′, b .nodes-low))
-        ∙ a .node-same x low high (inr (omega (arith, b .nodes-low))) off-x far
+    node-then x low high h off-x far =
+        b .node-same x low (omega (arith, sizes .nodes)) h (on .path-old x h off-x) (on .behind-old x h far)
+        ∙ a .node-same x low high h off-x far
 
     behind-then : 1 ≤ q → (c : ℕ) × (nodeOf u q ≡ set (nodeOf s q) 2 c)
     behind-then low =
@@ -236,22 +246,19 @@ module _ (f : Format) where
               (y .0, y .1 ∙ ap (λ ws. set ws 2 (y .0)) (z .1) ∙ set-again (nodeOf s q) 2 (z .0) (y .0))
           | no e ↦ (
             z .0,
-            b .node-same q low (omega (arith, in-s, a .nodes-low, a .nodes-high, sizes .nodes)) (inl (omega (arith, in-s, a .nodes-low)))
-                (on .path-old q in-s off) e
+            b .node-same q low (omega (arith, in-s, a .nodes-low, a .nodes-high, sizes .nodes)) fresh
+                (on .path-old q fresh off) e
                 ∙ z .1,
           )
         ]
 
-    page-then : (p : ℕ) → 1 ≤ p → p ≤ headOf s .pageBlocks → (p ≤ headOf s .pagesTaken) ⊎ (headOf u .pagesTaken < p) → (p ≡ page → ⊥)
+    page-then : (p : ℕ) → 1 ≤ p → p ≤ headOf s .pageBlocks → counted p ps ≡ 0 → (p ≡ page → ⊥)
         → pageOf f u p ≡ pageOf f s p
-    page-then p low high (inl h) far =
-        b .page-same p low (omega (arith, sizes .pages)) (inl (omega (arith, a .pages-low))) (page-old p low h far)
-        ∙ a .page-same p low high (inl h) far
-    page-then p low high (inr h) far =
-        b .page-same p low (omega (arith, sizes .pages)) (inr h) (λ i. omega (arith, b .pages-low))
-        ∙ a .page-same p low high (inr (omega (arith, b .pages-low))) far
+    page-then p low high h far =
+        b .page-same p low (omega (arith, sizes .pages)) h (page-old p low h far)
+        ∙ a .page-same p low high h far
 
-    framed-then : Framed f s u path page q
+    framed-then : Framed f s u path page q ns ps
     framed-then =
         record {
           nodes-low = omega (arith, a .nodes-low, b .nodes-low);
@@ -264,14 +271,15 @@ module _ (f : Format) where
         }
 
   -- the node behind, where nodes stay
-  behind-stays : (s t : List ℕ) (path : List Place) (page : ℕ) → headOf s .nodesTaken ≤ headOf s .nodeBlocks → Led s path → Paged f s t page
+  behind-stays : (s t : List ℕ) (path : List Place) (page : ℕ) (ps : List ℕ) → headOf s .nodesTaken ≤ headOf s .nodeBlocks → Led s path
+      → Paged f s t page ps
       → behindIn t path ≡ behindIn s path
-  behind-stays s t [] page fits led z = absurd led
-  behind-stays s t (p ∷ path) page fits led z = ap (λ ws. forwardWord ws 0) (z .nodes (p .at) (led .0) (omega (arith, led .1)))
+  behind-stays s t [] page ps fits led z = absurd led
+  behind-stays s t (p ∷ path) page ps fits led z = ap (λ ws. forwardWord ws 0) (z .nodes (p .at) (led .0) (omega (arith, led .1)))
 
 module _ (f : Format) (θ C k : ℕ) where
-  abbrev pub From : Way → List ℕ → Type 0
-  From w t = Framed f (w .words) t (w .path) (w .page) (behindIn (w .words) (w .path))
+  abbrev pub From : List ℕ → List ℕ → Way → List ℕ → Type 0
+  From ns ps w t = Framed f (w .words) t (w .path) (w .page) (behindIn (w .words) (w .path)) ns ps
 
   -- one round, and what is written after it
   module _ (d : ℕ) (w : Way) (y : Fine f θ C k (suc d) w) (off : Off (behindIn (w .words) (w .path)) (w .path)) where
@@ -293,26 +301,28 @@ module _ (f : Format) (θ C k : ℕ) where
     abbrev r : Climbed (List ℕ)
     r = round (nodeOps θ) (wordStore f θ) θ (bits (width f) k) t (w .path) (parted-now .left) (parted-now .right)
 
-    pub halves : Parts f s (w .page) parted-now
+    pub halves : Parts f s (w .page) (y .page-numbers) parted-now
     halves =
-        parts f C s (w .page) (side keyOf false b (w .items)) (side keyOf true b (w .items)) (y .sized) (y .capacity)
-        (y .some (omega (arith, full, positive f θ C k (suc d) w y))) (y .page-in) (omega (arith, y .pages, one-page f θ C k d w y full))
+        parts f C s (w .page) (y .page-numbers) (side keyOf false b (w .items)) (side keyOf true b (w .items)) (y .sized) (y .capacity)
+        (y .some (omega (arith, full, positive f θ C k (suc d) w y))) (y .page-in) (y .pages)
+        (omega (arith, y .page-enough, one-page f θ C k d w y full))
         (omega (arith, full, length-sides keyOf b (w .items))) (page-step f θ C k d w y full)
 
     pub stays : behindIn t (w .path) ≡ behindIn s (w .path)
-    stays = behind-stays f s t (w .path) (w .page) (omega (arith, y .nodes)) (y .led) (halves .paged)
+    stays = behind-stays f s t (w .path) (w .page) (y .page-numbers) (y .nodes .fits) (y .led) (halves .paged)
 
-    turns : Noded t (r .store) (w .path) (behindIn t (w .path)) × Onward t (r .store) (w .path) (r .path)
+    turns : Noded t (r .store) (w .path) (behindIn t (w .path)) (y .numbers) × Onward t (r .store) (w .path) (r .path) (y .numbers)
     turns =
-        round-noded f θ (bits (width f) k) (w .path) t (parted-now .left) (parted-now .right) (page-step f θ C k d w y full .kept .sized)
-        (theta-q f θ C k d w y full) (led-q f θ C k d w y full) (fits-q f θ C k d w y full) (room-q f θ C k d w y full)
+        round-noded f θ (bits (width f) k) (w .path) t (parted-now .left) (parted-now .right) (y .numbers)
+        (page-step f θ C k d w y full .kept .sized) (theta-q f θ C k d w y full) (led-q f θ C k d w y full) (supply-q f θ C k d w y full)
+        (y .clear) (far-q f θ C k d w y full) (room-q f θ C k d w y full)
         (subst (λ n. Off n (w .path)) (sym stays) off)
 
-    onward : Onward s (r .store) (w .path) (r .path)
+    onward : Onward s (r .store) (w .path) (r .path) (y .numbers)
     onward =
         record {
-          path-old = λ x h. turns .1 .path-old x (omega (arith, halves .paged .taken));
-          behind-old = λ x h far. turns .1 .behind-old x (omega (arith, halves .paged .taken)) (λ e. far (e ∙ stays));
+          path-old = turns .1 .path-old;
+          behind-old = λ x h far. turns .1 .behind-old x h (λ e. far (e ∙ stays));
           off = turns .1 .off;
         }
 
@@ -320,12 +330,13 @@ module _ (f : Format) (θ C k : ℕ) where
     unfolding roundOf
     round-off = onward .off
 
-    round-framed : From w (r .store)
+    round-framed : From (y .numbers) (y .page-numbers) w (r .store)
     round-framed =
-        both-framed f s t (r .store) (w .path) (w .page) (behindIn s (w .path)) (halves .paged)
-        (subst (Noded t (r .store) (w .path)) stays (turns .0)) (omega (arith, led-behind s (w .path) (y .led), y .nodes))
+        both-framed f s t (r .store) (w .path) (w .page) (behindIn s (w .path)) (y .numbers) (y .page-numbers) (halves .paged)
+        (subst (λ n. Noded t (r .store) (w .path) n (y .numbers)) stays (turns .0))
+        (omega (arith, led-behind s (w .path) (y .led), y .nodes .fits))
 
-    page-old : (x : ℕ) → 1 ≤ x → x ≤ headOf s .pagesTaken → (x ≡ w .page → ⊥)
+    page-old : (x : ℕ) → 1 ≤ x → counted x (y .page-numbers) ≡ 0 → (x ≡ w .page → ⊥)
         → x ≡ elim (bit b k) [ true ↦ parted-now .right | false ↦ parted-now .left ] → ⊥
     page-old x low high far = go (bit b k)
       where
@@ -333,62 +344,71 @@ module _ (f : Format) (θ C k : ℕ) where
         go true = halves .right-old x low high far
         go false = halves .left-old x low high far
 
-    round-then : (u : List ℕ) → From (roundOf f θ C k w) u → From w u
+    round-then : (u : List ℕ) → From (y .numbers) (y .page-numbers) (roundOf f θ C k w) u → From (y .numbers) (y .page-numbers) w u
     unfolding roundOf
     round-then u z =
-        let g = round-fine f θ C k d w y full in
-        framed-then f s (r .store) u (w .path) (r .path) (w .page) _ (round-kept f θ C k d w y full .sizes-same) (y .led) off (g .led)
-        onward page-old (g .page-in) round-framed z
+        framed-then f s (r .store) u (w .path) (r .path) (w .page) _ (y .numbers) (y .page-numbers)
+        (round-kept f θ C k d w y full .sizes-same) (y .led) off (y .behind) onward page-old round-framed z
 
   -- the put
   module _ (it : Item) (w : Way) (y : Fine f θ C k 0 w) where
-    null-framed : w .page ≡ 0 → (path : List Place) → Led (w .words) path → Off (behindIn (w .words) path) path
+    null-framed : w .page ≡ 0 → (ps : List ℕ) → PageSupply f (w .words) ps → 1 ≤ length ps → (path : List Place) → Led (w .words) path
+        → Off (behindIn (w .words) path) path → Clear (y .numbers) path → counted (behindIn (w .words) path) (y .numbers) ≡ 0
         → Framed f (w .words)
-        (aimAt (nodeOps θ) (wordStore f θ) (putItems f C (takePage (w .words)) (nextPage (w .words)) (it ∷ []))
+        (aimAt (nodeOps θ) (wordStore f θ) (putItems f C (pageTaken f (w .words)) (nextPage (w .words)) (it ∷ []))
         (getD path 0 noPlace) (nextPage (w .words)))
-        path (w .page) (behindIn (w .words) path)
-    unfolding aimAt pagesAt
-    null-framed e [] led off = absurd led
-    null-framed e (p ∷ path) led off =
+        path (w .page) (behindIn (w .words) path) (y .numbers) ps
+    unfolding aimAt
+    null-framed e ps v l [] led off clear far = absurd led
+    null-framed e [] v l (p ∷ path) led off clear far = absurd (omega arith)
+    null-framed e (n ∷ ps) v l (p ∷ path) led off clear far =
         let s : List ℕ = w .words in
         let m : ℕ = nextPage s in
-        let room : m ≤ headOf s .pageBlocks = omega (arith, y .pages, ap (pagesAt C) (null-items f θ C k 0 w y e)) in
+        let room = null-page f θ C k it w y e in
         let one : length (it ∷ []) ≤ C = positive f θ C k 0 w y in
-        let t : List ℕ = putItems f C (takePage s) m (it ∷ []) in
-        let kept : Kept f s t = take-kept f C s m (it ∷ []) (y .sized) (omega arith) room (y .capacity) one in
-        let z : Paged f s t (w .page) = take-paged f C s (it ∷ []) (y .sized) (y .capacity) one (w .page) room in
+        let t : List ℕ = putItems f C (pageTaken f s) m (it ∷ []) in
+        let kept : Kept f s t = take-kept f C s m (it ∷ []) (y .sized) (room .0) (room .1) (y .capacity) one in
+        let z : Paged f s t (w .page) (n ∷ ps) = take-paged f C s (it ∷ []) (y .sized) (y .capacity) one (w .page) n ps v in
+        let supply : Supply t (y .numbers) =
+        take-supply f C s m (it ∷ []) (y .sized) (room .0) (room .1) (y .capacity) one (y .numbers) (y .nodes) in
         let ws : List ℕ = aim θ (nodeOf t (p .at)) (p .bits) m in
         let same : length ws ≡ nodeWords (headOf t .theta) =
         length-aim θ (nodeOf t (p .at)) (p .bits) m ∙ ap nodeWords (sym (kept .sizes-same .theta ∙ y .theta)) in
-        let now = put-now f θ t p path ws (kept .sized) (led .0, omega (arith, led .1, y .nodes, z .sizes .nodes)) same in
-        both-framed f s t _ (p ∷ path) (w .page) (behindIn s (p ∷ path)) z
-        (now-noded f t _ 0 (p ∷ path) (behindIn s (p ∷ path)) now (omega (arith, y .nodes, z .taken, z .sizes .nodes))
-        (omega (arith, led .4, z .taken)) off)
-        (omega (arith, led .4, y .nodes))
+        let now =
+        put-now f θ t p path ws (y .numbers) (kept .sized) (led .0, omega (arith, led .1, y .nodes .fits, z .sizes .nodes)) same (clear .0)
+        supply in
+        both-framed f s t _ (p ∷ path) (w .page) (behindIn s (p ∷ path)) (y .numbers) (n ∷ ps) z
+        (now-noded f t _ (y .numbers) 0 (p ∷ path) (behindIn s (p ∷ path)) now far off)
+        (omega (arith, led .4, y .nodes .fits))
 
-    some-framed : (w .page ≡ 0 → ⊥) → From w (putItems f C (w .words) (w .page) (insert keyOf it (w .items)))
+    some-framed : (w .page ≡ 0 → ⊥) → From (y .numbers) (y .page-numbers) w (putItems f C (w .words) (w .page) (insert keyOf it (w .items)))
     some-framed e =
         let s : List ℕ = w .words in
         let rs : List Item = insert keyOf it (w .items) in
         let fits : length rs ≤ C = omega (arith, length-insert keyOf it (w .items), room-at-last f θ C k w y) in
-        let z : Paged f s (putItems f C s (w .page) rs) (w .page) =
-        items-paged f C s rs (y .sized) (y .capacity) fits (w .page) (omega arith) (omega (arith, y .page-in, y .filled-in))
-        (y .filled-in) in
-        both-framed f s _ _ (w .path) (w .page) (behindIn s (w .path)) z
-        (noded-none _ (w .path) (behindIn s (w .path)) (omega (arith, y .nodes, z .taken, z .sizes .nodes)))
-        (omega (arith, led-behind s (w .path) (y .led), y .nodes))
+        let z : Paged f s (putItems f C s (w .page) rs) (w .page) (y .page-numbers) =
+        items-paged f C s rs (y .sized) (y .capacity) fits (w .page) (y .page-numbers) (omega arith)
+        (omega (arith, y .page-in, y .pages .fits)) (y .pages .fits) in
+        both-framed f s _ _ (w .path) (w .page) (behindIn s (w .path)) (y .numbers) (y .page-numbers) z
+        (noded-none _ (w .path) (behindIn s (w .path)) (y .numbers) (omega (arith, y .nodes .fits, z .taken, z .sizes .nodes)))
+        (omega (arith, led-behind s (w .path) (y .led), y .nodes .fits))
 
-    put-framed : Off (behindIn (w .words) (w .path)) (w .path) → From w (placed f θ C it w)
+    put-framed : Off (behindIn (w .words) (w .path)) (w .path) → From (y .numbers) (y .page-numbers) w (placed f θ C it w)
+    unfolding pagesAt
     put-framed off =
         elim (ℕ-discrete (w .page) 0) [
-          | yes e ↦ subst (From w) (sym (place-null θ C f it w e)) (null-framed e (w .path) (y .led) off)
-          | no e ↦ subst (From w) (sym (place-some θ C f it w e)) (some-framed e)
+          | yes e ↦
+              subst (From (y .numbers) (y .page-numbers) w) (sym (place-null θ C f it w e))
+              (null-framed e (y .page-numbers) (y .pages) (omega (arith, y .page-enough, ap (pagesAt C) (null-items f θ C k 0 w y e)))
+              (w .path) (y .led) off (y .clear) (y .behind))
+          | no e ↦ subst (From (y .numbers) (y .page-numbers) w) (sym (place-some θ C f it w e)) (some-framed e)
         ]
 
   -- all rounds and the put
-  pub way-framed : (it : Item) (d : ℕ) (w : Way) → Fine f θ C k d w → Off (behindIn (w .words) (w .path)) (w .path)
-      → From w (placed f θ C it (roundsOf f θ C k d w))
+  pub way-framed : (it : Item) (d : ℕ) (w : Way) (y : Fine f θ C k d w) → Off (behindIn (w .words) (w .path)) (w .path)
+      → From (y .numbers) (y .page-numbers) w (placed f θ C it (roundsOf f θ C k d w))
   way-framed it zero w y off = put-framed it w y off
   way-framed it (suc d) w y off =
+      let on = round-on f θ C k d w y (round-full f θ C k d w y) in
       round-then d w y off _
-      (way-framed it d (roundOf f θ C k w) (round-fine f θ C k d w y (round-full f θ C k d w y)) (round-off d w y off))
+      (framed-more f _ _ _ _ _ _ _ _ _ (on .1) (on .2) (way-framed it d (roundOf f θ C k w) (on .0) (round-off d w y off)))

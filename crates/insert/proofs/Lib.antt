@@ -8,12 +8,16 @@ pub mod PlaceLaws
 pub mod ReachLaws
 pub mod TestLaws
 pub mod PageWords
+pub mod ChainPass
 pub mod StepLaws
 pub mod Refusals
+pub mod Supplies
+pub mod PageSupplies
 pub mod InsideWrites
 pub mod InsideRound
 pub mod HeldRound
 pub mod InsideWay
+pub mod ChainStart
 pub mod InsideEnter
 pub mod EnterCode
 pub mod FrameRound

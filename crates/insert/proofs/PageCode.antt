@@ -6,10 +6,9 @@ use mathlib.Core.Bool.{true, false}
 use mathlib.Core.List.{List, [], _∷_}
 use Prim.Native.Nat.{ℕ, suc, _+_, _*_, _≤_, _<_}
 use native.Mathlib.Nat.{add-zero}
-use native.Mathlib.Numerals.{add-one}
 use native.Mathlib.Decide.{decLt}
 use native.Mathlib.Omega.{arith}
-use lib.ListN.{length, take, drop, set, length-drop}
+use lib.ListN.{length, take, drop, length-drop}
 use lib.Seq.{length-take-le}
 use Rattle.lists.specs.Lists.{All, replaced, part}
 use Rattle.lists.specs.Keyed.{Sorted, Prefix}
@@ -26,18 +25,15 @@ use Rattle.represent.specs.Image.{pageImage}
 use Rattle.represent.specs.Rep.{Sized}
 use Rattle.represent.proofs.PageImage.{page-count, page-inside}
 use Rattle.store.proofs.Places.{part-word, page-end, pages-apart}
-use Rattle.split.specs.Frame.{pageOf, putPage, putPagesTaken}
-use Rattle.split.specs.Insertion.{SameSizes, putItems, nextPage, takePage}
-use Rattle.split.proofs.Frame.{sized-long, putPage-head, putPagesTaken-sizes, putPagesTaken-is, putPagesTaken-sized, putPagesTaken-pages}
+use Rattle.store.specs.Released.{nextPage, pageTaken}
+use Rattle.split.specs.Frame.{pageOf, putPage}
+use Rattle.split.specs.Insertion.{SameSizes, putItems}
+use Rattle.split.proofs.Frame.{sized-long, putPage-head, pageTaken-sizes, pageTaken-sized, pageTaken-pages}
 use Rattle.split.proofs.PageLaws.{put-head, put-sized}
 use Rattle.put.specs.Put.{Halvable}
 use Rattle.insert.specs.Enter.{Parted, itemsIn, parted}
 use Rattle.insert.specs.Fine.{Partable}
-
--- one page more in the head
-pub taken-more : (s : List ℕ) (n : ℕ) → set s 5 (n + 1) ≡ putPagesTaken s (suc n)
-unfolding putPagesTaken
-taken-more s n = ap (set s 5) (add-one n)
+use Rattle.insert.proofs.PageSupplies.{NextPage, page-next}
 
 pub pos : (i : ℕ) → (i ≡ 0 → ⊥) → 1 ≤ i
 pos i h = elim (decLt i 1) [ yes l ↦ absurd (h (omega arith)) | no l ↦ omega arith ]
@@ -60,7 +56,7 @@ module _ (f : Format) (C : ℕ) (s : List ℕ) (p : ℕ) where
   parted-high (x ∷ xs) (y ∷ ys) some e = absurd (omega arith)
 
   parted-both : (low high : List Item) → 1 ≤ length low → 1 ≤ length high
-      → record { words = putItems f C (putItems f C (takePage s) p low) (nextPage s) high; left = p; right = nextPage s }
+      → record { words = putItems f C (putItems f C (pageTaken f s) p low) (nextPage s) high; left = p; right = nextPage s }
       ≡ parted f C s p low high
   unfolding parted
   parted-both [] high some more = absurd (omega arith)
@@ -112,50 +108,49 @@ module _ (f : Format) (s : List ℕ) (p b : ℕ) (y : Partable f s p b) where
 
   -- the words with the page taken
   abbrev t : List ℕ
-  t = takePage s
+  t = pageTaken f s
 
   sizes : SameSizes (headOf s) (headOf t)
-  sizes = putPagesTaken-sizes s (nextPage s)
+  sizes = pageTaken-sizes f s
 
   sized : Sized f t
-  sized = putPagesTaken-sized s (nextPage s) f (y .sized)
+  sized = pageTaken-sized f s (y .sized)
 
-  next-is : headOf t .pagesTaken ≡ nextPage s
-  next-is = putPagesTaken-is s (nextPage s) (omega (arith, sized-long f s (y .sized)))
+  next : NextPage f s (y .number) (y .rest)
+  next = page-next f s (y .number) (y .rest) (y .sized) (y .supply)
 
   image-now : pageOf f t p ≡ pageImage f (headOf t .capacity) items
-  image-now = putPagesTaken-pages s (nextPage s) f p ∙ y .image ∙ ap (λ C. pageImage f C items) (sym (sizes .capacity))
+  image-now = pageTaken-pages f s p ∙ y .image ∙ ap (λ C. pageImage f C items) (sym (sizes .capacity))
 
   from-in : pageStart f (headOf t) p + pageWords f (headOf t .capacity) ≤ length t
-  from-in = omega (arith, page-end (headOf t) f p (y .low) (omega (arith, sizes .pages, y .high, y .room)), sized .long)
+  from-in = omega (arith, page-end (headOf t) f p (y .low) (omega (arith, sizes .pages, y .high, y .supply .fits)), sized .long)
 
   ready : (i : ℕ) → i ≤ length items
-      → Halvable f t (headOf t .capacity) (pageStart f (headOf t) p) (pageStart f (headOf t) (headOf t .pagesTaken)) i
+      → Halvable f t (headOf t .capacity) (pageStart f (headOf t) p) (pageStart f (headOf t) (nextPage s)) i
   ready i within =
-      let m : ℕ = headOf t .pagesTaken in
-      let low : 1 ≤ m = omega (arith, next-is) in
+      let m : ℕ = nextPage s in
+      let low : 1 ≤ m = omega (arith, next .is, next .low) in
       let size : word t (pageStart f (headOf t) p) ≡ length items =
       count-at f t (headOf t) p from-in ∙ page-count f (headOf t .capacity) (pageOf f t p) items image-now in
       record {
         small = omega (arith, limits .capacity, sizes .capacity);
         from-in = from-in;
-        to-in = omega (arith, page-end (headOf t) f m low (omega (arith, sizes .pages, next-is, y .room)), sized .long);
-        apart = pages-apart (headOf t) f p m (y .low) low (λ e. omega (arith, next-is, y .high));
+        to-in = omega (arith, page-end (headOf t) f m low (omega (arith, sizes .pages, next .is, next .high)), sized .long);
+        apart = pages-apart (headOf t) f p m (y .low) low (λ e. y .another (sym (next .is) ∙ sym e));
         fits = omega (arith, size, y .fit, sizes .capacity);
         within = omega (arith, size);
       }
 
   halved-words : (u : List ℕ) (i : ℕ)
-      → Halves f t u (headOf t .capacity) (pageStart f (headOf t) p) (pageStart f (headOf t) (headOf t .pagesTaken)) i
+      → Halves f t u (headOf t .capacity) (pageStart f (headOf t) p) (pageStart f (headOf t) (nextPage s)) i
       → u ≡ putItems f full (putItems f full t p (take i items)) (nextPage s) (drop i items)
   unfolding pageAt
   halved-words u i halves =
       let C : ℕ = headOf t .capacity in
       halves items image-now
-      ∙ two-pages f t p (headOf t .pagesTaken) (pageImage f C (take i items)) (pageImage f C (drop i items))
+      ∙ two-pages f t p (nextPage s) (pageImage f C (take i items)) (pageImage f C (drop i items))
       (omega (arith, sized-long f t sized))
-      ∙ ap (λ C. putItems f C (putItems f C t p (take i items)) (headOf t .pagesTaken) (drop i items)) (sizes .capacity)
-      ∙ ap (λ q. putItems f full (putItems f full t p (take i items)) q (drop i items)) next-is
+      ∙ ap (λ C. putItems f C (putItems f C t p (take i items)) (nextPage s) (drop i items)) (sizes .capacity)
 
   -- i is neither none nor all
   module _ (i : ℕ) (some : 1 ≤ i) (more : i < length items) where
@@ -164,7 +159,7 @@ module _ (f : Format) (s : List ℕ) (p b : ℕ) (y : Partable f s p b) where
 
     halved-head : headOf (putItems f full (putItems f full t p (take i items)) (nextPage s) (drop i items)) ≡ headOf t
     halved-head =
-        let high : p ≤ headOf t .pageBlocks = omega (arith, sizes .pages, y .high, y .room) in
+        let high : p ≤ headOf t .pageBlocks = omega (arith, sizes .pages, y .high, y .supply .fits) in
         let fits : length (take i items) ≤ full = omega (arith, short, y .fit) in
         let u : List ℕ = putItems f full t p (take i items) in
         let ok : Sized f u = put-sized f full t p (take i items) sized (y .low) high (sizes .capacity) fits in
@@ -186,9 +181,9 @@ module _ (f : Format) (s : List ℕ) (p b : ℕ) (y : Partable f s p b) where
         (omega (arith, ap length (cut .1), length-drop i items, count-is))
 
     low-some : (u : List ℕ) → (i ≡ 0 → ⊥) → i < count (pageOf f s p)
-        → Halves f t u (headOf t .capacity) (pageStart f (headOf t) p) (pageStart f (headOf t) (headOf t .pagesTaken)) i
+        → Halves f t u (headOf t .capacity) (pageStart f (headOf t) p) (pageStart f (headOf t) (nextPage s)) i
         → (headOf t ≡ headOf u)
-        × (record { words = u; left = p; right = headOf t .pagesTaken }
+        × (record { words = u; left = p; right = nextPage s }
         ≡ parted f full s p (side keyOf false b items) (side keyOf true b items))
     low-some u some more halves =
         let low : List Item = side keyOf false b items in
@@ -199,20 +194,20 @@ module _ (f : Format) (s : List ℕ) (p b : ℕ) (y : Partable f s p b) where
         let both : u ≡ putItems f full (putItems f full t p low) (nextPage s) high =
         is ∙ ap₂ (λ l r. putItems f full (putItems f full t p l) (nextPage s) r) (cut .0) (cut .1) in (
           sym (ap headOf is ∙ halved-head i one less),
-          ap₂ (λ u q. record { words = u; left = p; right = q }) both next-is
+          ap (λ u. record { words = u; left = p; right = nextPage s }) both
               ∙ parted-both f full s p low high (omega (arith, ap length (cut .0), short i one less))
               (omega (arith, ap length (cut .1), length-drop i items)),
         )
 
 -- the same where the code has its own head and words
 module _ (f : Format) (s : List ℕ) (h : Head) (p b : ℕ) (is : h ≡ headOf s) (y : Partable f s p b) where
-  pub part-limits : (8 ≤ length s) × (h .theta ≤ 6) × (h .capacity ≤ largestCapacity) × (h .pagesTaken < 4096)
+  pub part-limits : (16 ≤ length s) × (h .theta ≤ 6) × (h .capacity ≤ largestCapacity) × (h .pagesTaken ≤ 4096)
   part-limits =
-      subst (λ (h : Head). (8 ≤ length s) × (h .theta ≤ 6) × (h .capacity ≤ largestCapacity) × (h .pagesTaken < 4096)) (sym is) (
+      subst (λ (h : Head). (16 ≤ length s) × (h .theta ≤ 6) × (h .capacity ≤ largestCapacity) × (h .pagesTaken ≤ 4096)) (sym is) (
         omega (arith, sized-long f s (y .sized)),
         limits f s p b y .theta,
         limits f s p b y .capacity,
-        omega (arith, limits f s p b y .pages, y .room),
+        omega (arith, limits f s p b y .pages, y .supply .fits),
       )
 
   -- what is asked where the records with a clear bit are counted
@@ -223,11 +218,11 @@ module _ (f : Format) (s : List ℕ) (h : Head) (p b : ℕ) (is : h ≡ headOf s
   )
 
   -- the head with the page taken
-  pub part-next : (t : List ℕ) (g : Head) → t ≡ putPagesTaken s (suc (h .pagesTaken)) → g ≡ headOf t
+  pub part-next : (t : List ℕ) (g : Head) → t ≡ pageTaken f s → g ≡ headOf t
       → (g .theta ≤ 6) × (g .capacity ≤ largestCapacity)
   part-next t g taken head-is =
       let k : SameSizes (headOf s) (headOf t) =
-      subst (λ t. SameSizes (headOf s) (headOf t)) (sym taken) (putPagesTaken-sizes s (suc (h .pagesTaken))) in
+      subst (λ t. SameSizes (headOf s) (headOf t)) (sym taken) (pageTaken-sizes f s) in
       subst (λ (g : Head). (g .theta ≤ 6) × (g .capacity ≤ largestCapacity)) (sym head-is)
       (omega (arith, k .theta, limits f s p b y .theta), omega (arith, k .capacity, limits f s p b y .capacity))
 
@@ -251,32 +246,33 @@ module _ (f : Format) (s : List ℕ) (h : Head) (p b : ℕ) (is : h ≡ headOf s
     part-high some e = low-all f s p b y i cuts-own some (e ∙ ap count own-is) ∙ ap answer (sym is)
 
     -- with a page taken, a new head, and where the two pages stand
-    module _ (t : List ℕ) (g : Head) (from to : ℕ) (taken : t ≡ putPagesTaken s (suc (h .pagesTaken))) (head-is : g ≡ headOf t)
-        (from-is : from ≡ pageStart f g p) (to-is : to ≡ pageStart f g (g .pagesTaken)) where
-      alike : (P : Head → List ℕ → Head → ℕ → ℕ → Type 0)
-          → P (headOf s) (takePage s) (headOf (takePage s)) (pageStart f (headOf (takePage s)) p)
-          (pageStart f (headOf (takePage s)) (headOf (takePage s) .pagesTaken)) → P h t g from to
+    module _ (t : List ℕ) (g : Head) (n from to : ℕ) (taken : t ≡ pageTaken f s) (head-is : g ≡ headOf t) (number : n ≡ nextPage s)
+        (from-is : from ≡ pageStart f g p) (to-is : to ≡ pageStart f g n) where
+      alike : (P : Head → List ℕ → Head → ℕ → ℕ → ℕ → Type 0)
+          → P (headOf s) (pageTaken f s) (headOf (pageTaken f s)) (nextPage s) (pageStart f (headOf (pageTaken f s)) p)
+          (pageStart f (headOf (pageTaken f s)) (nextPage s)) → P h t g n from to
       alike P x =
-          let T : List ℕ = takePage s in
-          let e : t ≡ T = taken ∙ ap (λ (h : Head). putPagesTaken s (suc (h .pagesTaken))) is in
-          let a : g ≡ headOf T = head-is ∙ ap headOf e in
+          let T : List ℕ = pageTaken f s in
+          let m : ℕ = nextPage s in
+          let a : g ≡ headOf T = head-is ∙ ap headOf taken in
           let c : from ≡ pageStart f (headOf T) p = from-is ∙ ap (λ (g : Head). pageStart f g p) a in
-          let d : to ≡ pageStart f (headOf T) (headOf T .pagesTaken) = to-is ∙ ap (λ (g : Head). pageStart f g (g .pagesTaken)) a in
-          subst (λ h. P h t g from to) (sym is)
-          (subst (λ t. P (headOf s) t g from to) (sym e)
-          (subst (λ g. P (headOf s) T g from to) (sym a)
-          (subst (λ from. P (headOf s) T (headOf T) from to) (sym c)
-          (subst (λ to. P (headOf s) T (headOf T) (pageStart f (headOf T) p) to) (sym d) x))))
+          let d : to ≡ pageStart f (headOf T) m = to-is ∙ ap₂ (λ (g : Head) i. pageStart f g i) a number in
+          subst (λ h. P h t g n from to) (sym is)
+          (subst (λ t. P (headOf s) t g n from to) (sym taken)
+          (subst (λ g. P (headOf s) T g n from to) (sym a)
+          (subst (λ n. P (headOf s) T (headOf T) n from to) (sym number)
+          (subst (λ from. P (headOf s) T (headOf T) m from to) (sym c)
+          (subst (λ to. P (headOf s) T (headOf T) m (pageStart f (headOf T) p) to) (sym d) x)))))
 
       pub part-ready : i ≤ count pg → Halvable f t (g .capacity) from to i
       part-ready within =
-          alike (λ h t g from to. Halvable f t (g .capacity) from to i)
+          alike (λ h t g n from to. Halvable f t (g .capacity) from to i)
           (ready f s p b y i (omega (arith, ap count own-is, count-is f s p b y)))
 
       pub part-both : (u : List ℕ) → (i ≡ 0 → ⊥) → (i ≡ count pg → ⊥) → i ≤ count pg → Halves f t u (g .capacity) from to i
-          → (g ≡ headOf u) × (record { words = u; left = p; right = g .pagesTaken } ≡ answer h)
+          → (g ≡ headOf u) × (record { words = u; left = p; right = n } ≡ answer h)
       part-both u some more within =
           alike
-          (λ h t g from to. Halves f t u (g .capacity) from to i
-          → (g ≡ headOf u) × (record { words = u; left = p; right = g .pagesTaken } ≡ answer h))
+          (λ h t g n from to. Halves f t u (g .capacity) from to i
+          → (g ≡ headOf u) × (record { words = u; left = p; right = n } ≡ answer h))
           (low-some f s p b y i cuts-own u some (omega (arith, ap count own-is, below i (count pg) more within)))

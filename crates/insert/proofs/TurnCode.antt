@@ -26,6 +26,8 @@ use Rattle.store.specs.Head.{headOf, pageAt}
 use Rattle.page.specs.Page.{count, itemAt, lawfulItem}
 use Rattle.page.specs.Schema.{keyOf}
 use Rattle.represent.specs.Image.{pageImage}
+use Rattle.represent.specs.Labelled.{count as counted}
+use Rattle.represent.proofs.LabelLaws.{ind-eq}
 use Rattle.represent.proofs.PageImage.{page-count, page-item}
 use Rattle.search.specs.declared.Descent.{Descent}
 use Rattle.search.specs.Find.{noItem}
@@ -33,10 +35,11 @@ use Rattle.split.specs.Round.{round}
 use Rattle.split.specs.Insertion.{wordStore}
 use Rattle.split.specs.Block.{nodeOps}
 use Rattle.insert.specs.Enter.{Way, Parted, itemsIn, ownItems, places, pathIn, parted, wayOf, roundOf}
-use Rattle.insert.specs.Fine.{Fine, Turnable, Partable, Carries, Climbable, Led, rounded}
+use Rattle.insert.specs.Fine.{Fine, Turnable, Partable, Carries, PageSupply, Roundable, rounded}
 use Rattle.insert.proofs.TestLaws.{items-null, items-some}
-use Rattle.insert.proofs.InsideWay.{positive, bit-left, one-page, page-step, led-q, able-q, theta-q, round-fine, round-full, null-items}
+use Rattle.insert.proofs.InsideWay.{positive, bit-left, one-page, page-step, able-q, theta-q, round-fine, round-full, null-items}
 use Rattle.insert.proofs.FrameWay.{parts}
+use Rattle.insert.proofs.RootCode.{Some, some as some-of}
 
 -- the records of a page's image
 image-items : (f : Format) (θ C k d : ℕ) (w : Way) → Fine f θ C k d w → (pg : List ℕ) → pg ≡ pageImage f C (w .items)
@@ -104,15 +107,26 @@ module _ (f : Format) (k : ℕ) (s : List ℕ) (h : Head) (d : Descent) (c : Car
   items-own x e =
       ap (λ v. itemsIn f (pageAt f s v (d .page))) (e ∙ sym (c .head-is)) ∙ sym (items-some f s h (d .page) (λ z. omega (arith, some)))
 
+  -- a page is to come
+  page-there : 1 ≤ length (fine .page-numbers)
+  page-there = omega (arith, fine .page-enough, one-page f θ C k (y .more) w fine full)
+
+  first-page : Some (fine .page-numbers)
+  first-page = some-of (fine .page-numbers) page-there
+
   pub turn-page : (n : ℕ) → n ≡ b → Partable f s (d .page) n
   unfolding wayOf
   turn-page n e =
       let is = sym (items-own (headOf s) refl) in
+      let o = first-page in
       record {
         sized = fine .sized;
         low = some;
         high = fine .page-in;
-        room = omega (arith, fine .pages, one-page f θ C k (y .more) w fine full);
+        number = o .n;
+        rest = o .ns;
+        supply = subst (PageSupply f s) (o .is) (fine .pages);
+        another = λ i. omega (arith, subst (λ l. counted (d .page) l ≡ 0) (o .is) (fine .page-clear), ind-eq (d .page) (o .n) (sym i));
         narrow = omega (arith, left);
         prefix-bits = k / 2 ^ (width f - d .used);
         image = fine .image (λ z. omega (arith, some)) ∙ ap (pageImage f C) is;
@@ -143,8 +157,8 @@ module _ (f : Format) (k : ℕ) (s : List ℕ) (h : Head) (d : Descent) (c : Car
   levels-q : headOf (q .words) .levels ≡ h .levels
   unfolding wayOf
   levels-q =
-      parts f C s (d .page) (side keyOf false b (w .items)) (side keyOf true b (w .items)) (fine .sized) refl some (fine .page-in)
-      (omega (arith, fine .pages, one-page f θ C k (y .more) w fine full))
+      parts f C s (d .page) (fine .page-numbers) (side keyOf false b (w .items)) (side keyOf true b (w .items)) (fine .sized) refl some
+      (fine .page-in) (fine .pages) page-there
       (omega (arith, full, length-sides keyOf b (w .items))) (page-step f θ C k (y .more) w fine full) .paged .rooted .levels
       ∙ ap (λ (x : Head). x .levels) (sym (c .head-is))
 
@@ -183,13 +197,12 @@ module _ (f : Format) (k : ℕ) (s : List ℕ) (h : Head) (d : Descent) (c : Car
     after-fine : Fine f θ C k (y .more) after
     after-fine = round-fine f θ C k (y .more) w fine full
 
-    pub turn-round : Carries v g (d .steps) × Led v (places f k (g .levels) (d .steps)) × Climbable f v (places f k (g .levels) (d .steps))
+    pub turn-round : Carries v g (d .steps) × Roundable f v (places f k (g .levels) (d .steps))
         × (length (rounded f v k (places f k (g .levels) (d .steps)) left right .path) ≤ 32)
     unfolding roundOf wayOf
     turn-round = (
       record { head-is = own; long = c .long; low = omega (arith, levels, c .low); high = omega (arith, levels, c .high) },
-      subst₂ Led (sym words) (sym path-is) (led-q f θ C k (y .more) w fine full),
-      subst₂ (Climbable f) (sym words) (sym path-is) (able-q f θ C k (y .more) w fine full),
+      subst₂ (Roundable f) (sym words) (sym path-is) (able-q f θ C k (y .more) w fine full),
       omega (arith, ap (λ r. length (r .path)) round-is, after-fine .short),
     )
 

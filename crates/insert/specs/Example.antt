@@ -8,6 +8,7 @@ use mathlib.Core.List.{List}
 use Prim.Native.Nat.{ℕ}
 use Rattle.store.specs.declared.Format.the-variants.{Plots}
 use Rattle.store.specs.declared.Item.{Item}
+use Rattle.represent.specs.Labelled.{count}
 use Rattle.represent.specs.Example.{stored}
 use Rattle.represent.specs.Broken.{unlinked, smudgedPage}
 use Rattle.split.specs.Round.{Place}
@@ -23,4 +24,6 @@ NeighbourTested = (enterOf Plots unlinked early .reply .number ≡ 9) × (enterO
 
 -- (whatever the path and the node behind it are, and whatever the key's own page is, unless it is that one)
 abbrev pub ClearedBreaks : Type 0
-ClearedBreaks = (path : List Place) (page behind : ℕ) → (4 ≡ page → ⊥) → Framed Plots smudgedPage stored path page behind → ⊥
+ClearedBreaks =
+    (path : List Place) (page behind : ℕ) (ns ps : List ℕ) → (4 ≡ page → ⊥) → count 4 ps ≡ 0 → Framed Plots smudgedPage stored path page behind ns ps
+    → ⊥

@@ -6,17 +6,18 @@ use native.Mathlib.Omega.{arith}
 use Rattle.lists.specs.Lists.{every, greatest}
 use Rattle.store.specs.declared.Format.the-variants.{Plots}
 use Rattle.store.specs.Format.{width, words}
-use Rattle.store.specs.Head.{headOf, zeros, nodeWords, nodeStart, InUse}
+use Rattle.store.specs.Head.{headOf, releasedOf, zeros, nodeWords, nodeStart}
+use Rattle.store.specs.Released.{releasedNodes, chainOf}
 use Rattle.node.specs.Node.{runRule, goodRuns, linkRule, pointerLow, pointerHigh, nodeRule, entryNumber}
 use Rattle.search.specs.Descent.{noSteps, damagedNode, entryVisit, stepOf, lost, stepTaken, descend, descent}
-use Rattle.readings.specs.Clauses.{terminal, Terminal}
+use Rattle.readings.specs.Clauses.{NodeInUse, terminal, Terminal}
 use Rattle.readings.specs.Broken.{doubled, orphaned, DoubledBreaks, OrphanedBreaks}
 use Rattle.readings.proofs.FirstLaws.{all-mem}
 
 pub doubled-breaks : DoubledBreaks
-unfolding doubled headOf nodeStart nodeWords
+unfolding doubled headOf releasedOf releasedNodes chainOf nodeStart nodeWords
 doubled-breaks c =
-    let t : InUse (headOf doubled) 1 = record { positive = omega arith; within = omega arith } in
+    let t : NodeInUse doubled 1 = record { taken = record { positive = omega arith; within = omega arith }; kept = refl } in
     omega (arith, c .only 1 0 1 t (omega arith) (omega arith) (λ e. omega arith) refl .1)
 
 -- no key reaches node 2
@@ -29,7 +30,7 @@ unreached : Terminal Plots orphaned 2 → ⊥
 unreached t = omega (arith, t .reached, only-one (t .key))
 
 pub orphaned-breaks : OrphanedBreaks
-unfolding orphaned headOf nodeStart nodeWords
+unfolding orphaned headOf releasedOf releasedNodes chainOf nodeStart nodeWords
 orphaned-breaks c =
-    let t : InUse (headOf orphaned) 2 = record { positive = omega arith; within = omega arith } in
+    let t : NodeInUse orphaned 2 = record { taken = record { positive = omega arith; within = omega arith }; kept = refl } in
     unreached (all-mem (Terminal Plots orphaned) (c .one .1 .complete 2 t refl) (c .one .1 .terminals))

@@ -20,16 +20,17 @@ use Rattle.tree.proofs.TrieLaws.{depth-le-height}
 use Rattle.tree.proofs.NodePromises.{at-key, obeys}
 use Rattle.store.specs.declared.Format.{Format}
 use Rattle.store.specs.Format.{width}
-use Rattle.store.specs.Head.{headOf, zeros, pageAt, InUse, nodeAt}
+use Rattle.store.specs.Head.{headOf, zeros, pageAt, nodeAt}
+use Rattle.store.specs.Released.{releasedNodes, releasedPages}
 use Rattle.node.specs.Node.{depthWord, levelWord, entryDepth, entryPointer, entryOf}
 use Rattle.page.specs.Page.{pageRule}
 use Rattle.search.specs.Descent.{noStep, descent}
-use Rattle.represent.specs.Labelled.{Each, occ, occs, Over, under, before, after}
+use Rattle.represent.specs.Labelled.{Each, occ, occs, count as counted, Over, under, before, after}
 use Rattle.represent.specs.Image.{NodeIs}
 use Rattle.represent.specs.Rep.{Stretch, numbers, Rep}
 use Rattle.represent.specs.Promises.{pathSteps}
 use Rattle.readings.specs.Clauses.{start, PointsDown, runOf, Entry, NotBefore, passed, terminal}
-use Rattle.readings.specs.Clauses.{Balanced, Terminal, InKeyOrder, Clauses}
+use Rattle.readings.specs.Clauses.{NodeInUse, Balanced, Terminal, InKeyOrder, Clauses}
 use Rattle.represent.proofs.LabelLaws.{label-low, label-high, ind-other, occ-at, labels-at, over-at, leafAt-under, over-in, over-parts}
 use Rattle.represent.proofs.LabelLaws.{each-labels, each-of, each-label, each-relabel}
 use Rattle.represent.proofs.ImageLaws.{entry-label, Shown}
@@ -121,14 +122,17 @@ module _ (f : Format) (s : List ℕ) (b0 : Trie Stretch) (b : Trie ℕ) (bs : Li
   abbrev Shows : ℕ → ℕ → Trie ℕ → Type 0
   Shows l n v = NodeIs (headOf s .theta) (node n) (suc l) v
 
-  label : (n : ℕ) → InUse (headOf s) n → 1 ≤ occs n (b ∷ bs)
-  label n t = omega (arith, r .directory .oneForOne .once n (t .positive) (t .within))
+  label : (n : ℕ) → NodeInUse s n → 1 ≤ occs n (b ∷ bs)
+  label n t = omega (arith, r .directory .oneForOne .once n (t .taken .positive) (t .taken .within), t .kept)
 
-  taken : (n : ℕ) → 1 ≤ occs n (b ∷ bs) → InUse (headOf s) n
+  taken : (n : ℕ) → 1 ≤ occs n (b ∷ bs) → NodeInUse s n
   taken n o =
+      let low = label-low (b ∷ bs) n (r .directory .positive) o in
+      let high = label-high (headOf s .nodesTaken) (λ x. occs x (b ∷ bs) + counted x (releasedNodes s)) n (r .directory .oneForOne .none)
+      (omega arith) in
       record {
-        positive = label-low (b ∷ bs) n (r .directory .positive) o;
-        within = label-high (headOf s .nodesTaken) (λ x. occs x (b ∷ bs)) n (r .directory .oneForOne .none) o;
+        taken = record { positive = low; within = high };
+        kept = omega (arith, r .directory .oneForOne .once n low high);
       }
 
   count : headOf s .levels ≡ length (b ∷ bs)
@@ -169,7 +173,7 @@ module _ (f : Format) (s : List ℕ) (b0 : Trie Stretch) (b : Trie ℕ) (bs : Li
     level-is n o = stands n o .1 .level-is
 
   -- the level of a node in use
-  module _ (n : ℕ) (t : InUse (headOf s) n) where
+  module _ (n : ℕ) (t : NodeInUse s n) where
     own : (l : ℕ) × (l < length (b ∷ bs)) × (1 ≤ occ n (level (suc l)))
     own = level-in (numbers b0) (b ∷ bs) n (label n t)
 
@@ -183,13 +187,17 @@ module _ (f : Format) (s : List ℕ) (b0 : Trie Stretch) (b : Trie ℕ) (bs : Li
   points : (n i l : ℕ) → l < length (b ∷ bs) → levelWord s (start s n) ≡ suc l → 1 ≤ occ (entryPointer s (start s n) i) (level l)
       → PointsDown s n i
   points n i zero q e o =
-      inl (e, label-high (headOf s .pagesTaken) (λ p. occ p (numbers b0)) (entryPointer s (start s n) i) (r .pages .oneForOne .none) o)
+      inl (
+        e,
+        label-high (headOf s .pagesTaken) (λ p. occ p (numbers b0) + counted p (releasedPages f s)) (entryPointer s (start s n) i)
+            (r .pages .oneForOne .none) (omega arith),
+      )
   points n i (suc l) q e o =
       let m = entryPointer s (start s n) i in
       let q′ : l < length (b ∷ bs) = omega arith in
       inr (taken m (node-label l q′ m o), ap suc (level-is l q′ m o) ∙ sym e)
 
-  module _ (n i : ℕ) (t : InUse (headOf s) n) (l : i < 2 ^ depthWord s (start s n)) where
+  module _ (n i : ℕ) (t : NodeInUse s n) (l : i < 2 ^ depthWord s (start s n)) where
     small : i < 2 ^ height (at n t .0)
     small = subst (λ H. i < 2 ^ H) (at n t .1 .depth) l
 
@@ -237,7 +245,8 @@ module _ (f : Format) (s : List ℕ) (b0 : Trie Stretch) (b : Trie ℕ) (bs : Li
               let w = each-label _ (numbers b0) (entryPointer s (start s n) i) (each-relabel (λ x. x .0) _ b0 pass) o in
               inr (
                 omega arith,
-                label-high (headOf s .pagesTaken) (λ p. occ p (numbers b0)) (entryPointer s (start s n) i) (r .pages .oneForOne .none) o,
+                label-high (headOf s .pagesTaken) (λ p. occ p (numbers b0) + counted p (releasedPages f s)) (entryPointer s (start s n) i)
+                    (r .pages .oneForOne .none) (omega arith),
                 subst (λ p. pageRule f (headOf s .capacity) (pageAt f s (headOf s) p) ≡ true) (w .1) (w .2 (λ q. e (sym (w .1) ∙ q))),
               )
         ]
@@ -275,7 +284,7 @@ module _ (f : Format) (s : List ℕ) (b0 : Trie Stretch) (b : Trie ℕ) (bs : Li
           nodes = λ l q.
               let q′ : l < length (b ∷ bs) = omega (arith, count) in
               let o = occ-at (level (suc l)) key in
-              subst (λ n. InUse (headOf s) n × (levelWord s (start s n) ≡ suc l)) (sym (passes l q′))
+              subst (λ n. NodeInUse s n × (levelWord s (start s n) ≡ suc l)) (sym (passes l q′))
               (taken _ (node-label l q′ _ o), level-is l q′ _ o);
           down = λ l q.
               subst (λ n. Entry s n (passed f s k l)) (sym (passes (suc l) (omega (arith, count))))

@@ -4,6 +4,7 @@
 --   Entry s n m       == an entry of node n points to m
 --   passed f s k l    == the node of level l + 1 on the descent with the key k
 --   terminal f s k    == the terminal node of the key k: the last node of its descent
+--   NodeInUse s n     == n is a node in use: taken, and not released
 --   Balanced f s k    == the descent with the key k passes one node a level, from the root down to level 1
 --   Terminal f s n    == n is a node in use on level 1, and some key's terminal node
 --   NotBefore n m ns  == m stands in the list ns at n or after it
@@ -20,10 +21,16 @@ use Rattle.lists.specs.Lists.{All}
 use Rattle.store.specs.declared.Format.{Format}
 use Rattle.store.specs.Format.{width}
 use Rattle.store.specs.Head.{headOf, zeros, nodeStart, pageAt, InUse}
+use Rattle.store.specs.Released.{releasedNodes}
 use Rattle.node.specs.Node.{depthWord, levelWord, backWord, forwardWord, entryDepth, entryPointer, entryOf}
 use Rattle.page.specs.Page.{pageRule}
 use Rattle.search.specs.Descent.{noStep, descent}
-use Rattle.represent.specs.Labelled.{Linked}
+use Rattle.represent.specs.Labelled.{count, Linked}
+
+-- n is a node in use: a taken one that is not released
+pub record NodeInUse (s : List ℕ) (n : ℕ) : Type 0 where
+  pub taken : InUse (headOf s) n
+  pub kept : count n (releasedNodes s) ≡ 0
 
 module _ (s : List ℕ) where
   abbrev pub start : ℕ → ℕ
@@ -33,7 +40,7 @@ module _ (s : List ℕ) where
   abbrev pub PointsDown : ℕ → ℕ → Type 0
   PointsDown n i =
       ((levelWord s (start n) ≡ 1) × (entryPointer s (start n) i ≤ headOf s .pagesTaken))
-      ⊎ (InUse (headOf s) (entryPointer s (start n) i) × (suc (levelWord s (start (entryPointer s (start n) i))) ≡ levelWord s (start n)))
+      ⊎ (NodeInUse s (entryPointer s (start n) i) × (suc (levelWord s (start (entryPointer s (start n) i))) ≡ levelWord s (start n)))
 
   -- how many entries the run of entry i has
   abbrev pub runOf : ℕ → ℕ → ℕ
@@ -57,12 +64,12 @@ module _ (f : Format) (s : List ℕ) where
     -- it begins at the root, whose level is the head's ..
     pub root : (l : ℕ) → suc l ≡ headOf s .levels → passed k l ≡ headOf s .root
     -- .. passes a node in use on each level down to level 1 ..
-    pub nodes : (l : ℕ) → l < headOf s .levels → InUse (headOf s) (passed k l) × (levelWord s (start s (passed k l)) ≡ suc l)
+    pub nodes : (l : ℕ) → l < headOf s .levels → NodeInUse s (passed k l) × (levelWord s (start s (passed k l)) ≡ suc l)
     -- .. and goes from each of them to the next by an entry
     pub down : (l : ℕ) → suc l < headOf s .levels → Entry s (passed k (suc l)) (passed k l)
 
   pub record Terminal (n : ℕ) : Type 0 where
-    pub taken : InUse (headOf s) n
+    pub taken : NodeInUse s n
     pub level : levelWord s (start s n) ≡ 1
     pub key : ℕ
     pub narrow : key < 2 ^ width f
@@ -70,7 +77,7 @@ module _ (f : Format) (s : List ℕ) where
 
   pub record InKeyOrder (ns : List ℕ) : Type 0 where
     pub terminals : All Terminal ns
-    pub complete : (n : ℕ) → InUse (headOf s) n → levelWord s (start s n) ≡ 1 → List·Memᴰ n ns
+    pub complete : (n : ℕ) → NodeInUse s n → levelWord s (start s n) ≡ 1 → List·Memᴰ n ns
     pub linked : Linked (λ n. backWord s (start s n)) (λ n. forwardWord s (start s n)) 0 ns
     pub ordered : (k k′ : ℕ) → k ≤ k′ → k′ < 2 ^ width f → NotBefore (terminal k) (terminal k′) ns
 
@@ -80,23 +87,23 @@ module _ (f : Format) (s : List ℕ) where
     pub one : (ns : List ℕ) × InKeyOrder ns
     -- 2. "every directory node D at level l is headed by a value D.H for 0 ≤ H ≤ θ and has k = 2^H entries."
     -- (No word after them is in use.)
-    pub two : (n : ℕ) → InUse (headOf s) n
+    pub two : (n : ℕ) → NodeInUse s n
         → (depthWord s (start s n) ≤ headOf s .theta)
         × (zeros s (start s n + 4 + 2 * 2 ^ depthWord s (start s n)) (2 * (2 ^ headOf s .theta - 2 ^ depthWord s (start s n))) ≡ true)
     -- 3. "each entry D_i for 0 ≤ i ≤ 2^H − 1 consists of a pointer .. which points to a directory node or a data page at level l − 1, and a
     -- local depth D_i.h for 0 ≤ h ≤ H."
-    pub three : (n i : ℕ) → InUse (headOf s) n → i < 2 ^ depthWord s (start s n)
+    pub three : (n i : ℕ) → NodeInUse s n → i < 2 ^ depthWord s (start s n)
         → PointsDown s n i × (entryDepth s (start s n) i ≤ depthWord s (start s n))
     -- 4. "if a node has a global depth H then for each entry with local depth h there are 2^(H−h) entries of the node with the same values
     -- of local depth and page pointers." Document 01: "read run by run: several runs of one node may be null with the same h." So these
     -- entries are the aligned run around the entry, and no entry outside it has the same pointer, unless that is null.
-    pub four : (n i j : ℕ) → InUse (headOf s) n → i < 2 ^ depthWord s (start s n) → j < runOf s n i
+    pub four : (n i j : ℕ) → NodeInUse s n → i < 2 ^ depthWord s (start s n) → j < runOf s n i
         → entryOf s (start s n) (i - i % runOf s n i + j) ≡ entryOf s (start s n) i
-    pub only : (n i j : ℕ) → InUse (headOf s) n → i < 2 ^ depthWord s (start s n) → j < 2 ^ depthWord s (start s n)
+    pub only : (n i j : ℕ) → NodeInUse s n → i < 2 ^ depthWord s (start s n) → j < 2 ^ depthWord s (start s n)
         → (entryPointer s (start s n) i ≡ 0 → ⊥) → entryPointer s (start s n) j ≡ entryPointer s (start s n) i
         → (i - i % runOf s n i ≤ j) × (j < i - i % runOf s n i + runOf s n i)
     -- 5. "the terminal nodes of the directory, i.e., nodes at level l = 1, contain either data page pointers or are null."
-    pub five : (n i : ℕ) → InUse (headOf s) n → levelWord s (start s n) ≡ 1 → i < 2 ^ depthWord s (start s n)
+    pub five : (n i : ℕ) → NodeInUse s n → levelWord s (start s n) ≡ 1 → i < 2 ^ depthWord s (start s n)
         → (entryPointer s (start s n) i ≡ 0)
         ⊎ ((1 ≤ entryPointer s (start s n) i) × (entryPointer s (start s n) i ≤ headOf s .pagesTaken)
         × (pageRule f (headOf s .capacity) (pageAt f s (headOf s) (entryPointer s (start s n) i)) ≡ true))

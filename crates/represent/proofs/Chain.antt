@@ -1,6 +1,5 @@
 -- Links as a list: a list that is linked both ways stays so where no link of it changes, and where a number m is put behind n: then n, m
 -- and the number behind them have new links, and no other.
---   count x ns   == how often x stands in ns
 --   Same x       == x has the same links as before
 --   Mended n m q == m stands between n and q, if q is a number
 use mathlib.Core.Path.{_≡_, refl, sym, ap, _∙_, subst}
@@ -9,14 +8,10 @@ use Prim.Native.Nat.{ℕ, _+_, _≤_}
 use native.Mathlib.Omega.{arith}
 use Rattle.lists.specs.Lists.{All}
 use Rattle.tree.specs.Trie.{Trie, leaf, fork, Key, labels, leafAt}
-use Rattle.represent.specs.Labelled.{ind, occ, before, after, first, Linked}
+use Rattle.represent.specs.Labelled.{ind, occ, count, before, after, first, Linked}
 use Rattle.represent.proofs.LabelLaws.{ind-eq, ind-self, labels-at}
 
-abbrev pub count : ℕ → List ℕ → ℕ
-count x [] = 0
-count x (n ∷ ns) = ind x n + count x ns
-
-count-append : (x : ℕ) (ns ms : List ℕ) → count x (ns ++ ms) ≡ count x ns + count x ms
+pub count-append : (x : ℕ) (ns ms : List ℕ) → count x (ns ++ ms) ≡ count x ns + count x ms
 count-append x [] ms = omega arith
 count-append x (n ∷ ns) ms = omega (arith, count-append x ns ms)
 

@@ -1,21 +1,22 @@
 -- A trie whose labels are numbers from 1 to m, none twice, has at most m leaves: each leaf is counted once in the sum of how often each of
 -- 1, .., m occurs. Where each of them occurs once, there are m leaves: so the counts in the head are those of the tree.
 --   upTo m g == g 1 + g 2 + .. + g m
-use mathlib.Core.Path.{_≡_, refl, sym, ap₂, _∙_}
+use mathlib.Core.Path.{_≡_, refl, sym, ap, ap₂, _∙_, subst}
 use mathlib.Core.List.{List, [], _∷_, map}
-use Prim.Native.Nat.{ℕ, zero, suc, _+_, _≤_, _<_}
+use Prim.Native.Nat.{ℕ, zero, suc, _+_, _-_, _≤_, _<_}
 use native.Mathlib.Omega.{arith}
-use native.Mathlib.Decide.{ℕ-discrete}
+use native.Mathlib.Decide.{ℕ-discrete, decLe}
 use lib.ListN.{length, length-append}
 use Rattle.tree.specs.Trie.{Trie, leaf, fork, shape, leaves, labels}
 use Rattle.tree.specs.Tower.{allLeaves}
 use Rattle.tree.specs.Build.{pages}
 use Rattle.store.specs.declared.Format.{Format}
 use Rattle.store.specs.declared.Head.{Head}
-use Rattle.store.specs.Head.{headOf}
-use Rattle.represent.specs.Labelled.{Each, ind, occ, occs}
+use Rattle.store.specs.Head.{headOf, releasedOf, nodesInUse, pagesInUse}
+use Rattle.store.specs.Released.{chainOf, nodeNext, pageNext, releasedNodes, releasedPages}
+use Rattle.represent.specs.Labelled.{Each, ind, occ, occs, count}
 use Rattle.represent.specs.Rep.{Stretch, numbers, contents, Lawful, Rep}
-use Rattle.represent.proofs.LabelLaws.{label-low, label-high, ind-eq, ind-other, each-of}
+use Rattle.represent.proofs.LabelLaws.{label-low, label-high, ind-eq, ind-self, ind-other, each-of}
 use Rattle.represent.proofs.Links.{rep-once}
 
 abbrev upTo : ℕ → (ℕ → ℕ) → ℕ
@@ -87,21 +88,82 @@ rep-leaves f s b0 b bs r =
     leaves-within (headOf s .nodesTaken) b
     (each-of _ b (λ n o. (
       label-low (b ∷ bs) n (r .directory .positive) (omega arith),
-      label-high (headOf s .nodesTaken) (λ x. occs x (b ∷ bs)) n (r .directory .oneForOne .none) (omega arith),
+      label-high (headOf s .nodesTaken) (λ x. occs x (b ∷ bs) + count x (releasedNodes s)) n (r .directory .oneForOne .none) (omega arith),
     )))
     (λ x. omega (arith, rep-once f s b0 (b ∷ bs) r x))
 
-module _ (f : Format) (s : List ℕ) (b0 : Trie Stretch) (bs : List (Trie ℕ)) (r : Rep f s b0 bs) where
-  pub rep-nodes : headOf s .nodesTaken ≡ allLeaves (map shape bs)
-  rep-nodes =
-      sym (upTo-ones (headOf s .nodesTaken) (λ x. occs x bs) (r .directory .oneForOne .once))
-      ∙ levels-counted (headOf s .nodesTaken) bs (λ n o. (
-        label-low bs n (r .directory .positive) o,
-        label-high (headOf s .nodesTaken) (λ x. occs x bs) n (r .directory .oneForOne .none) o,
-      ))
+-- numbers of a list
+listed : (m : ℕ) (ns : List ℕ) → ((x : ℕ) → 1 ≤ count x ns → (1 ≤ x) × (x ≤ m)) → upTo m (λ x. count x ns) ≡ length ns
+listed m [] h = upTo-zero m (λ x. 0) (λ x low. refl)
+listed m (n ∷ ns) h =
+    let i = h n (omega (arith, ind-self n)) in
+    omega (arith, upTo-add m (λ x. ind x n) (λ x. count x ns), upTo-one m n (i .0) (i .1), listed m ns (λ x o. h x (omega arith)))
 
-  pub rep-pages : headOf s .pagesTaken ≡ pages (contents b0)
-  rep-pages =
-      sym (upTo-ones (headOf s .pagesTaken) (λ p. occ p (numbers b0)) (r .pages .oneForOne .once))
-      ∙ pages-counted (headOf s .pagesTaken) f s (headOf s) b0 (r .pages .each)
-      (each-of _ (numbers b0) (λ p o. label-high (headOf s .pagesTaken) (λ x. occ x (numbers b0)) p (r .pages .oneForOne .none) o))
+pub length-chain : (next : ℕ → ℕ) (n name : ℕ) → length (chainOf next n name) ≡ n
+unfolding chainOf
+length-chain next zero name = refl
+length-chain next (suc n) name = ap suc (length-chain next n (next name))
+
+-- a number of a list in which 0 does not stand
+pub listed-low : (ns : List ℕ) (x : ℕ) → count 0 ns ≡ 0 → 1 ≤ count x ns → 1 ≤ x
+listed-low ns x z o =
+    elim (decLe 1 x) [
+      | yes p ↦ p
+      | no p ↦ let e : x ≡ 0 = omega arith in absurd (omega (arith, z, subst (λ y. 1 ≤ count y ns) e o))
+    ]
+
+module _ (f : Format) (s : List ℕ) (b0 : Trie Stretch) (bs : List (Trie ℕ)) (r : Rep f s b0 bs) where
+  abbrev ns : List ℕ
+  ns = releasedNodes s
+
+  abbrev ps : List ℕ
+  ps = releasedPages f s
+
+  many-nodes : length ns ≡ releasedOf s .nodes
+  unfolding releasedNodes
+  many-nodes = length-chain (nodeNext s) (releasedOf s .nodes) (releasedOf s .node)
+
+  many-pages : length ps ≡ releasedOf s .pages
+  unfolding releasedPages
+  many-pages = length-chain (pageNext f s) (releasedOf s .pages) (releasedOf s .page)
+
+  -- a released block has a taken number
+  pub released-node : (x : ℕ) → 1 ≤ count x ns → (1 ≤ x) × (x ≤ headOf s .nodesTaken)
+  released-node x o = (
+    listed-low ns x (r .directory .spare-positive) o,
+    label-high (headOf s .nodesTaken) (λ x. occs x bs + count x ns) x (r .directory .oneForOne .none) (omega arith),
+  )
+
+  pub released-page : (x : ℕ) → 1 ≤ count x ps → (1 ≤ x) × (x ≤ headOf s .pagesTaken)
+  released-page x o = (
+    listed-low ps x (r .pages .spare-positive) o,
+    label-high (headOf s .pagesTaken) (λ x. occ x (numbers b0) + count x ps) x (r .pages .oneForOne .none) (omega arith),
+  )
+
+  -- the taken blocks are the tree's and the released ones
+  pub all-nodes : headOf s .nodesTaken ≡ allLeaves (map shape bs) + releasedOf s .nodes
+  all-nodes =
+      sym (upTo-ones (headOf s .nodesTaken) (λ x. occs x bs + count x ns) (r .directory .oneForOne .once))
+      ∙ upTo-add (headOf s .nodesTaken) (λ x. occs x bs) (λ x. count x ns)
+      ∙ ap₂ _+_
+      (levels-counted (headOf s .nodesTaken) bs (λ n o. (
+        label-low bs n (r .directory .positive) o,
+        label-high (headOf s .nodesTaken) (λ x. occs x bs + count x ns) n (r .directory .oneForOne .none) (omega arith),
+      )))
+      (listed (headOf s .nodesTaken) ns released-node ∙ many-nodes)
+
+  pub all-pages : headOf s .pagesTaken ≡ pages (contents b0) + releasedOf s .pages
+  all-pages =
+      sym (upTo-ones (headOf s .pagesTaken) (λ p. occ p (numbers b0) + count p ps) (r .pages .oneForOne .once))
+      ∙ upTo-add (headOf s .pagesTaken) (λ p. occ p (numbers b0)) (λ p. count p ps)
+      ∙ ap₂ _+_
+      (pages-counted (headOf s .pagesTaken) f s (headOf s) b0 (r .pages .each)
+      (each-of _ (numbers b0)
+      (λ p o. label-high (headOf s .pagesTaken) (λ x. occ x (numbers b0) + count x ps) p (r .pages .oneForOne .none) (omega arith))))
+      (listed (headOf s .pagesTaken) ps released-page ∙ many-pages)
+
+  pub rep-nodes : nodesInUse s ≡ allLeaves (map shape bs)
+  rep-nodes = omega (arith, all-nodes)
+
+  pub rep-pages : pagesInUse s ≡ pages (contents b0)
+  rep-pages = omega (arith, all-pages)

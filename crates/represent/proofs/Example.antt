@@ -13,7 +13,8 @@ use Rattle.tree.specs.Build.{build}
 use Rattle.plot.specs.Plot.{lawful, isWord, lawfulTerm, lawfulDay}
 use Rattle.store.specs.declared.Format.the-variants.{Plots}
 use Rattle.store.specs.Format.{width, words}
-use Rattle.store.specs.Head.{headOf, zeros, lawfulSizes, size, nodeWords, nodeStart, pageStart, pageWords, pageAt, nodeAt}
+use Rattle.store.specs.Released.{releasedNodes, releasedPages, chainOf, afterAll}
+use Rattle.store.specs.Head.{headOf, releasedOf, zeros, lawfulSizes, size, nodeWords, nodeStart, pageStart, pageWords, pageAt, nodeAt}
 use Rattle.page.specs.Page.{lawfulItem, itemWords, flat}
 use Rattle.represent.specs.Labelled.{ind, occ, occs}
 use Rattle.represent.specs.Image.{nodeImage, pageImage}
@@ -40,7 +41,7 @@ pages-once (suc (suc (suc zero))) p q = refl
 pages-once (suc (suc (suc (suc n)))) p q = absurd (omega arith)
 
 pub example-holds : ExampleHolds
-unfolding stored headOf zeros lawfulSizes size nodeWords nodeStart pageStart pageWords pageAt part every nodeImage pageImage nodeAt
+unfolding stored headOf releasedOf releasedNodes releasedPages chainOf afterAll zeros lawfulSizes size nodeWords nodeStart pageStart pageWords pageAt part every nodeImage pageImage nodeAt
     itemWords flat
     lawfulItem lawful isWord lawfulTerm lawfulDay width words build cut tower bit
 example-holds =
@@ -57,8 +58,12 @@ example-holds =
             (record { low = omega arith; image = refl }, (refl, refl)),
           );
           links = ((refl, refl, (refl, refl, tt)), unlinked);
-          oneForOne = record { once = nodes-once; none = λ n l. let z = none-above n l in omega (arith, z .0, z .1, z .2) };
+          oneForOne = record {
+            once = λ n p q. omega (arith, nodes-once n p q);
+            none = λ n l. let z = none-above n l in omega (arith, z .0, z .1, z .2);
+          };
           positive = refl;
+          spare-positive = refl;
           levels-are = refl;
         };
         pages = record {
@@ -70,8 +75,14 @@ example-holds =
             ),
           );
           keyed = ((refl, tt), ((refl, tt), (refl, tt)));
-          oneForOne = record { once = pages-once; none = λ n l. let z = none-above n l in omega (arith, z .0, z .1, z .2) };
+          oneForOne = record {
+            once = λ n p q. omega (arith, pages-once n p q);
+            none = λ n l. let z = none-above n l in omega (arith, z .0, z .1, z .2);
+          };
+          spare-positive = refl;
         };
+        released-nodes = record { each = tt; ends = refl };
+        released-pages = record { each = tt; ends = refl };
         free-nodes = λ n l h. let e : 4 ≡ n = omega arith in subst (λ x. nodeAt stored (headOf stored) x ≡ replicate 8 0) e refl;
         free-pages = λ p l h. let e : 4 ≡ p = omega arith in subst (λ x. pageAt Plots stored (headOf stored) x ≡ replicate 5 0) e refl;
       };

@@ -3,14 +3,14 @@
 use mathlib.Core.Path.{_≡_, refl, sym, ap, _∙_}
 use mathlib.Core.Bool.{true}
 use mathlib.Core.List.{List, [], _∷_}
-use Prim.Native.Nat.{ℕ, suc, _+_, _≤_, _<_}
+use Prim.Native.Nat.{ℕ, zero, suc, _+_, _≤_, _<_}
 use native.Mathlib.Decide.{decLt}
 use native.Mathlib.Omega.{arith}
 use lib.Dec.{leb}
 use lib.ListN.{length, length-map}
 use lib.Pow.{pow-mono}
 use borrow.Author.Tests.{le-leb}
-use Rattle.tree.specs.Trie.{Trie, shape}
+use Rattle.tree.specs.Trie.{Trie, leaf, fork, shape, leaves}
 use Rattle.tree.specs.Tower.{levels, allLeaves, nodes}
 use Rattle.tree.specs.Build.{build, pages}
 use Rattle.tree.specs.Book.{log2}
@@ -21,15 +21,16 @@ use Rattle.store.specs.declared.Format.the-variants.{Plots}
 use Rattle.store.specs.declared.Head.{Head}
 use Rattle.store.specs.declared.Item.{Item}
 use Rattle.store.specs.Format.{width}
-use Rattle.store.specs.Head.{headOf, headRule, nodeAt}
-use Rattle.store.proofs.HeadLaws.{Limits, sizes-limits, Counts, counts-are, rule-is}
-use Rattle.represent.specs.Labelled.{occs}
+use Rattle.store.specs.Head.{headOf, releasedOf, headRule, nodeAt}
+use Rattle.store.specs.Released.{chainOf, afterAll, nodeNext, pageNext, releasedNodes, releasedPages}
+use Rattle.store.proofs.HeadLaws.{Limits, sizes-limits, Counts, counts-are, Named, Chains, released-of, rule-is}
+use Rattle.represent.specs.Labelled.{occs, count}
 use Rattle.page.specs.Schema.{keyOf}
-use Rattle.represent.specs.Rep.{numbers, Nodes, Links, Sized, Rep, Holds}
+use Rattle.represent.specs.Rep.{Stretch, numbers, Nodes, Links, Sized, Rep, Holds}
 use Rattle.represent.specs.Promises.{HeadPasses, LevelsAtMost, CountsAreTheTrees}
 use Rattle.represent.proofs.LabelLaws.{label-low, label-high, ind-self}
 use Rattle.tree.proofs.TrieLaws.{shape-relabel}
-use Rattle.represent.proofs.Counting.{rep-nodes, rep-pages}
+use Rattle.represent.proofs.Counting.{rep-nodes, rep-pages, all-nodes, all-pages, released-node, released-page}
 use Rattle.represent.proofs.Keyed.{lawful-bounded}
 
 width-low : (f : Format) → 7 ≤ width f
@@ -91,7 +92,8 @@ module _ (f : Format) (s : List ℕ) (S : List Item) (w : Holds f s S) where
       let p = root-in (h .theta) (nodeAt s h) (h .root) (h .levels) (numbers (w .b0)) (w .bs) (r .directory .nodes) (r .directory .links) in
       let low : 1 ≤ h .root = label-low (w .bs) (h .root) (r .directory .positive) (p .0) in
       let high : h .root ≤ h .nodesTaken =
-      label-high (h .nodesTaken) (λ n. occs n (w .bs)) (h .root) (r .directory .oneForOne .none) (p .0) in
+      label-high (h .nodesTaken) (λ n. occs n (w .bs) + count n (releasedNodes s)) (h .root) (r .directory .oneForOne .none)
+      (omega (arith, p .0)) in
       record {
         taken-low = omega arith;
         taken = r .nodes-fit;
@@ -104,18 +106,43 @@ module _ (f : Format) (s : List ℕ) (S : List Item) (w : Holds f s S) where
             (lawful-bounded f S (w .lawful)));
       }
 
+-- the name of a chain whose blocks are taken ones
+chain-named : (m : ℕ) (next : ℕ → ℕ) (n name : ℕ) → afterAll next n name ≡ 0
+    → ((x : ℕ) → 1 ≤ count x (chainOf next n name) → (1 ≤ x) × (x ≤ m)) → Named name n m
+unfolding chainOf afterAll
+chain-named m next zero name z h = record { within = omega (arith, z); some = λ l. absurd (omega arith); none = λ e. z }
+chain-named m next (suc n) name z h =
+    let i = h name (omega (arith, ind-self name)) in
+    record { within = i .1; some = λ l. i .0; none = λ e. absurd (omega arith) }
+
+leaves-low : {A : Type 0} (t : Trie A) → 1 ≤ leaves t
+leaves-low (leaf x) = omega arith
+leaves-low (fork l r) = omega (arith, leaves-low l)
+
+-- what a represented store's head says of released blocks
+pub rep-chains : (f : Format) (s : List ℕ) (b0 : Trie Stretch) (bs : List (Trie ℕ)) → Rep f s b0 bs → Chains (headOf s) (releasedOf s)
+unfolding releasedNodes releasedPages
+rep-chains f s b0 [] r = absurd (r .directory .links)
+rep-chains f s b0 (b ∷ bs) r =
+    record {
+      nodes = omega (arith, all-nodes f s b0 (b ∷ bs) r, leaves-low (shape b));
+      pages = omega (arith, all-pages f s b0 (b ∷ bs) r);
+      node = chain-named _ (nodeNext s) _ _ (r .released-nodes .ends) (released-node f s b0 (b ∷ bs) r);
+      page = chain-named _ (pageNext f s) _ _ (r .released-pages .ends) (released-page f s b0 (b ∷ bs) r);
+    }
+
 yes-leb : {a b : ℕ} → a ≤ b → true ≡ leb a b
 yes-leb {a} {b} h = sym (le-leb a b h)
 
-pub sized-head : (f : Format) (s : List ℕ) → Sized f s → Counts f (headOf s) → headRule f s ≡ true
-sized-head f s ok c =
+pub sized-head : (f : Format) (s : List ℕ) → Sized f s → Counts f (headOf s) → Chains (headOf s) (releasedOf s) → headRule f s ≡ true
+sized-head f s ok c d =
     sym
-    (rule-is f s (headOf s) true true true true refl (sym (ok .sizes)) (sym (ok .spare)) (yes-leb (ok .long))
+    (rule-is f s (headOf s) true true true true true refl (sym (ok .sizes)) (sym (ok .spare)) (yes-leb (ok .long))
     (counts-are f (headOf s) true true true true true true true (yes-leb (c .taken-low)) (yes-leb (c .taken)) (yes-leb (c .filled))
-    (yes-leb (c .root-low)) (yes-leb (c .root)) (yes-leb (c .levels-low)) (yes-leb (c .levels))))
+    (yes-leb (c .root-low)) (yes-leb (c .root)) (yes-leb (c .levels-low)) (yes-leb (c .levels))) (sym (released-of (headOf s) (releasedOf s) d)))
 
 pub head-passes : HeadPasses
-head-passes f s S w = sized-head f s (w .rep .sized) (counts f s S w)
+head-passes f s S w = sized-head f s (w .rep .sized) (counts f s S w) (rep-chains f s (w .b0) (w .bs) (w .rep))
 
 pub levels-at-most : LevelsAtMost
 levels-at-most f s S w = counts f s S w .levels

@@ -10,7 +10,7 @@ use borrow.Author.Tests.{eq-eqb, ne-eqb}
 use Rattle.lists.specs.Lists.{All}
 use Rattle.tree.specs.Trie.{Trie, leaf, fork, Key, labels, leafAt, depth, rest, graft, relabel}
 use Rattle.tree.proofs.TrieLaws.{graft-leafAt}
-use Rattle.represent.specs.Labelled.{Each, ind, occ, occs, OneForOne, Over, under, before, after}
+use Rattle.represent.specs.Labelled.{Each, ind, occ, occs, count, OneForOne, Over, under, before, after}
 use Rattle.lists.proofs.AppendLaws.{all-append, append-all}
 
 pub ind-eq : (x n : ℕ) → x ≡ n → ind x n ≡ 1
@@ -211,22 +211,20 @@ over-parts P (fork l r) (fork ul ur) h =
         → Over (λ n w. P n w × ((x : ℕ) → occ x w ≤ occ x ul + occ x ur)) b v
     widened b v i h = over-map _ _ b v (λ n w o p. (p .0, λ x. omega (arith, i x, p .1 x))) h
 
--- the labels of the levels bs are distinct, and from 1 to m
-pub record Numbered (m : ℕ) (bs : List (Trie ℕ)) : Type 0 where
-  pub once : (x : ℕ) → occs x bs ≤ 1
-  pub none : (x : ℕ) → m < x → occs x bs ≡ 0
-  pub positive : occs 0 bs ≡ 0
+-- the labels of the levels bs and the numbers ns are distinct, and from 1 to m
+pub record Numbered (m : ℕ) (ns : List ℕ) (bs : List (Trie ℕ)) : Type 0 where
+  pub once : (x : ℕ) → occs x bs + count x ns ≤ 1
+  pub none : (x : ℕ) → m < x → occs x bs + count x ns ≡ 0
+  pub positive : occs 0 bs + count 0 ns ≡ 0
 
-occs-zero : (bs : List (Trie ℕ)) (x : ℕ) → (1 ≤ x → ⊥) → occs x bs ≡ occs 0 bs
-occs-zero bs x h = let e : x ≡ 0 = omega arith in ap (λ (y : ℕ). occs y bs) e
-
-pub one-numbered : (m : ℕ) (bs : List (Trie ℕ)) → OneForOne m (λ x. occs x bs) → occs 0 bs ≡ 0 → Numbered m bs
-one-numbered m bs h z =
+pub one-numbered : (m : ℕ) (ns : List ℕ) (bs : List (Trie ℕ)) → OneForOne m (λ x. occs x bs + count x ns) → occs 0 bs ≡ 0
+    → count 0 ns ≡ 0 → Numbered m ns bs
+one-numbered m ns bs h z z′ =
     record {
       once = λ x. elim (decLe 1 x) [
         | yes p ↦ elim (decLe x m) [ yes q ↦ omega (arith, h .once x p q) | no q ↦ omega (arith, h .none x (omega arith)) ]
-        | no p ↦ omega (arith, z, occs-zero bs x p)
+        | no p ↦ let e : 0 ≡ x = omega arith in subst (λ y. occs y bs + count y ns ≤ 1) e (omega (arith, z, z′))
       ];
       none = h .none;
-      positive = z;
+      positive = omega (arith, z, z′);
     }

@@ -10,13 +10,14 @@ use Rattle.store.specs.declared.Format.{Format}
 use Rattle.store.specs.declared.Head.{Head}
 use Rattle.store.specs.Format.{width}
 use Rattle.store.specs.Head.{headOf, nodeStart, nodeAt}
+use Rattle.store.specs.Released.{releasedNodes}
 use Rattle.node.specs.Node.{backWord, forwardWord}
-use Rattle.represent.specs.Labelled.{ind, occ, occs, before, after, first, Linked}
+use Rattle.represent.specs.Labelled.{ind, occ, occs, count, before, after, first, Linked}
 use Rattle.represent.specs.Image.{NodeIs}
 use Rattle.represent.specs.Rep.{Stretch, numbers, backOf, forwardOf, Rep}
 use Rattle.represent.specs.Promises.{Neighbour, NeighbourPasses}
 use Rattle.represent.proofs.LabelLaws.{one-numbered, label-high, ind-eq, ind-self, labels-at, over-in}
-use Rattle.represent.proofs.Chain.{count, count-labels, count-at, linked-next, linked-after, Same, linked-frame}
+use Rattle.represent.proofs.Chain.{count-labels, count-at, linked-next, linked-after, Same, linked-frame}
 use Rattle.represent.proofs.RepLaws.{rep-shown, rep-back, rep-forward}
 
 -- the links, in place
@@ -29,7 +30,9 @@ module _ (s : List ℕ) where
 
 -- no label occurs twice
 pub rep-once : (f : Format) (s : List ℕ) (b0 : Trie Stretch) (bs : List (Trie ℕ)) → Rep f s b0 bs → (n : ℕ) → occs n bs ≤ 1
-rep-once f s b0 bs r = one-numbered (headOf s .nodesTaken) bs (r .directory .oneForOne) (r .directory .positive) .once
+rep-once f s b0 bs r n =
+    let d = r .directory in
+    omega (arith, one-numbered (headOf s .nodesTaken) (releasedNodes s) bs (d .oneForOne) (d .positive) (d .spare-positive) .once n)
 
 module _ (f : Format) (s : List ℕ) (b0 : Trie Stretch) (b : Trie ℕ) (bs : List (Trie ℕ)) (r : Rep f s b0 (b ∷ bs)) where
   abbrev h : Head
@@ -70,7 +73,7 @@ module _ (f : Format) (s : List ℕ) (b0 : Trie Stretch) (b : Trie ℕ) (bs : Li
         let o : 1 ≤ occ m b = omega (arith, ind-self m) in
         let w = level-1 m o in
         record {
-          taken = label-high (h .nodesTaken) (λ n. occs n (b ∷ bs)) m (r .directory .oneForOne .none) (omega arith);
+          taken = label-high (h .nodesTaken) (λ n. occs n (b ∷ bs) + count n (releasedNodes s)) m (r .directory .oneForOne .none) (omega arith);
           another = λ q. omega (arith, ind-self m, ind-eq m (leafAt b key) q, rep-once f s b0 (b ∷ bs) r m);
           level = rep-shown f s b0 (b ∷ bs) r m 1 (w .0) (omega arith) (w .1) .level-is;
           back = subst (Linked (backAt s) (forwardAt s) (leafAt b key)) e rep-after .0;

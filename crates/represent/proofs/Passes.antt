@@ -15,11 +15,12 @@ use Rattle.store.specs.declared.Format.{Format}
 use Rattle.store.specs.declared.Head.{Head}
 use Rattle.store.specs.Format.{width}
 use Rattle.store.specs.Head.{headOf, nodeStart, pageAt, nodeAt}
+use Rattle.store.specs.Released.{releasedNodes, releasedPages}
 use Rattle.node.specs.Node.{backWord, forwardWord, entryOf, linkRule, pointerLow, pointerHigh, nodeRule}
 use Rattle.node.proofs.RunWalk.{Points, trie-is-good}
 use Rattle.node.proofs.NodeLaws.{link-1, link-above, low-1, low-above, high-1, high-above, facts-node}
 use Rattle.page.specs.Page.{pageRule, agrees}
-use Rattle.represent.specs.Labelled.{Each, occ, occs, Over}
+use Rattle.represent.specs.Labelled.{Each, occ, occs, count, Over}
 use Rattle.represent.specs.Image.{NodeIs}
 use Rattle.page.specs.Schema.{keyOf}
 use Rattle.represent.specs.Rep.{Stretch, numbers, Nodes, backOf, forwardOf, Unlinked, Lawful, Rep}
@@ -90,7 +91,7 @@ module _ (f : Format) (s : List ℕ) (b0 : Trie Stretch) (all : List (Trie ℕ))
 
   -- a label of the levels is the number of a taken node
   taken : (n : ℕ) → 1 ≤ occs n all → (1 ≤ n) × (n ≤ h .nodesTaken)
-  taken n o = (label-low all n (r .directory .positive) o, label-high (h .nodesTaken) (λ x. occs x all) n (r .directory .oneForOne .none) o)
+  taken n o = (label-low all n (r .directory .positive) o, label-high (h .nodesTaken) (λ x. occs x all + count x (releasedNodes s)) n (r .directory .oneForOne .none) (omega arith))
 
   rule-at : (n level : ℕ) (v : Trie ℕ) → 1 ≤ occs n all → NodeIs (h .theta) (node n) level v
       → ((x : ℕ) → 1 ≤ occ x v → (pointerLow level ≤ x) × (x ≤ pointerHigh h level))
@@ -137,7 +138,7 @@ module _ (f : Format) (s : List ℕ) (b0 : Trie Stretch) (b : Trie ℕ) (bs : Li
       (λ n v o j is.
       rule-at f s b0 (b ∷ bs) r n 1 v (omega arith) is
       (λ x q.
-      let t = label-high (headOf s .pagesTaken) (λ p. occ p (numbers b0)) x (r .pages .oneForOne .none) (omega (arith, j x)) in
+      let t = label-high (headOf s .pagesTaken) (λ p. occ p (numbers b0) + count p (releasedPages f s)) x (r .pages .oneForOne .none) (omega (arith, j x)) in
       (omega (arith, low-1 1 refl), omega (arith, high-1 (headOf s) 1 refl, t)))
       (let l = each-label LinksTaken b n links-taken o in
       sym (link-1 (headOf s) 1 _ _ true true refl (sym (le-leb _ (headOf s .nodesTaken) (l .0)))

@@ -1,13 +1,14 @@
 -- What every represented store has: its labels are numbers of blocks in use, and each block in use is read as the tries say.
 use mathlib.Core.Path.{_≡_}
 use mathlib.Core.List.{List}
-use Prim.Native.Nat.{ℕ, _≤_}
+use Prim.Native.Nat.{ℕ, _+_, _≤_}
 use native.Mathlib.Omega.{arith}
 use Rattle.tree.specs.Trie.{Trie}
 use Rattle.store.specs.declared.Format.{Format}
 use Rattle.store.specs.Head.{headOf, nodeStart, nodeAt}
+use Rattle.store.specs.Released.{releasedNodes}
 use Rattle.node.specs.Node.{backWord, forwardWord}
-use Rattle.represent.specs.Labelled.{occs}
+use Rattle.represent.specs.Labelled.{occs, count}
 use Rattle.represent.specs.Image.{NodeIs}
 use Rattle.represent.specs.Rep.{Stretch, Rep}
 use Rattle.represent.proofs.LabelLaws.{label-low, label-high}
@@ -20,7 +21,7 @@ module _ (f : Format) (s : List ℕ) (b0 : Trie Stretch) (bs : List (Trie ℕ)) 
   low = label-low bs n (r .directory .positive) o
 
   high : n ≤ headOf s .nodeBlocks
-  high = omega (arith, label-high (headOf s .nodesTaken) (λ x. occs x bs) n (r .directory .oneForOne .none) o, r .nodes-fit)
+  high = omega (arith, label-high (headOf s .nodesTaken) (λ x. occs x bs + count x (releasedNodes s)) n (r .directory .oneForOne .none) (omega arith), r .nodes-fit)
 
   pub rep-shown : Shown s (nodeStart (headOf s) n) (headOf s .theta) level v
   rep-shown = node-shown f s (headOf s) n level v low high (r .sized .long) is

@@ -16,14 +16,16 @@ use Rattle.tree.proofs.BuildLaws.{build-le}
 use Rattle.store.specs.declared.Format.{Format}
 use Rattle.store.specs.declared.Head.{Head}
 use Rattle.store.specs.Format.{width}
-use Rattle.store.specs.Head.{word, headOf, lawfulSizes, zeros, size, nodeWords, pageWords, nodeStart, pageStart, pageAt, nodeAt}
+use Rattle.store.specs.Head.{word, headOf, releasedOf, lawfulSizes, zeros, size, nodeWords, pageWords, nodeStart, pageStart, pageAt, nodeAt}
+use Rattle.store.specs.Released.{releasedNode, releasedPage, nodeNext, pageNext, chainOf, afterAll, releasedNodes, releasedPages}
 use Rattle.node.specs.Node.{backWord, forwardWord}
 use Rattle.store.specs.SetUp.{setUpWords}
 use Rattle.store.proofs.HeadLaws.{Limits, sizes-limits}
 use Rattle.store.proofs.SetUpLaws.{size-low, done}
+use Rattle.represent.specs.Labelled.{count}
 use Rattle.represent.specs.Image.{nodeImage}
 use Rattle.page.specs.Schema.{keyOf}
-use Rattle.represent.specs.Rep.{Directory, Pages, Holds}
+use Rattle.represent.specs.Rep.{Directory, Chained, Pages, Holds}
 use Rattle.represent.specs.Promises.{SetUpHolds}
 use Rattle.represent.proofs.LabelLaws.{ind-eq, ind-other}
 use Rattle.represent.proofs.ImageLaws.{getD-zeros}
@@ -119,11 +121,11 @@ module _ (f : Format) (θ C N P : ℕ) (z : List ℕ) (law : lawfulSizes θ C N 
   unfolding pageAt
   free-page p a b = zero-block (pageStart f h p) (pageWords f C) (past-nodes p) (page-end h f p a b)
 
-  zero-head : zeros s 8 8 ≡ true
+  zero-head : zeros s 12 4 ≡ true
   unfolding zeros every setUpWords
   zero-head = refl
 
-  directory : Directory θ (nodeAt s h) 1 1 1 (leaf 0) (leaf 1 ∷ [])
+  directory : Directory θ (nodeAt s h) 1 1 1 (λ n. 0) (leaf 0) (leaf 1 ∷ [])
   unfolding tower cut nodeImage
   directory =
       record {
@@ -140,15 +142,36 @@ module _ (f : Format) (θ C N P : ℕ) (z : List ℕ) (law : lawfulSizes θ C N 
           none = λ n a. omega (arith, ind-other n 1 (λ e. omega arith));
         };
         positive = refl;
+        spare-positive = refl;
         levels-are = refl;
       }
+
+  none-nodes : releasedNodes s ≡ []
+  unfolding releasedNodes releasedOf setUpWords chainOf
+  none-nodes = refl
+
+  none-pages : releasedPages f s ≡ []
+  unfolding releasedPages releasedOf setUpWords chainOf
+  none-pages = refl
+
+  released-nodes : Chained (nodeAt s h) (releasedNode θ) (nodeNext s) (releasedOf s .nodes) (releasedOf s .node)
+  unfolding releasedOf setUpWords chainOf afterAll
+  released-nodes = record { each = tt; ends = refl }
+
+  released-pages : Chained (pageAt f s h) (releasedPage f C) (pageNext f s) (releasedOf s .pages) (releasedOf s .page)
+  unfolding releasedOf setUpWords chainOf afterAll
+  released-pages = record { each = tt; ends = refl }
 
   pages : Pages f s h (leaf (0, []))
   pages =
       record {
         each = record { page = refl; fits = omega arith; lawful = tt; sorted = tt };
         keyed = tt;
-        oneForOne = record { once = λ n a b. absurd (omega arith); none = λ n a. ind-other n 0 (λ e. omega arith) };
+        oneForOne = record {
+          once = λ n a b. absurd (omega arith);
+          none = λ n a. omega (arith, ind-other n 0 (λ e. omega arith), ap (count n) none-pages);
+        };
+        spare-positive = ap (count 0) none-pages;
       }
 
   none-held : Holds f s []
@@ -161,8 +184,10 @@ module _ (f : Format) (θ C N P : ℕ) (z : List ℕ) (law : lawfulSizes θ C N 
           sized = record { sizes = law; spare = zero-head; long = long };
           nodes-fit = limits .nodes-low;
           pages-fit = omega arith;
-          directory = directory;
+          directory = subst (λ ns. Directory θ (nodeAt s h) 1 1 1 (λ n. count n ns) (leaf 0) (leaf 1 ∷ [])) (sym none-nodes) directory;
           pages = pages;
+          released-nodes = released-nodes;
+          released-pages = released-pages;
           free-nodes = λ n low high. free-node n low (omega arith);
           free-pages = λ p low high. free-page p low (omega arith);
         };

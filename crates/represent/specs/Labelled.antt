@@ -2,11 +2,13 @@
 --   Each P t        == P holds of each label of t
 --   ind x n         == 1 if the two numbers are equal, else 0
 --   occ n t         == how often the number n labels a leaf of t; occs n bs: of the tries bs together
+--   count n ns      == how often n stands in the list ns
 --   OneForOne m g   == each of 1, .., m occurs once, and no larger number, where g n says how often n occurs
 --   Over P b u      == P n v for each leaf n of b and the subtrie v of u that stands there; b is nowhere deeper than u
 --   under b u k     == the subtrie of u under the leaf of b at the key k
 --   before, after t k == the labels left and right of the leaf at the key
 --   first ns        == the first of the numbers; null if there is none
+--   behind ns       == the numbers behind the first
 --   Linked back forward p ns == the numbers ns are linked both ways in this order, the first after p, the last before null
 use mathlib.Core.Path.{_≡_}
 use mathlib.Core.Bool.{true, false, cond}
@@ -30,6 +32,10 @@ occ n (fork l r) = occ n l + occ n r
 abbrev pub occs : ℕ → List (Trie ℕ) → ℕ
 occs n [] = 0
 occs n (b ∷ bs) = occ n b + occs n bs
+
+abbrev pub count : ℕ → List ℕ → ℕ
+count n [] = 0
+count n (x ∷ xs) = ind n x + count n xs
 
 pub record OneForOne (m : ℕ) (g : ℕ → ℕ) : Type 0 where
   pub once : (n : ℕ) → 1 ≤ n → n ≤ m → g n ≡ 1
@@ -64,6 +70,10 @@ module _ {A : Type 0} where
 abbrev pub first : List ℕ → ℕ
 first [] = 0
 first (n ∷ ns) = n
+
+abbrev pub behind : List ℕ → List ℕ
+behind [] = []
+behind (n ∷ ns) = ns
 
 module _ (back forward : ℕ → ℕ) where
   -- "Level-1 nodes are linked both ways in key order"

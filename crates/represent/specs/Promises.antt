@@ -2,7 +2,7 @@
 --   SetUpHolds       == a store just set up holds the tree of no record
 --   HeadPasses       == a store that holds a set keeps the head rule
 --   LevelsAtMost     == its levels are at most L
---   CountsAreTheTrees == its levels, nodes taken and pages taken are those of the tree
+--   CountsAreTheTrees == its levels, and the nodes and pages in use, are those of the tree
 --   RulesAbove h s k bs == the nodes of the levels bs, which stand above level k, keep the node rule
 --   NodesPass, PagesPass == every node and every page of a represented store keeps its rule
 --   AgreesPasses     == the page at a key agrees with it in the used bits
@@ -24,7 +24,7 @@ use Rattle.store.specs.declared.Format.{Format}
 use Rattle.store.specs.declared.Head.{Head}
 use Rattle.store.specs.declared.Item.{Item}
 use Rattle.store.specs.Format.{width}
-use Rattle.store.specs.Head.{headOf, headRule, lawfulSizes, size, nodeStart, pageAt}
+use Rattle.store.specs.Head.{headOf, headRule, nodesInUse, pagesInUse, lawfulSizes, size, nodeStart, pageAt}
 use Rattle.node.specs.Node.{levelWord, backWord, forwardWord, nodeRule, entryNumber}
 use Rattle.store.specs.SetUp.{setUp}
 use Rattle.page.specs.Page.{pageRule, agrees}
@@ -47,13 +47,13 @@ LevelsAtMost =
     (f : Format) (s : List ℕ) (S : List Item) → Holds f s S
     → headOf s .levels ≤ levelBound (width f) (headOf s .theta) (headOf s .capacity)
 
--- the counts in the head: levels, nodes taken and pages taken
+-- the counts in the head: levels, and the nodes and pages in use, which replies count
 abbrev pub CountsAreTheTrees : Type 0
 CountsAreTheTrees =
     (f : Format) (s : List ℕ) (S : List Item) → Holds f s S
     → (headOf s .levels ≡ levels (headOf s .theta) (shape (build keyOf (headOf s .capacity) (width f) S)))
-    × (headOf s .nodesTaken ≡ nodes (headOf s .theta) (shape (build keyOf (headOf s .capacity) (width f) S)))
-    × (headOf s .pagesTaken ≡ pages (build keyOf (headOf s .capacity) (width f) S))
+    × (nodesInUse s ≡ nodes (headOf s .theta) (shape (build keyOf (headOf s .capacity) (width f) S)))
+    × (pagesInUse s ≡ pages (build keyOf (headOf s .capacity) (width f) S))
 
 -- the node rule at each node of the levels above k
 abbrev pub RulesAbove : Head → List ℕ → ℕ → List (Trie ℕ) → Type 0

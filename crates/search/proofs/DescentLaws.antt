@@ -173,6 +173,10 @@ module _ (f : Format) (s : List ℕ) (h : Head) (k : ℕ) where
     pub turn-lost : v .ok ≡ false → lost ≡ R
     turn-lost p = step-lost (level - 1) n used steps v (rw down at e) p ∙ rw down at inv
 
+    pub turn-visited : R .ok ≡ true → v .ok ≡ true
+    unfolding lost
+    turn-visited o = by-cases (v .ok) (λ p. p) (λ p. absurd (false≢true (ap (λ d. d .ok) (turn-lost p) ∙ o)))
+
     pub turn-on : v .ok ≡ true → descend f s h k (level - 1) (v .pointer) (used + v .depth) (stepTaken steps (level - 1) n used v) ≡ R
     turn-on p = step-on (level - 1) n used steps v (rw down at e) p ∙ rw down at inv
 

@@ -223,6 +223,19 @@ module _ (f : Format) (s : List ℕ) (h : Head) where
         let e = terminal-on l n used (starts (suc l) n used o) in
         rw e (omega (arith, used-grows l _ _ (rw e at o)))
 
+    -- a descent that met damage has nothing else
+    lost-from : (l n used : ℕ) (steps : List Step) → descend f s h k l n used steps .ok ≡ false → descend f s h k l n used steps ≡ lost
+    unfolding descend
+    lost-from zero n used steps o = absurd (false≢true (sym o))
+    lost-from (suc l) n used steps o =
+        by-cases (soundNode f s h (suc l) n used)
+        (λ e. descend-on l n used e steps ∙ lost-from l _ _ _ (sym (ap (λ d. d .ok) (descend-on l n used e steps)) ∙ o))
+        (λ e. descend-lost l n used e steps)
+
+    pub lost-is : descent f s h k .ok ≡ false → descent f s h k ≡ lost
+    unfolding descent
+    lost-is o = lost-from (h .levels) (h .root) 0 noSteps o
+
   -- keys that agree in the bits used before the terminal node of the first have the same terminal node
   same-from : (k k′ l n used : ℕ) → terminalFrom f s h k l n used .ok ≡ true
       → k′ / 2 ^ (width f - terminalFrom f s h k l n used .used) ≡ k / 2 ^ (width f - terminalFrom f s h k l n used .used)

@@ -1,6 +1,6 @@
 -- The terminal node of a key is in use and keeps the node rule.
 use mathlib.Core.Path.{_≡_, refl, sym, ap, _∙_}
-use mathlib.Core.Bool.{true}
+use mathlib.Core.Bool.{true, false}
 use mathlib.Core.List.{List}
 use Prim.Native.Nat.{ℕ, zero, suc, _+_, _-_, _≤_}
 use native.Mathlib.Omega.{arith}
@@ -11,10 +11,11 @@ use Rattle.store.specs.Head.{nodeStart, InUse, Under}
 use Rattle.node.specs.Node.{depthWord}
 use Rattle.search.specs.declared.Visit.{Visit}
 use Rattle.search.specs.declared.Terminal.{Terminal}
-use Rattle.search.specs.Descent.{descent, soundNode, terminalFrom, terminal, ownVisit, TerminalNode}
+use Rattle.search.specs.declared.End.{End}
+use Rattle.search.specs.Descent.{lost, noSteps, descent, endOf, soundNode, terminalFrom, terminal, ownVisit, TerminalNode}
 use Rattle.search.proofs.BlockLaws.{under-levels, root-in-use}
 use Rattle.search.proofs.DescentLaws.{sound-facts, node-deep, node-bits, own-bits, own-in-use}
-use Rattle.search.proofs.TerminalLaws.{starts, terminal-here, terminal-on, terminal-sound, terminal-ok, terminal-ended}
+use Rattle.search.proofs.TerminalLaws.{starts, terminal-here, terminal-on, terminal-sound, terminal-ok, terminal-ended, lost-is}
 
 module _ (f : Format) (s : List ℕ) (h : Head) (k : ℕ) where
   in-use-from : (l n used : ℕ) → InUse h n → terminalFrom f s h k l n used .ok ≡ true → InUse h (terminalFrom f s h k l n used .node)
@@ -72,3 +73,20 @@ landed {f} {s} {h} u k e o p =
       used = d .used;
       bits = at-bits f s h k u refl ok k refl;
     }
+
+-- where it ends, as the code has it
+pub end-is : {f : Format} {s : List ℕ} {h : Head} (u : Under f s h) (k : ℕ) {t : Terminal} → t ≡ terminal f s h k → t .ok ≡ true
+    → {v : Visit} → v ≡ ownVisit f s h k (t .node) (t .used)
+    → record { ok = true; node = t .node; before = t .used; page = v .pointer; used = t .used + v .depth } ≡ endOf (descent f s h k)
+end-is {f} {s} {h} u k e o p =
+    let l = under-levels u in
+    let ok = sym (ap (λ x. x .ok) e) ∙ o in
+    let d = terminal-ended f s h k (l .0) (l .1) ok in
+    rw (p, e) (rw (d .step, d .page, d .used, terminal-ok f s h k (l .0), ok) refl)
+
+pub end-lost : {f : Format} {s : List ℕ} {h : Head} (u : Under f s h) (k : ℕ) {t : Terminal} → t ≡ terminal f s h k → t .ok ≡ false
+    → record { ok = false; node = 0; before = 0; page = 0; used = 0 } ≡ endOf (descent f s h k)
+unfolding lost noSteps
+end-lost {f} {s} {h} u k e o =
+    let l = under-levels u in
+    sym (ap endOf (lost-is f s h k (terminal-ok f s h k (l .0) ∙ sym (ap (λ x. x .ok) e) ∙ o)))

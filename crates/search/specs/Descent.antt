@@ -3,6 +3,7 @@
 --   lost                         == a descent that met damage
 --   descend f s h k level n used steps == the way of the key k from node n of this level down to its page, with the steps on it
 --   descent f s h k              == the same from the root
+--   endOf d                      == where the descent d ends: its terminal node and its page, each with the bits used before it
 --   noStep, noSteps              == a step not taken; a path before its first step
 --   damagedNode, entryVisit s b i == what a visit gives: damage, or entry i of the node block at b
 --   stepTaken steps l n used v   == the path with the step of level l + 1
@@ -20,7 +21,7 @@ use mathlib.Core.Bool.{Bool, true, false, _&&_}
 use mathlib.Core.List.{List}
 use Prim.Native.Nat.{ℕ, zero, suc, _+_, _-_}
 use lib.Dec.{leb}
-use lib.ListN.{set, replicate}
+use lib.ListN.{getD, set, replicate}
 use Rattle.store.specs.declared.Format.{Format}
 use Rattle.store.specs.declared.Head.{Head}
 use Rattle.store.specs.Format.{width}
@@ -30,6 +31,7 @@ use Rattle.search.specs.declared.Step.{Step}
 use Rattle.search.specs.declared.Visit.{Visit}
 use Rattle.search.specs.declared.Descent.{Descent}
 use Rattle.search.specs.declared.Terminal.{Terminal}
+use Rattle.search.specs.declared.End.{End}
 
 abbrev pub noStep : Step
 noStep = record { node = 0; entry = 0; depth = 0; used = 0 }
@@ -88,6 +90,16 @@ descend f s h k (suc l) n used steps =
 -- "The root's level is the head's."
 unfoldable pub descent : Format → List ℕ → Head → ℕ → Descent
 descent f s h k = descend f s h k (h .levels) (h .root) 0 noSteps
+
+abbrev pub endOf : Descent → End
+endOf d =
+    record {
+      ok = d .ok;
+      node = getD (d .steps) 0 noStep .node;
+      before = getD (d .steps) 0 noStep .used;
+      page = d .page;
+      used = d .used;
+    }
 
 pub record TerminalNode (h : Head) (s : List ℕ) (n : ℕ) : Type 0 where
   pub in-use : InUse h n

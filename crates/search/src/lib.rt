@@ -11,7 +11,7 @@ ghost use Rattle.store.specs.Format.{width, words};
 ghost use Rattle.store.specs.Head.{largestCapacity, nodeWords, nodeStart, pageAt, InUse, Under};
 ghost use Rattle.node.specs.Node.{depthWord, nodeRule};
 ghost use Rattle.page.specs.Page.{pageRule, Lent, Filled};
-ghost use Rattle.search.specs.Descent.{limitsOf, soundNode, TerminalNode, stepOf, lost, descent, terminal, ownVisit};
+ghost use Rattle.search.specs.Descent.{limitsOf, soundNode, TerminalNode, stepOf, lost, descent, endOf, terminal, ownVisit};
 ghost use Rattle.search.specs.Find.{reply, soughtReply, soundPage, inPage, findOf, findReply};
 ghost use Rattle.search.specs.Next.{firstPointer, runAfter, runBehind, linked, pointerFrom, onward, reach, nextOf, nextReply};
 ghost use Rattle.search.specs.declared.Reached.the-variants.{Broken};
@@ -46,6 +46,16 @@ pub struct Descent {
 pub struct Terminal {
     pub ok: bool,
     pub node: u32,
+    pub used: u32,
+}
+
+// Where the way of a key ends: whether every node on it is sound, the terminal node and the bits used before it, the page (0: null) and the
+// bits used before that.
+pub struct End {
+    pub ok: bool,
+    pub node: u32,
+    pub before: u32,
+    pub page: u32,
     pub used: u32,
 }
 
@@ -200,8 +210,8 @@ fn lost_way() -> Descent
 }
 
 // The way of a key from the root down to its page.
-pub fn descend(store: &[u32], f: Format, head: Head, key: u64) -> Descent
-    requires { ⌜ Under f (now store) head ⌝ }
+pub fn descend(store: &[u32], f: Format, head: Head, key: u64, checked: bool) -> Descent
+    requires { ⌜ (Under f (now store) head) × (checked ≡ false → descent f (now store) head key .ok ≡ true) ⌝ }
     ensures { λ r. ⌜ (r ≡ descent f (now (store .entry)) head key) × (r .used ≤ width f) ⌝ }
 {
     let blank = Step {
@@ -215,7 +225,7 @@ pub fn descend(store: &[u32], f: Format, head: Head, key: u64) -> Descent
     let mut used: u32 = 0;
     let mut level = store::to_index(head.levels);
     while level > 0 {
-        let v = visit_node(store, f, head, key, level as u32, node, used, true);
+        let v = visit_node(store, f, head, key, level as u32, node, used, checked);
         if !v.ok {
             return lost_way();
         }
@@ -269,6 +279,31 @@ pub fn terminal_of(store: &[u32], f: Format, head: Head, key: u64, checked: bool
         ok: true,
         node,
         used,
+    }
+}
+
+// Where the way of a key ends.
+pub fn end_of(store: &[u32], f: Format, head: Head, key: u64) -> End
+    requires { ⌜ Under f (now store) head ⌝ }
+    ensures { λ r. ⌜ (r ≡ endOf (descent f (now (store .entry)) head key)) × (r .used ≤ width f) ⌝ }
+{
+    let t = terminal_of(store, f, head, key, true);
+    if !t.ok {
+        return End {
+            ok: false,
+            node: 0,
+            before: 0,
+            page: 0,
+            used: 0,
+        };
+    }
+    let v = own_entry(store, f, head, key, t.node, t.used);
+    End {
+        ok: true,
+        node: t.node,
+        before: t.used,
+        page: v.pointer,
+        used: t.used + v.depth,
     }
 }
 

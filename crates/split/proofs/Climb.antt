@@ -3,12 +3,13 @@ use mathlib.Core.Path.{_≡_, refl, sym, ap, _∙_, subst}
 use mathlib.Core.List.{List, [], _∷_}
 use Prim.Native.Nat.{ℕ, suc, _-_, _≤_, _<_}
 use native.Mathlib.Omega.{arith}
+use lib.ListN.{length, drop}
 use native.Mathlib.Decide.{ℕ-discrete, decLt}
 use borrow.Author.Tests.{lt-ltb, le-ltb}
 use Rattle.tree.specs.Trie.{Trie, leaf, fork, Key, leafAt, depth, rest, graft, pair}
 use Rattle.tree.specs.Carry.{locals, bumpCost}
 use Rattle.tree.proofs.CarryLaws.{bump-slack, bump-full}
-use Rattle.represent.specs.Labelled.{occ, occs, under}
+use Rattle.represent.specs.Labelled.{ind, occ, occs, count, first, under}
 use Rattle.represent.specs.Rep.{backOf, forwardOf, Unlinked}
 use Rattle.split.specs.Round.{NodeOps, NodeLaws, StoreOps, StoreLaws, Place, placeAt, pathOf, carried}
 use Rattle.split.specs.Round.{nextNode, takeNode, grown, relink, splitNode, newRoot, deeper, inHalf, climb}
@@ -16,9 +17,9 @@ use Rattle.represent.proofs.LabelLaws.{ind-other}
 use Rattle.split.proofs.Grafts.{forked, occ-split}
 use Rattle.split.proofs.CarriedLaws.{carried-slack, carried-full}
 use Rattle.split.proofs.Blocks.{Written, top-written}
-use Rattle.split.proofs.Writes.{put-kept, taken-head, taken-kept}
+use Rattle.split.proofs.Writes.{numbered-spares, first-low, first-high, first-gone, first-not, rest-gone, put-kept, taken-kept}
 use Rattle.split.proofs.Level.{is-moved, unlinked-same, unlinked-moved, written-unlinked, Plain, plain-cons, Ready, ready-low}
-use Rattle.split.proofs.Level.{ready-high, here-in, key-low, ready-deep, ready-tall}
+use Rattle.split.proofs.Level.{ready-high, ready-off, here-in, key-low, ready-deep, ready-tall}
 use Rattle.split.proofs.Splits.{Split, parts, Parted, parted, parted-split}
 use Rattle.split.proofs.Rise.{ClimbKeeps, grown-climbed, grown-links, lower-here, upper-here, rise}
 use Rattle.tree.proofs.TrieLaws.{depth-split}
@@ -44,14 +45,17 @@ module _ (I : NodeOps) (O : StoreOps) (θ : ℕ) (k : Key) (s : O .S) (p : Place
   halve-parts = refl
 
 module _ {θ : ℕ} {I : NodeOps} {O : StoreOps} (A : NodeLaws θ I) (B : StoreLaws θ O) where
-  open StoreOps O using (S, node, levels, taken, cap)
+  open StoreOps O using (S, node, levels, free, cap)
 
   module _ {s : S} {k : ℕ} {u b : Trie ℕ} {bs : List (Trie ℕ)} (y : Ready θ O s k u (b ∷ bs)) (key : Key) (a c : ℕ)
       {l r : Trie ℕ} (e : graft (under b u key) (rest b key) (pair a c) ≡ fork l r)
-      (full : θ ≤ depth u key - depth b key) (more : taken s < cap s)
+      (full : θ ≤ depth u key - depth b key) (more : 1 ≤ length (free s))
     where
       abbrev n : ℕ
       n = leafAt b key
+
+      abbrev m : ℕ
+      m = nextNode O s
 
       abbrev s₁ : S
       s₁ = splitNode I O s (placeAt u b key) a c
@@ -73,19 +77,19 @@ module _ {θ : ℕ} {I : NodeOps} {O : StoreOps} (A : NodeLaws θ I) (B : StoreL
       halve-split : Split θ O s s₁ (suc k) b n l r
       halve-split = parted-split A B y key (low .is) (high .is) 0 not-null (λ i. absurd (i refl)) halve-parted
 
-      halve-plain : Plain θ (node s) (b ∷ bs) → (x : ℕ) → 1 ≤ occ x (graft b key (pair n (suc (taken s)))) → Unlinked (node s₁) x
+      halve-plain : Plain θ (node s) (b ∷ bs) → (x : ℕ) → 1 ≤ occ x (graft b key (pair n m)) → Unlinked (node s₁) x
       halve-plain f x o =
           let g = f n (here-in y key) in
-          elim (ℕ-discrete x (suc (taken s))) [
+          elim (ℕ-discrete x m) [
             | yes i ↦ subst (Unlinked (node s₁)) (sym i)
                 (written-unlinked θ _ _ (halve-parted .at-m) high (g .no-back) (g .no-forward))
             | no i ↦ elim (ℕ-discrete x n) [
               | yes j ↦ subst (Unlinked (node s₁)) (sym j)
                   (written-unlinked θ _ _ (halve-parted .at-n) low (g .no-back) (g .no-forward))
               | no j ↦
-                  let p : 1 ≤ occs x (b ∷ bs) = omega (arith, occ-split x b key (suc (taken s)), ind-other x (suc (taken s)) i) in
+                  let p : 1 ≤ occs x (b ∷ bs) = omega (arith, occ-split x b key m, ind-other x m i) in
                   let x≥1 = ready-low y x p in
-                  unlinked-moved θ (node s) (node s₁) x (halve-parted .off x x≥1 (ready-high y x p) j (λ z. omega (arith, x≥1))) (f x p)
+                  unlinked-moved θ (node s) (node s₁) x (halve-parted .off x x≥1 (ready-high y x p) (ready-off y x p) j (λ z. omega (arith, x≥1))) (f x p)
             ]
           ]
 
@@ -93,39 +97,49 @@ module _ {θ : ℕ} {I : NodeOps} {O : StoreOps} (A : NodeLaws θ I) (B : StoreL
   unfolding climb newRoot carried bumpCost
   root-climbed h s k u key a c y fits f =
       let w = top-written A (suc (levels s)) a c h in
-      let t = taken-head B s (y .ok) (omega arith) in
-      let p =
-      B .put-is (takeNode O s) (suc (taken s)) _ (suc (levels s)) (pair a c) (t .ok) (omega arith) (omega (arith, t .cap-same))
-      (w .is) in
-      let s₁ : S = O .put (takeNode O s) (suc (taken s)) (I .top (suc (levels s)) a c) in
-      let e = put-kept (omega arith) (taken-kept B s (y .ok) (omega arith)) p in
-      let g = B .head-is s₁ (suc (taken s)) (suc (levels s₁)) (taken s₁) (p .ok) (omega (arith, e .now, e .cap-same)) in
-      let at-m : node (newRoot I O s a c) (suc (taken s)) ≡ I .top (suc (levels s)) a c =
-      g .nodes-same (suc (taken s)) (omega arith) (omega (arith, e .cap-same)) ∙ p .here in (
+      let m : ℕ = nextNode O s in
+      let s₀ : S = takeNode O s in
+      let t = B .take-is s (y .ok) fits in
+      let spares = numbered-spares [] (y .numbered) in
+      let low = first-low m (free s₀) (t .first-is) spares in
+      let high = first-high m (free s₀) (t .first-is) spares in
+      let gone = first-gone m (free s₀) (t .first-is) spares in
+      let zero₀ = rest-gone m (free s₀) (t .first-is) spares 0 (spares .positive) in
+      let p = B .put-is s₀ m _ (suc (levels s)) (pair a c) (t .ok) low (omega (arith, t .cap-same)) gone zero₀ (w .is) in
+      let s₁ : S = O .put s₀ m (I .top (suc (levels s)) a c) in
+      let e = put-kept gone (taken-kept B s (y .ok) fits) p in
+      let g = B .head-is s₁ m (suc (levels s₁)) (p .ok) in
+      let at-m : node (newRoot I O s a c) m ≡ I .top (suc (levels s)) a c =
+      g .nodes-same m low (omega (arith, e .cap-same)) ∙ p .here in
+      let first-m : first (free s) ≡ m = ap first (t .first-is) in (
         record {
           nodes = (
-            is-moved at-m (rw (y .nodes .0, ← (y .nodes .1)) (w .is)),
-            (ap leaf (sym (g .root-is)), g .levels-is ∙ ap suc (e .levels-same ∙ y .nodes .1)),
+            is-moved (ap (node (newRoot I O s a c)) first-m ∙ at-m) (rw (y .nodes .0, ← (y .nodes .1)) (w .is)),
+            (ap leaf (first-m ∙ sym (g .root-is)), g .levels-is ∙ ap suc (e .levels-same ∙ y .nodes .1)),
           );
-          frame = λ x i l o.
-              g .nodes-same x i (omega (arith, e .cap-same)) ∙ p .elsewhere x i (omega (arith, t .cap-same)) (λ j. omega arith)
-              ∙ t .nodes-same x i (omega arith);
+          frame = λ x i l f o.
+              g .nodes-same x i (omega (arith, e .cap-same))
+              ∙ p .elsewhere x i (omega (arith, t .cap-same)) (first-not m (free s₀) (t .first-is) spares x f)
+              ∙ t .nodes-same x i l;
           changed = record {
             ok = g .ok;
-            now = omega (arith, g .taken-is, e .now);
+            now = g .free-same ∙ p .free-same ∙ sym (ap (drop 1) (t .first-is));
             cap-same = g .cap-same ∙ e .cap-same;
             others-same = g .others-same ∙ e .others-same;
-            fresh = λ x l r.
-                g .nodes-same x (omega arith) (omega (arith, e .cap-same)) ∙ e .fresh x (omega (arith, g .taken-is, e .now)) r;
+            fresh = λ x i l o.
+                g .nodes-same x i (omega (arith, e .cap-same)) ∙ e .fresh x i l (omega (arith, ap (count x) (g .free-same)));
           };
         },
-        λ x o. elim (ℕ-discrete x (suc (taken s))) [
+        λ x o. elim (ℕ-discrete x m) [
           | yes i ↦ subst (Unlinked (node (newRoot I O s a c))) (sym i) (written-unlinked θ _ _ at-m w refl refl)
-          | no i ↦ absurd (omega (arith, ind-other x (suc (taken s)) i))
+          | no i ↦ absurd (omega (arith, ap (ind x) first-m, ind-other x m i))
         ],
-        ap (λ d. record { at = suc (taken s); bits = key; depth = d } ∷ [])
-            (sym (omega (arith, depth-split u key a c, ap (λ t. depth t key) (y .nodes .0)))),
+        place-root first-m (sym (omega (arith, depth-split u key a c, ap (λ t. depth t key) (y .nodes .0)))),
       )
+    where
+      place-root : {m m′ d d′ : ℕ} → m′ ≡ m → d ≡ d′
+          → _≡_ {A = List Place} (record { at = m; bits = key; depth = d } ∷ []) (record { at = m′; bits = key; depth = d′ } ∷ [])
+      place-root e q = rw (e, q)
 
   pub climb-keeps : 1 ≤ θ → (bs : List (Trie ℕ)) → ClimbKeeps A B bs
   climb-keeps h [] s k u key a c y fits f = root-climbed h s k u key a c y fits f
@@ -134,7 +148,7 @@ module _ {θ : ℕ} {I : NodeOps} {O : StoreOps} (A : NodeLaws θ I) (B : StoreL
         | yes small ↦
             rw (
               climb-room I O θ key s (placeAt u b key) a c (pathOf b bs key) small,
-              carried-slack θ (taken s) u b bs key small,
+              carried-slack θ (free s) u b bs key small,
               bump-slack θ (depth u key - depth b key) (locals b bs key) small .1,
             ) (
               grown-climbed A B y key a c small,
@@ -144,22 +158,23 @@ module _ {θ : ℕ} {I : NodeOps} {O : StoreOps} (A : NodeLaws θ I) (B : StoreL
         | no large ↦
             let full : θ ≤ depth u key - depth b key = omega arith in
             let cost = bump-full θ (depth u key - depth b key) (locals b bs key) full .1 in
-            let more : taken s < cap s = omega (arith, cost) in
+            let more : 1 ≤ length (free s) = omega (arith, cost) in
+            let m : ℕ = nextNode O s in
             let t = forked (under b u key) (rest b key) a c in
             let s₁ : S = splitNode I O s (placeAt u b key) a c in
-            let s′ : S = climb I O θ key s₁ (pathOf b bs key) (leafAt b key) (suc (taken s)) .store in
+            let s′ : S = climb I O θ key s₁ (pathOf b bs key) (leafAt b key) m .store in
             let w = halve-split y key a c (t .2) full more in
             let z = rise A B y key a c (t .2) w (climb-keeps h bs) (omega (arith, cost)) (λ x o. f x (omega arith)) in
             rw (
               climb-full I O θ key s (placeAt u b key) a c (pathOf b bs key) full,
-              carried-full θ (taken s) u b bs key full,
+              carried-full θ (free s) u b bs key m (free s₁) (w .kept .now) full,
               cost,
             ) (
               z .climbed,
-              plain-cons θ (node s′) (graft b key (pair (leafAt b key) (suc (taken s)))) (carried θ (suc (taken s)) b bs key)
+              plain-cons θ (node s′) (graft b key (pair (leafAt b key) m)) (carried θ (free s₁) b bs key)
                   (λ x o. unlinked-moved θ (node s₁) (node s′) x (z .kept x o) (halve-plain y key a c (t .2) full more f x o))
                   (z .plain),
-              full-path u b (carried θ (suc (taken s)) b bs key) key a c (ready-deep y key) θ (suc (taken s)) _ (ready-tall y key) full
+              full-path u b (carried θ (free s₁) b bs key) key a c (ready-deep y key) θ m _ (ready-tall y key) full
                   (z .way),
             )
       ]

@@ -1,17 +1,18 @@
 -- A node of level 1 splits, with its links: the node behind it is one of the level's and not itself, so the right half comes between them.
 use mathlib.Core.Path.{_≡_, sym, ap, _∙_, subst}
 use mathlib.Core.List.{List, _∷_, _++_}
-use Prim.Native.Nat.{ℕ, suc, _-_, _≤_, _<_}
+use Prim.Native.Nat.{ℕ, _-_, _≤_}
 use native.Mathlib.Omega.{arith}
+use lib.ListN.{length}
 use Rattle.tree.specs.Trie.{Trie, fork, Key, labels, leafAt, depth, rest, graft, pair}
 use Rattle.node.specs.Node.{backWord, forwardWord}
-use Rattle.represent.specs.Labelled.{occ, occs, under, before, after, first, Linked}
+use Rattle.represent.specs.Labelled.{occ, occs, count, under, before, after, first, Linked}
 use Rattle.represent.specs.Rep.{backOf, forwardOf}
-use Rattle.split.specs.Round.{NodeOps, NodeLaws, StoreOps, StoreLaws, placeAt, splitFirst}
+use Rattle.split.specs.Round.{NodeOps, NodeLaws, StoreOps, StoreLaws, placeAt, nextNode, splitFirst}
 use Rattle.represent.proofs.LabelLaws.{ind-self, labels-graft, labels-at, over-in}
-use Rattle.represent.proofs.Chain.{count, count-labels, count-at, first-in, first-not, linked-next, Mended, linked-split}
+use Rattle.represent.proofs.Chain.{count-labels, count-at, first-in, first-not, linked-next, Mended, linked-split}
 use Rattle.split.proofs.Blocks.{Written, linked-written}
-use Rattle.split.proofs.Level.{At, moved-links, Ready, ready-low, ready-high, key-low}
+use Rattle.split.proofs.Level.{At, moved-links, Ready, ready-low, ready-high, ready-off, key-low}
 use Rattle.split.proofs.Splits.{Split, Parted, parted, parted-split}
 use Rattle.split.proofs.Rise.{lower-here, upper-here}
 
@@ -19,13 +20,13 @@ module _ {θ : ℕ} {I : NodeOps} {O : StoreOps} (A : NodeLaws θ I) (B : StoreL
     {s : O .S} {u b : Trie ℕ} {bs : List (Trie ℕ)} (y : Ready θ O s 0 u (b ∷ bs)) (key : Key) (a c : ℕ)
     (links : Linked (backOf (O .node s)) (forwardOf (O .node s)) 0 (labels b))
   where
-    open StoreOps O using (S, node, taken, cap)
+    open StoreOps O using (S, node, free)
 
     abbrev n : ℕ
     n = leafAt b key
 
     abbrev m : ℕ
-    m = suc (taken s)
+    m = nextNode O s
 
     -- the node behind n
     abbrev q : ℕ
@@ -46,7 +47,7 @@ module _ {θ : ℕ} {I : NodeOps} {O : StoreOps} (A : NodeLaws θ I) (B : StoreL
     known ne = rw q-is (omega (arith, count-at (first (after b key)) b key, first-in (after b key) (λ e. ne (q-is ∙ e))))
 
     module _ {l r : Trie ℕ} (e : graft (under b u key) (rest b key) (pair a c) ≡ fork l r)
-        (full : θ ≤ depth u key - depth b key) (more : taken s < cap s)
+        (full : θ ≤ depth u key - depth b key) (more : 1 ≤ length (free s))
       where
         abbrev s₁ : S
         s₁ = splitFirst I O s (placeAt u b key) a c
@@ -97,7 +98,7 @@ module _ {θ : ℕ} {I : NodeOps} {O : StoreOps} (A : NodeLaws θ I) (B : StoreL
             (λ x o ne ne′.
             let i : 1 ≤ occs x (b ∷ bs) = omega (arith, occ-list x) in
             moved-links θ (node s) (node s₁) x
-            (first-parted .off x (ready-low y x i) (ready-high y x i) ne (λ z. ne′ (z ∙ q-is))))
+            (first-parted .off x (ready-low y x i) (ready-high y x i) (ready-off y x i) ne (λ z. ne′ (z ∙ q-is))))
             (λ x. omega (arith, occ-list x, y .numbered .once x))
             (omega (arith, occ-list 0, y .numbered .positive))
             chain)

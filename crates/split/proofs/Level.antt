@@ -7,13 +7,13 @@
 --   Climbed s s′ k u′ bs bs′ more == in s′ these are bs′ over u′, for so many nodes more, and no other node of s has changed
 use mathlib.Core.Path.{_≡_, sym, ap, _∙_, subst}
 use mathlib.Core.List.{List, [], _∷_}
-use Prim.Native.Nat.{ℕ, suc, _-_, _≤_}
+use Prim.Native.Nat.{ℕ, suc, _+_, _-_, _≤_}
 use native.Mathlib.Omega.{arith}
 use native.Mathlib.Decide.{ℕ-discrete, decLe}
 use Rattle.tree.specs.Trie.{Trie, leaf, Key, labels, leafAt, depth, rest, graft}
 use Rattle.tree.proofs.TrieLaws.{graft-leafAt, depth-le-height}
 use Rattle.node.specs.Node.{backWord, forwardWord}
-use Rattle.represent.specs.Labelled.{occ, occs, Over, under}
+use Rattle.represent.specs.Labelled.{occ, occs, count, Over, under}
 use Rattle.represent.specs.Image.{NodeIs}
 use Rattle.represent.specs.Rep.{Nodes, backOf, forwardOf, Unlinked, Links}
 use Rattle.split.specs.Round.{StoreOps, Put, StoreLaws, Changed}
@@ -75,27 +75,33 @@ pub plain-cons : (θ : ℕ) (node : ℕ → List ℕ) (b : Trie ℕ) (bs : List 
 plain-cons θ node b bs f g = λ x o. elim (decLe 1 (occ x b)) [ yes p ↦ f x p | no p ↦ g x (omega arith) ]
 
 module _ (θ : ℕ) (O : StoreOps) where
-  open StoreOps O using (S, Ok, node, root, levels, taken, cap)
+  open StoreOps O using (S, Ok, node, root, levels, free, cap)
 
   pub record Ready (s : S) (k : ℕ) (u : Trie ℕ) (bs : List (Trie ℕ)) : Type 0 where
     pub ok : Ok s
-    pub fits : taken s ≤ cap s
     pub nodes : Nodes θ (node s) (root s) (levels s) k u bs
-    pub numbered : Numbered (taken s) bs
+    pub numbered : Numbered (cap s) (free s) bs
 
   pub record Climbed (s s′ : S) (k : ℕ) (u′ : Trie ℕ) (bs bs′ : List (Trie ℕ)) (more : ℕ) : Type 0 where
     pub nodes : Nodes θ (node s′) (root s′) (levels s′) k u′ bs′
-    pub frame : (x : ℕ) → 1 ≤ x → x ≤ taken s → occs x bs ≡ 0 → node s′ x ≡ node s x
+    pub frame : (x : ℕ) → 1 ≤ x → x ≤ cap s → count x (free s) ≡ 0 → occs x bs ≡ 0 → node s′ x ≡ node s x
     pub changed : Changed O s s′ more
 
 module _ {θ : ℕ} {O : StoreOps} {s : O .S} {k : ℕ} {u b : Trie ℕ} {bs : List (Trie ℕ)} (y : Ready θ O s k u (b ∷ bs)) where
-  open StoreOps O using (node, taken, put)
+  open StoreOps O using (node, free, cap, put)
 
   pub ready-low : (x : ℕ) → 1 ≤ occs x (b ∷ bs) → 1 ≤ x
-  ready-low x = label-low (b ∷ bs) x (y .numbered .positive)
+  ready-low x = label-low (b ∷ bs) x (omega (arith, y .numbered .positive))
 
-  pub ready-high : (x : ℕ) → 1 ≤ occs x (b ∷ bs) → x ≤ taken s
-  ready-high x = label-high (taken s) (λ n. occs n (b ∷ bs)) x (y .numbered .none)
+  pub ready-high : (x : ℕ) → 1 ≤ occs x (b ∷ bs) → x ≤ cap s
+  ready-high x o = label-high (cap s) (λ n. occs n (b ∷ bs) + count n (free s)) x (y .numbered .none) (omega arith)
+
+  -- it is not one of those that may be taken
+  pub ready-off : (x : ℕ) → 1 ≤ occs x (b ∷ bs) → count x (free s) ≡ 0
+  ready-off x o = omega (arith, y .numbered .once x)
+
+  pub ready-zero : count 0 (free s) ≡ 0
+  ready-zero = omega (arith, y .numbered .positive)
 
   module _ (key : Key) where
     -- the node at the key, and its number
@@ -105,8 +111,11 @@ module _ {θ : ℕ} {O : StoreOps} {s : O .S} {k : ℕ} {u b : Trie ℕ} {bs : L
     pub key-low : 1 ≤ leafAt b key
     key-low = ready-low (leafAt b key) here-in
 
-    pub key-high : leafAt b key ≤ taken s
+    pub key-high : leafAt b key ≤ cap s
     key-high = ready-high (leafAt b key) here-in
+
+    pub key-off : count (leafAt b key) (free s) ≡ 0
+    key-off = ready-off (leafAt b key) here-in
 
     pub here : NodeIs θ (node s (leafAt b key)) (suc k) (under b u key)
     here = over-at (At θ (node s) (suc k)) b u key (y .nodes .0)
@@ -129,10 +138,10 @@ module _ {θ : ℕ} {O : StoreOps} {s : O .S} {k : ℕ} {u b : Trie ℕ} {bs : L
         n = leafAt b key
 
         put-here : Put O s (put s n ws) n ws
-        put-here = B .put-is s n ws (suc k) _ (y .ok) key-low (omega (arith, key-high, y .fits)) (w .is)
+        put-here = B .put-is s n ws (suc k) _ (y .ok) key-low key-high key-off ready-zero (w .is)
 
         elsewhere : (x : ℕ) → 1 ≤ occs x (b ∷ bs) → (x ≡ n → ⊥) → node (put s n ws) x ≡ node s x
-        elsewhere x o ne = put-here .elsewhere x (ready-low x o) (omega (arith, ready-high x o, y .fits)) ne
+        elsewhere x o ne = put-here .elsewhere x (ready-low x o) (ready-high x o) ne
 
         pub rewritten : Climbed θ O s (put s n ws) k (graft u key d) (b ∷ bs) (b ∷ bs) 0
         rewritten =
@@ -147,8 +156,8 @@ module _ {θ : ℕ} {O : StoreOps} {s : O .S} {k : ℕ} {u b : Trie ℕ} {bs : L
                 nodes-frame θ (node s) _ _ _ _ _ (suc k) b bs (put-here .root-same) (put-here .levels-same)
                     (λ x o. elsewhere x (omega arith) (off-key x b key (omega (arith, y .numbered .once x)))) (y .nodes .1),
               );
-              frame = λ x p t o. put-here .elsewhere x p (omega (arith, y .fits)) (off-key x b key (omega arith));
-              changed = put-changed key-high put-here;
+              frame = λ x p t z o. put-here .elsewhere x p t (off-key x b key (omega arith));
+              changed = put-changed key-off put-here;
             }
 
         pub rewritten-links : (x : ℕ) → 1 ≤ occs x (b ∷ bs) → SameLinks θ (node s) (node (put s n ws)) x

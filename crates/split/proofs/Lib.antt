@@ -9,9 +9,11 @@ pub mod Paths
 pub mod Climb
 pub mod FirstSplit
 pub mod RoundLaws
+pub mod SupplyLaws
 pub mod Frame
 pub mod Lengths
 pub mod WordStore
+pub mod PageSupply
 pub mod PageLaws
 pub mod Kept
 pub mod Stepping

@@ -2,43 +2,44 @@
 -- a climb through them that keeps what is promised leaves the level alone, and so the split and that climb together keep it.
 --   ClimbKeeps bs == a climb through the levels bs gives the carried levels, and no links
 --   Risen         == what a split and the climb above it come to
-use mathlib.Core.Path.{_≡_, sym, _∙_, subst}
+use mathlib.Core.Path.{_≡_, sym, ap, _∙_, subst}
 use mathlib.Core.List.{List, _∷_}
 use Prim.Native.Nat.{ℕ, suc, _+_, _-_, _≤_, _<_}
+use lib.ListN.{length}
 use native.Mathlib.Omega.{arith}
 use native.Mathlib.Decide.{ℕ-discrete}
 use Rattle.tree.specs.Trie.{Trie, fork, Key, leafAt, depth, rest, graft, pair}
 use Rattle.tree.specs.Carry.{locals, bumpCost}
-use Rattle.represent.specs.Labelled.{occ, occs, Over, under}
+use Rattle.represent.specs.Labelled.{ind, occ, occs, count, Over, under}
 use Rattle.represent.specs.Rep.{backOf, forwardOf}
-use Rattle.split.specs.Round.{NodeOps, NodeLaws, StoreOps, StoreLaws, Place, placeAt, pathOf, grown, climb, carried}
-use Rattle.represent.proofs.LabelLaws.{Numbered, ind-other, over-map}
+use Rattle.split.specs.Round.{NodeOps, NodeLaws, StoreOps, StoreLaws, Place, placeAt, pathOf, nextNode, grown, climb, carried}
+use Rattle.represent.proofs.LabelLaws.{Numbered, ind-eq, ind-other, over-map}
 use Rattle.split.proofs.Grafts.{occ-split, over-graft}
 use Rattle.split.proofs.CarriedLaws.{numbered-above}
 use Rattle.split.proofs.Blocks.{Written, grow-written, lower-written, upper-written}
-use Rattle.split.proofs.Writes.{changed-then}
+use Rattle.split.proofs.Writes.{numbered-spares, first-low, first-high, changed-then, kept-changed}
 use Rattle.split.proofs.Level.{At, is-moved, nodes-frame, SameLinks, unlinked-moved, Plain, Ready, Climbed, ready-low, ready-high}
-use Rattle.split.proofs.Level.{here, local-depth, rewritten, rewritten-links}
+use Rattle.split.proofs.Level.{ready-off, here, local-depth, rewritten, rewritten-links}
 use Rattle.split.proofs.Splits.{Split}
 
 module _ {θ : ℕ} {I : NodeOps} {O : StoreOps} (A : NodeLaws θ I) (B : StoreLaws θ O) where
-  open StoreOps O using (S, node, taken, cap)
+  open StoreOps O using (S, node, free, cap)
 
   abbrev pub ClimbKeeps : List (Trie ℕ) → Type 0
   ClimbKeeps bs =
       (s : S) (k : ℕ) (u : Trie ℕ) (key : Key) (a c : ℕ)
-      → Ready θ O s k u bs → taken s + bumpCost θ (locals u bs key) ≤ cap s → Plain θ (node s) bs
-      → Climbed θ O s (climb I O θ key s (pathOf u bs key) a c .store) k (graft u key (pair a c)) bs (carried θ (taken s) u bs key)
+      → Ready θ O s k u bs → bumpCost θ (locals u bs key) ≤ length (free s) → Plain θ (node s) bs
+      → Climbed θ O s (climb I O θ key s (pathOf u bs key) a c .store) k (graft u key (pair a c)) bs (carried θ (free s) u bs key)
       (bumpCost θ (locals u bs key))
-      × Plain θ (node (climb I O θ key s (pathOf u bs key) a c .store)) (carried θ (taken s) u bs key)
-      × (climb I O θ key s (pathOf u bs key) a c .path ≡ pathOf (graft u key (pair a c)) (carried θ (taken s) u bs key) key)
+      × Plain θ (node (climb I O θ key s (pathOf u bs key) a c .store)) (carried θ (free s) u bs key)
+      × (climb I O θ key s (pathOf u bs key) a c .path ≡ pathOf (graft u key (pair a c)) (carried θ (free s) u bs key) key)
 
   module _ {s : S} {k : ℕ} {u b : Trie ℕ} {bs : List (Trie ℕ)} (y : Ready θ O s k u (b ∷ bs)) (key : Key) where
     abbrev n : ℕ
     n = leafAt b key
 
     abbrev m : ℕ
-    m = suc (taken s)
+    m = nextNode O s
 
     abbrev v : Trie ℕ
     v = under b u key
@@ -72,33 +73,45 @@ module _ {θ : ℕ} {I : NodeOps} {O : StoreOps} (A : NodeLaws θ I) (B : StoreL
         -- the levels above are as they were
         untouched : (x : ℕ) → 1 ≤ occs x bs → node s₁ x ≡ node s x
         untouched x o =
-            w .frame x (ready-low y x (omega arith)) (ready-high y x (omega arith)) (omega (arith, y .numbered .once x))
+            w .frame x (ready-low y x (omega arith)) (ready-high y x (omega arith)) (ready-off y x (omega arith))
+            (omega (arith, y .numbered .once x))
 
-        above : taken s < cap s → Ready θ O s₁ (suc k) b bs
-        above more =
+        -- the numbers to come after the one that is taken
+        count-next : (x : ℕ) → count x (free s) ≡ ind x m + count x (free s₁)
+        count-next x = ap (count x) (w .kept .now)
+
+        above : Ready θ O s₁ (suc k) b bs
+        above =
             record {
-              ok = w .changed .ok;
-              fits = omega (arith, w .changed .now, w .changed .cap-same);
-              nodes = nodes-frame θ (node s) (node s₁) _ _ _ _ (suc k) b bs (w .root-same) (w .levels-same) untouched (y .nodes .1);
-              numbered = subst (λ (t : ℕ). Numbered t bs) (omega (arith, w .changed .now)) (numbered-above (taken s) b bs (y .numbered));
+              ok = w .kept .ok;
+              nodes = nodes-frame θ (node s) (node s₁) _ _ _ _ (suc k) b bs (w .kept .root-same) (w .kept .levels-same) untouched
+                  (y .nodes .1);
+              numbered = subst (λ (t : ℕ). Numbered t (free s₁) bs) (sym (w .kept .cap-same))
+                  (numbered-above (cap s) m (free s₁) b bs (subst (λ ns. Numbered (cap s) ns (b ∷ bs)) (w .kept .now) (y .numbered)));
             }
 
         pub record Risen (s′ : S) (path : List Place) : Type 0 where
-          pub climbed : Climbed θ O s s′ k (graft u key (pair a c)) (b ∷ bs) (b′ ∷ carried θ m b bs key)
+          pub climbed : Climbed θ O s s′ k (graft u key (pair a c)) (b ∷ bs) (b′ ∷ carried θ (free s₁) b bs key)
               (suc (bumpCost θ (locals b bs key)))
           pub kept : (x : ℕ) → 1 ≤ occ x b′ → node s′ x ≡ node s₁ x
-          pub plain : Plain θ (node s′) (carried θ m b bs key)
-          pub way : path ≡ pathOf b′ (carried θ m b bs key) key
+          pub plain : Plain θ (node s′) (carried θ (free s₁) b bs key)
+          pub way : path ≡ pathOf b′ (carried θ (free s₁) b bs key) key
 
         -- the climb above leaves the level's nodes alone
         module _ {s′ : S} {bs′ : List (Trie ℕ)} {more : ℕ} (z : Climbed θ O s₁ s′ (suc k) b′ bs bs′ more) where
           left-alone : (x : ℕ) → 1 ≤ occ x b′ → node s′ x ≡ node s₁ x
           left-alone x o =
               elim (ℕ-discrete x m) [
-                | yes i ↦ z .frame x (omega arith) (omega (arith, w .changed .now)) (omega (arith, y .numbered .none x (omega arith)))
+                | yes i ↦
+                    let spares = numbered-spares (b ∷ bs) (y .numbered) in
+                    z .frame x (omega (arith, i, first-low m _ (w .kept .now) spares))
+                    (omega (arith, i, w .kept .cap-same, first-high m _ (w .kept .now) spares))
+                    (omega (arith, count-next x, ind-eq x m i, y .numbered .once x))
+                    (omega (arith, count-next x, ind-eq x m i, y .numbered .once x))
                 | no i ↦
                     let p : 1 ≤ occ x b = omega (arith, occ-split x b key m, ind-other x m i) in
-                    z .frame x (ready-low y x (omega arith)) (omega (arith, w .changed .now, ready-high y x (omega arith)))
+                    z .frame x (ready-low y x (omega arith)) (omega (arith, w .kept .cap-same, ready-high y x (omega arith)))
+                    (omega (arith, count-next x, y .numbered .once x))
                     (omega (arith, y .numbered .once x))
               ]
 
@@ -115,21 +128,21 @@ module _ {θ : ℕ} {I : NodeOps} {O : StoreOps} (A : NodeLaws θ I) (B : StoreL
                       (λ x t o p. is-moved (left-alone x o) p) halves,
                   z .nodes,
                 );
-                frame = λ x p t o. z .frame x p (omega (arith, w .changed .now)) (omega arith) ∙ w .frame x p t (omega arith);
-                changed = changed-then (omega arith) (w .changed) (z .changed);
+                frame = λ x p t f o.
+                    z .frame x p (omega (arith, w .kept .cap-same)) (omega (arith, count-next x)) (omega arith)
+                    ∙ w .frame x p t f (omega arith);
+                changed = changed-then (omega arith) (kept-changed (w .kept)) (z .changed);
               }
 
-        pub rise : ClimbKeeps bs → taken s + suc (bumpCost θ (locals b bs key)) ≤ cap s → Plain θ (node s) bs
+        pub rise : ClimbKeeps bs → suc (bumpCost θ (locals b bs key)) ≤ length (free s) → Plain θ (node s) bs
             → Risen (climb I O θ key s₁ (pathOf b bs key) n m .store) (climb I O θ key s₁ (pathOf b bs key) n m .path)
         rise up fits f =
-            let t : taken s₁ ≡ m = omega (arith, w .changed .now) in
             let z =
-            up s₁ (suc k) b key n m (above (omega arith)) (omega (arith, t, w .changed .cap-same))
+            up s₁ (suc k) b key n m above (omega (arith, ap length (w .kept .now)))
             (λ x o. unlinked-moved θ (node s) (node s₁) x (untouched x o) (f x o)) in
-            let climbed = rw t at (z .0) in
             record {
-              climbed = split-climbed climbed;
-              kept = left-alone climbed;
-              plain = rw t at (z .1);
-              way = rw t at (z .2);
+              climbed = split-climbed (z .0);
+              kept = left-alone (z .0);
+              plain = z .1;
+              way = z .2;
             }

@@ -5,8 +5,8 @@
 --   PageStep f s s′ b0 == and its pages are those of b0
 use mathlib.Core.Path.{_≡_, refl, sym, ap, ap₂, _∙_, subst}
 use mathlib.Core.Bool.{false, true}
-use mathlib.Core.List.{List, [], _∷_}
-use Prim.Native.Nat.{ℕ, suc, _+_, _^_, _≤_, _<_}
+use mathlib.Core.List.{List, [], _∷_, _++_}
+use Prim.Native.Nat.{ℕ, _+_, _-_, _^_, _≤_, _<_}
 use native.Mathlib.Omega.{arith}
 use lib.ListN.{length, drop, replicate}
 use Rattle.lists.specs.Bits.{bits}
@@ -14,60 +14,135 @@ use Rattle.tree.specs.Trie.{Trie, leaf, Key, depth, graft, pair}
 use Rattle.tree.specs.Carry.{locals, bumpCost}
 use Rattle.tree.proofs.TrieLaws.{graft-leafAt}
 use Rattle.store.specs.declared.Format.{Format}
-use Rattle.store.specs.declared.Head.{Head}
 use Rattle.store.specs.declared.Item.{Item}
+use Rattle.store.specs.declared.Released.{Released}
 use Rattle.store.specs.Format.{width}
-use Rattle.store.specs.Head.{headOf, nodeWords, pageWords}
+use Rattle.store.specs.Head.{headOf, releasedOf, nodesLeft, pagesLeft, nodeWords, pageWords}
+use Rattle.store.specs.Released.{releasedNode, nodeNext, pageNext, upFrom, releasedNodes, releasedPages, nodesToCome, pagesToCome}
+use Rattle.store.specs.Released.{nextPage, pageTaken}
 use Rattle.store.proofs.HeadLaws.{sizes-limits}
-use Rattle.represent.specs.Labelled.{occs}
+use Rattle.represent.specs.Labelled.{occs, count}
 use Rattle.represent.specs.Image.{pageImage}
 use Rattle.represent.specs.Rep.{Stretch, numbers, Directory, Pages, Rep, Sized}
+use Rattle.split.specs.Supply.{Supplied}
 use Rattle.split.specs.Round.{NodeOps, StoreOps, Rounded, pathOf, round, carried}
-use Rattle.split.specs.Frame.{nodeOf, pageOf, putPagesTaken}
+use Rattle.split.specs.Frame.{nodeOf, pageOf}
 use Rattle.split.specs.Insertion.{SameSizes, Ok, wordStore, stretchAt, leftAt, prefixAt, halfAt, replacedAt, Fit, putItems}
-use Rattle.split.specs.Insertion.{nextPage, takePage, Stepped, Turned, Roomy, UpperKeeps, LowerKeeps, BothKeep, PutKeeps, TakeKeeps}
+use Rattle.split.specs.Insertion.{Stepped, Turned, Roomy, UpperKeeps, LowerKeeps, BothKeep, PutKeeps, TakeKeeps}
 use Rattle.represent.proofs.LabelLaws.{label-low, label-high, leafAt-relabel, relabel-graft}
+use Rattle.represent.proofs.Chain.{count-append}
+use Rattle.represent.proofs.Counting.{released-node, released-page}
 use Rattle.split.proofs.Level.{moved-links, nodes-frame, links-frame}
-use Rattle.split.proofs.Frame.{putPage-nodes, putPage-beyond}
-use Rattle.split.proofs.Frame.{putPagesTaken-sizes, putPagesTaken-root, putPagesTaken-levels, putPagesTaken-taken}
-use Rattle.split.proofs.Frame.{putPagesTaken-sized, putPagesTaken-nodes, putPagesTaken-beyond}
-use Rattle.split.proofs.WordStore.{others-sizes, others-pagesTaken, others-pages, others-beyond, store-laws}
-use Rattle.split.proofs.PageLaws.{number-high, half-fits, own-low, put-head, put-length, put-sized, put-other, take-pagesTaken}
-use Rattle.split.proofs.PageLaws.{take-other, pages-frame, pages-upper, pages-lower, pages-both, pages-put, pages-take}
+use Rattle.split.proofs.SupplyLaws.{upFrom-low, length-come, one-wide, one-narrow}
+use Rattle.split.proofs.Frame.{putPage-nodes, putPage-beyond, pageTaken-sizes, pageTaken-sized, pageTaken-beyond, pageTaken-root}
+use Rattle.split.proofs.Frame.{pageTaken-levels, pageTaken-taken, pageTaken-node, pageTaken-many, pageTaken-nodes}
+use Rattle.split.proofs.WordStore.{others-sizes, others-pagesTaken, others-page, others-many, others-pages, others-beyond}
+use Rattle.split.proofs.WordStore.{free-same, ok-same, store-laws}
+use Rattle.split.proofs.PageSupply.{PageSupply, released-same, supply-same}
+use Rattle.split.proofs.PageLaws.{number-high, half-fits, own-low, own-off, put-head, put-length, put-sized, put-released, put-supply}
+use Rattle.split.proofs.PageLaws.{take-supply, m-low, m-high, m-gone, pages-frame, pages-upper, pages-lower, pages-both, both-supply}
+use Rattle.split.proofs.PageLaws.{pages-put, pages-take}
 use Rattle.split.proofs.RoundLaws.{round-carries, aim-keeps}
 use Rattle.split.proofs.Kept.{Kept, same-head, same-then, size-same, kept-none, kept-then}
 
 -- a directory goes by the node blocks in use alone
-directory-frame : (θ : ℕ) (node node′ : ℕ → List ℕ) (h h′ : Head) (u : Trie ℕ) (bs : List (Trie ℕ))
-    → h′ .root ≡ h .root → h′ .levels ≡ h .levels → h′ .nodesTaken ≡ h .nodesTaken
-    → ((n : ℕ) → 1 ≤ n → n ≤ h .nodesTaken → node′ n ≡ node n)
-    → Directory θ node (h .root) (h .levels) (h .nodesTaken) u bs → Directory θ node′ (h′ .root) (h′ .levels) (h′ .nodesTaken) u bs
-directory-frame θ node node′ h h′ u [] r l t e d = absurd (d .links)
-directory-frame θ node node′ h h′ u (b ∷ bs) r l t e d =
+directory-frame : (θ : ℕ) (node node′ : ℕ → List ℕ) (root root′ levels levels′ cap cap′ : ℕ) (ns ns′ : List ℕ) (u : Trie ℕ)
+    (bs : List (Trie ℕ)) → root′ ≡ root → levels′ ≡ levels → cap′ ≡ cap → ns′ ≡ ns
+    → ((n : ℕ) → 1 ≤ n → n ≤ cap → node′ n ≡ node n)
+    → Directory θ node root levels cap (λ n. count n ns) u bs → Directory θ node′ root′ levels′ cap′ (λ n. count n ns′) u bs
+directory-frame θ node node′ root root′ levels levels′ cap cap′ ns ns′ u [] r l c q e d = absurd (d .links)
+directory-frame θ node node′ root root′ levels levels′ cap cap′ ns ns′ u (b ∷ bs) r l c q e d =
     record {
-      nodes = nodes-frame θ node node′ (h .root) (h′ .root) (h .levels) (h′ .levels) 0 u (b ∷ bs) r l same (d .nodes);
+      nodes = nodes-frame θ node node′ root root′ levels levels′ 0 u (b ∷ bs) r l same (d .nodes);
       links = links-frame θ node node′ b bs (λ n o. moved-links θ node node′ n (same n o)) (d .links);
-      oneForOne = rw t (d .oneForOne);
+      oneForOne = rw (c, q) (d .oneForOne);
       positive = d .positive;
+      spare-positive = rw q (d .spare-positive);
       levels-are = d .levels-are;
     }
   where
     same : (n : ℕ) → 1 ≤ occs n (b ∷ bs) → node′ n ≡ node n
-    same n o = e n (label-low (b ∷ bs) n (d .positive) o) (label-high (h .nodesTaken) (λ x. occs x (b ∷ bs)) n (d .oneForOne .none) o)
+    same n o =
+        e n (label-low (b ∷ bs) n (d .positive) o)
+        (label-high cap (λ x. occs x (b ∷ bs) + count x ns) n (d .oneForOne .none) (omega arith))
+
+-- with the unused blocks among the spare ones, or without
+module _ (θ : ℕ) (node : ℕ → List ℕ) (root levels taken cap : ℕ) (ns : List ℕ) (u : Trie ℕ) (bs : List (Trie ℕ)) (fits : taken ≤ cap) where
+  abbrev ms : List ℕ
+  ms = upFrom (cap - taken) taken
+
+  directory-wide : Directory θ node root levels taken (λ n. count n ns) u bs
+      → Directory θ node root levels cap (λ n. count n (ns ++ ms)) u bs
+  directory-wide d =
+      record {
+        nodes = d .nodes;
+        links = d .links;
+        oneForOne = one-wide (λ n. occs n bs) ns taken cap fits (d .oneForOne);
+        positive = d .positive;
+        spare-positive = omega (arith, count-append 0 ns ms, d .spare-positive, upFrom-low (cap - taken) taken 0 (omega arith));
+        levels-are = d .levels-are;
+      }
+
+  directory-narrow : Directory θ node root levels cap (λ n. count n (ns ++ ms)) u bs
+      → Directory θ node root levels taken (λ n. count n ns) u bs
+  directory-narrow d =
+      record {
+        nodes = d .nodes;
+        links = d .links;
+        oneForOne = one-narrow (λ n. occs n bs) ns taken cap fits (d .oneForOne);
+        positive = d .positive;
+        spare-positive = omega (arith, count-append 0 ns ms, d .spare-positive);
+        levels-are = d .levels-are;
+      }
+
+-- the blocks of a represented store that may be taken
+module _ (f : Format) (s : List ℕ) (b0 : Trie Stretch) (bs : List (Trie ℕ)) (r : Rep f s b0 bs) where
+  pub rep-ok : Ok f (headOf s .theta) s
+  unfolding releasedNodes
+  rep-ok =
+      record {
+        theta = refl;
+        sized = r .sized;
+        supplied = record {
+          fits = r .nodes-fit;
+          inside = λ x o. let i = released-node f s b0 bs r x o in (i .0, omega (arith, i .1, r .nodes-fit));
+          chained = r .released-nodes;
+          unused = r .free-nodes;
+        };
+      }
+
+  pub rep-supply : PageSupply f s
+  unfolding releasedPages
+  rep-supply =
+      record {
+        fits = r .pages-fit;
+        inside = λ x o. let i = released-page f s b0 bs r x o in (i .0, omega (arith, i .1, r .pages-fit));
+        chained = r .released-pages;
+        unused = r .free-pages;
+      }
+
+  -- how many they are
+  pub rep-nodesLeft : length (nodesToCome s) ≡ nodesLeft s
+  unfolding nodesToCome releasedNodes
+  rep-nodesLeft = length-come (nodeNext s) (releasedOf s .nodes) (releasedOf s .node) (headOf s .nodesTaken) (headOf s .nodeBlocks)
+
+  pub rep-pagesLeft : length (pagesToCome f s) ≡ pagesLeft s
+  unfolding pagesToCome releasedPages
+  rep-pagesLeft = length-come (pageNext f s) (releasedOf s .pages) (releasedOf s .page) (headOf s .pagesTaken) (headOf s .pageBlocks)
 
 record NodesKept (f : Format) (s s′ : List ℕ) : Type 0 where
   whole : Kept f s s′
   root-same : headOf s′ .root ≡ headOf s .root
   levels-same : headOf s′ .levels ≡ headOf s .levels
   taken-same : headOf s′ .nodesTaken ≡ headOf s .nodesTaken
+  name-same : releasedOf s′ .node ≡ releasedOf s .node
+  many-same : releasedOf s′ .nodes ≡ releasedOf s .nodes
   nodes-same : (n : ℕ) → 1 ≤ n → n ≤ headOf s .nodeBlocks → nodeOf s′ n ≡ nodeOf s n
 
 record PageStep (f : Format) (s s′ : List ℕ) (b0 : Trie Stretch) : Type 0 where
   kept : NodesKept f s s′
   pages : Pages f s′ (headOf s′) b0
-  pages-fit : headOf s′ .pagesTaken ≤ headOf s′ .pageBlocks
-  free-pages : (p : ℕ) → headOf s′ .pagesTaken < p → p ≤ headOf s′ .pageBlocks
-      → pageOf f s′ p ≡ replicate (pageWords f (headOf s′ .capacity)) 0
+  supply : PageSupply f s′
 
 module _ (f : Format) (s : List ℕ) (b0 b0′ : Trie Stretch) (bs : List (Trie ℕ)) (r : Rep f s b0 bs) (s₁ : List ℕ)
     (p : PageStep f s s₁ b0′) where
@@ -75,17 +150,30 @@ module _ (f : Format) (s : List ℕ) (b0 b0′ : Trie Stretch) (bs : List (Trie 
   θ = headOf s .theta
 
   step-ok : Ok f θ s₁
-  step-ok = record { theta = p .kept .whole .sizes-same .theta; sized = p .kept .whole .sized }
+  step-ok =
+      ok-same f θ s s₁ (rep-ok f s b0 bs r) (p .kept .whole .sized) (p .kept .whole .sizes-same) (p .kept .taken-same) (p .kept .many-same)
+      (p .kept .name-same) (λ x low high o. p .kept .nodes-same x low high)
 
-  step-directory : Directory θ (nodeOf s₁) (headOf s₁ .root) (headOf s₁ .levels) (headOf s₁ .nodesTaken) (numbers b0) bs
+  step-come : nodesToCome s₁ ≡ nodesToCome s
+  step-come =
+      free-same f θ s s₁ (rep-ok f s b0 bs r) (p .kept .whole .sized) (p .kept .whole .sizes-same) (p .kept .taken-same)
+      (p .kept .many-same) (p .kept .name-same) (λ x low high o. p .kept .nodes-same x low high)
+
+  whole-directory : Directory θ (nodeOf s) (headOf s .root) (headOf s .levels) (headOf s .nodeBlocks) (λ n. count n (nodesToCome s))
+      (numbers b0) bs
+  unfolding nodesToCome
+  whole-directory =
+      directory-wide θ (nodeOf s) (headOf s .root) (headOf s .levels) (headOf s .nodesTaken) (headOf s .nodeBlocks) (releasedNodes s)
+      (numbers b0) bs (r .nodes-fit) (r .directory)
+
+  step-directory : Directory θ (nodeOf s₁) (headOf s₁ .root) (headOf s₁ .levels) (headOf s₁ .nodeBlocks) (λ n. count n (nodesToCome s₁))
+      (numbers b0) bs
   step-directory =
-      directory-frame θ (nodeOf s) (nodeOf s₁) (headOf s) (headOf s₁) (numbers b0) bs (p .kept .root-same) (p .kept .levels-same)
-      (p .kept .taken-same)
-      (λ n low high. p .kept .nodes-same n low (omega (arith, r .nodes-fit))) (r .directory)
+      directory-frame θ (nodeOf s) (nodeOf s₁) _ _ _ _ _ _ (nodesToCome s) (nodesToCome s₁) (numbers b0) bs (p .kept .root-same)
+      (p .kept .levels-same) (p .kept .whole .sizes-same .nodes) step-come (p .kept .nodes-same) whole-directory
 
   -- the page step, then a change of nodes
-  module _ (s₂ : List ℕ) (more : ℕ) (bs′ : List (Trie ℕ)) (w : Rounded θ (wordStore f θ) s₁ s₂ more (numbers b0′) bs′)
-      (room : headOf s .nodesTaken + more ≤ headOf s .nodeBlocks) where
+  module _ (s₂ : List ℕ) (more : ℕ) (bs′ : List (Trie ℕ)) (w : Rounded θ (wordStore f θ) s₁ s₂ more (numbers b0′) bs′) where
     sizes-now : SameSizes (headOf s₁) (headOf s₂)
     sizes-now = others-sizes s₁ s₂ (w .changed .others-same)
 
@@ -95,30 +183,47 @@ module _ (f : Format) (s : List ℕ) (b0 b0′ : Trie Stretch) (bs : List (Trie 
     page-now : (x : ℕ) → pageOf f s₂ x ≡ pageOf f s₁ x
     page-now x = others-pages f s₁ s₂ x (w .changed .others-same)
 
-    -- a node block that no level has
-    free-now : (n : ℕ) → headOf s₂ .nodesTaken < n → n ≤ headOf s₂ .nodeBlocks → nodeOf s₂ n ≡ replicate (nodeWords (headOf s₂ .theta)) 0
-    free-now n l h =
-        let high : n ≤ headOf s .nodeBlocks = omega (arith, sizes-now .nodes, p .kept .whole .sizes-same .nodes) in
-        w .changed .fresh n l (omega (arith, p .kept .whole .sizes-same .nodes))
-        ∙ p .kept .nodes-same n (omega arith) high
-        ∙ r .free-nodes n (omega (arith, w .changed .now, p .kept .taken-same)) high
-        ∙ ap (λ t. replicate (nodeWords t) 0) (sym (sizes-now .theta ∙ p .kept .whole .sizes-same .theta))
+    supply-now : PageSupply f s₂
+    supply-now =
+        supply-same f s₁ s₂ (p .kept .whole .sized) (w .changed .ok .sized) sizes-now filled-now
+        (others-many s₁ s₂ (w .changed .others-same)) (others-page s₁ s₂ (w .changed .others-same)) (λ x low high o. page-now x) (p .supply)
+
+    chain-now : releasedPages f s₂ ≡ releasedPages f s₁
+    chain-now =
+        released-same f s₁ s₂ (p .kept .whole .sized) (w .changed .ok .sized) sizes-now filled-now
+        (others-many s₁ s₂ (w .changed .others-same)) (others-page s₁ s₂ (w .changed .others-same)) (λ x low high o. page-now x) (p .supply)
+
+    directory-now : Directory θ (nodeOf s₂) (headOf s₂ .root) (headOf s₂ .levels) (headOf s₂ .nodesTaken) (λ n. count n (releasedNodes s₂))
+        (numbers b0′) bs′
+    unfolding nodesToCome
+    directory-now =
+        directory-narrow θ (nodeOf s₂) (headOf s₂ .root) (headOf s₂ .levels) (headOf s₂ .nodesTaken) (headOf s₂ .nodeBlocks)
+        (releasedNodes s₂) (numbers b0′) bs′ (w .changed .ok .supplied .fits) (w .directory)
+
+    abbrev NodesNow : ℕ → Type 0
+    NodesNow t =
+        Directory t (nodeOf s₂) (headOf s₂ .root) (headOf s₂ .levels) (headOf s₂ .nodesTaken) (λ n. count n (releasedNodes s₂))
+        (numbers b0′) bs′
+        × Supplied (nodeOf s₂) (releasedNode t) (replicate (nodeWords t) 0) (nodeNext s₂) (releasedOf s₂ .nodes) (releasedOf s₂ .node)
+        (headOf s₂ .nodesTaken) (headOf s₂ .nodeBlocks)
+
+    nodes-now : NodesNow (headOf s₂ .theta)
+    nodes-now = subst NodesNow (sym (w .changed .ok .theta)) (directory-now, w .changed .ok .supplied)
 
     now : Rep f s₂ b0′ bs′
     now =
         record {
           sized = w .changed .ok .sized;
-          nodes-fit = omega (arith, w .changed .now, p .kept .taken-same, sizes-now .nodes, p .kept .whole .sizes-same .nodes);
-          pages-fit = omega (arith, filled-now, sizes-now .pages, p .pages-fit);
-          directory =
-              subst (λ t. Directory t (nodeOf s₂) (headOf s₂ .root) (headOf s₂ .levels) (headOf s₂ .nodesTaken) (numbers b0′) bs′)
-              (sym (w .changed .ok .theta)) (w .directory);
+          nodes-fit = nodes-now .1 .fits;
+          pages-fit = supply-now .fits;
+          directory = nodes-now .0;
           pages =
-              pages-frame f s₁ s₂ (headOf s₁) (headOf s₂) b0′ (sizes-now .capacity) filled-now (λ x low high. page-now x) (p .pages);
-          free-nodes = free-now;
-          free-pages = λ x l h.
-              page-now x ∙ p .free-pages x (omega (arith, filled-now)) (omega (arith, sizes-now .pages))
-              ∙ ap (λ C. replicate (pageWords f C) 0) (sym (sizes-now .capacity));
+              pages-frame f s₁ s₂ (headOf s₁) (headOf s₂) b0′ (sizes-now .capacity) filled-now chain-now (λ x low high. page-now x)
+              (p .pages);
+          released-nodes = nodes-now .1 .chained;
+          released-pages = supply-now .chained;
+          free-nodes = nodes-now .1 .unused;
+          free-pages = supply-now .unused;
         }
 
     stepped : Stepped f s s₂ b0′ bs′
@@ -142,6 +247,8 @@ module _ (f : Format) where
         root-same = refl;
         levels-same = refl;
         taken-same = refl;
+        name-same = refl;
+        many-same = refl;
         nodes-same = λ n low high. refl;
       }
 
@@ -152,21 +259,21 @@ module _ (f : Format) where
         root-same = b .root-same ∙ a .root-same;
         levels-same = b .levels-same ∙ a .levels-same;
         taken-same = b .taken-same ∙ a .taken-same;
+        name-same = b .name-same ∙ a .name-same;
+        many-same = b .many-same ∙ a .many-same;
         nodes-same = λ n low high. b .nodes-same n low (omega (arith, a .whole .sizes-same .nodes)) ∙ a .nodes-same n low high;
       }
 
-  filled-kept : (s : List ℕ) (m : ℕ) → Sized f s → NodesKept f s (putPagesTaken s m)
-  filled-kept s m ok =
+  filled-kept : (s : List ℕ) → Sized f s → NodesKept f s (pageTaken f s)
+  filled-kept s ok =
       record {
-        whole = record {
-          sized = putPagesTaken-sized s m f ok;
-          sizes-same = putPagesTaken-sizes s m;
-          beyond = putPagesTaken-beyond s m f;
-        };
-        root-same = putPagesTaken-root s m;
-        levels-same = putPagesTaken-levels s m;
-        taken-same = putPagesTaken-taken s m;
-        nodes-same = λ n low high. putPagesTaken-nodes s m n;
+        whole = record { sized = pageTaken-sized f s ok; sizes-same = pageTaken-sizes f s; beyond = pageTaken-beyond f s };
+        root-same = pageTaken-root f s;
+        levels-same = pageTaken-levels f s;
+        taken-same = pageTaken-taken f s;
+        name-same = pageTaken-node f s;
+        many-same = pageTaken-many f s;
+        nodes-same = λ n low high. pageTaken-nodes f s n;
       }
 
   module _ (C : ℕ) (s : List ℕ) (p : ℕ) (rs : List Item) (ok : Sized f s) (low : 1 ≤ p) (high : p ≤ headOf s .pageBlocks)
@@ -184,16 +291,18 @@ module _ (f : Format) where
           root-same = ap (λ h. h .root) e;
           levels-same = ap (λ h. h .levels) e;
           taken-same = ap (λ h. h .nodesTaken) e;
+          name-same = ap (λ (r : Released). r .node) (put-released f C s p rs ok low high full fits);
+          many-same = ap (λ (r : Released). r .nodes) (put-released f C s p rs ok low high full fits);
           nodes-same = putPage-nodes f s p (pageImage f C rs) ok low high l;
         }
 
   taken-kept : (C : ℕ) (s : List ℕ) (p : ℕ) (rs : List Item) → Sized f s → 1 ≤ p → p ≤ headOf s .pageBlocks
-      → headOf s .capacity ≡ C → length rs ≤ C → NodesKept f s (putItems f C (takePage s) p rs)
+      → headOf s .capacity ≡ C → length rs ≤ C → NodesKept f s (putItems f C (pageTaken f s) p rs)
   taken-kept C s p rs ok low high full fits =
-      let k : NodesKept f s (takePage s) = filled-kept s (nextPage s) ok in
+      let k : NodesKept f s (pageTaken f s) = filled-kept s ok in
       let sizes = k .whole .sizes-same in
-      nodes-then s (takePage s) (putItems f C (takePage s) p rs) k
-      (items-kept C (takePage s) p rs (k .whole .sized) low (omega (arith, sizes .pages)) (sizes .capacity ∙ full) fits)
+      nodes-then s (pageTaken f s) (putItems f C (pageTaken f s) p rs) k
+      (items-kept C (pageTaken f s) p rs (k .whole .sized) low (omega (arith, sizes .pages)) (sizes .capacity ∙ full) fits)
 
 numbers-graft : (b0 : Trie Stretch) (k : Key) (c : Trie Stretch) → numbers (graft b0 k c) ≡ graft (numbers b0) k (numbers c)
 numbers-graft b0 k c = relabel-graft (λ x. x .0) b0 k c
@@ -217,96 +326,72 @@ module _ (f : Format) (s : List ℕ) (b0 : Trie Stretch) (bs : List (Trie ℕ)) 
   n-high : n ≤ headOf s .pageBlocks
   n-high = omega (arith, number-high f s (headOf s) b0 key (r .pages) narrow, r .pages-fit)
 
+  supply : PageSupply f s
+  supply = rep-supply f s b0 bs r
+
   -- no page written; one written anew; the next one taken; one written anew and the next one taken
   none-step : (c : Trie Stretch) → Pages f s (headOf s) (replacedAt f b0 key c) → PageStep f s s (replacedAt f b0 key c)
-  none-step c pg = record { kept = nodes-none f s sized; pages = pg; pages-fit = r .pages-fit; free-pages = r .free-pages }
+  none-step c pg = record { kept = nodes-none f s sized; pages = pg; supply = supply }
 
   put-step : (rs : List Item) → 1 ≤ n → Fit f C (leftAt f b0 key) (prefixAt f b0 key) rs
       → PageStep f s (putItems f C s n rs) (replacedAt f b0 key (leaf (n, rs)))
   put-step rs low fit =
-      let e : headOf (putItems f C s n rs) ≡ headOf s = put-head f C s n rs sized low n-high refl (fit .fits) in
       record {
         kept = items-kept f C s n rs sized low n-high refl (fit .fits);
-        pages = pages-put f s b0 key sized (r .pages) narrow rs (r .pages-fit) low fit;
-        pages-fit = rw e (r .pages-fit);
-        free-pages = λ p l h.
-            put-other f C s n rs sized low n-high refl (fit .fits) p (omega arith)
-            (λ q. omega (arith, ap (λ h. h .pagesTaken) e, number-high f s (headOf s) b0 key (r .pages) narrow))
-            ∙ r .free-pages p (omega (arith, ap (λ h. h .pagesTaken) e)) (omega (arith, ap (λ h. h .pageBlocks) e))
-            ∙ ap (λ c. replicate (pageWords f c) 0) (sym (ap (λ h. h .capacity) e));
+        pages = pages-put f s b0 key sized (r .pages) narrow supply rs low fit;
+        supply = put-supply f C s n rs sized low n-high refl (fit .fits) supply (own-off f s b0 key sized (r .pages) narrow supply low);
       }
 
-  take-step : (rs : List Item) → n ≡ 0 → m ≤ headOf s .pageBlocks → Fit f C (leftAt f b0 key) (prefixAt f b0 key) rs
-      → PageStep f s (putItems f C (takePage s) m rs) (replacedAt f b0 key (leaf (m, rs)))
-  take-step rs null room fit =
-      let kept : NodesKept f s (putItems f C (takePage s) m rs) = taken-kept f C s m rs sized (omega arith) room refl (fit .fits) in
-      let filled : headOf (putItems f C (takePage s) m rs) .pagesTaken ≡ m =
-      take-pagesTaken f C s m rs sized (omega arith) room refl (fit .fits) in
-      record {
-        kept = kept;
-        pages = pages-take f s b0 key sized (r .pages) narrow rs room null fit;
-        pages-fit = omega (arith, filled, kept .whole .sizes-same .pages);
-        free-pages = λ p l h.
-            take-other f C s m rs sized (omega arith) room refl (fit .fits) p (omega arith) (λ q. omega (arith, filled))
-            ∙ r .free-pages p (omega (arith, filled)) (omega (arith, kept .whole .sizes-same .pages))
-            ∙ ap (λ c. replicate (pageWords f c) 0) (sym (kept .whole .sizes-same .capacity));
-      }
+  module _ (room : 1 ≤ pagesLeft s) where
+    more : 1 ≤ length (pagesToCome f s)
+    more = omega (arith, rep-pagesLeft f s b0 bs r)
 
-  both-step : depth b0 k < width f → m ≤ headOf s .pageBlocks → 1 ≤ length (halfAt false f b0 key) → 1 ≤ length (halfAt true f b0 key)
-      → PageStep f s (putItems f C (putItems f C (takePage s) n (halfAt false f b0 key)) m (halfAt true f b0 key))
-      (replacedAt f b0 key (pair (n, halfAt false f b0 key) (m, halfAt true f b0 key)))
-  both-step deep room some₀ some₁ =
-      record {
-        kept = kept;
-        pages = pages-both f s b0 key sized (r .pages) narrow deep room some₀ some₁;
-        pages-fit = omega (arith, filled, kept .whole .sizes-same .pages);
-        free-pages = λ p l h.
-            put-other f C s₁ m o ok₁ (omega arith) room₁ full fits₁ p (omega arith) (λ q. omega (arith, filled))
-            ∙ take-other f C s n z sized low n-high refl fits p (omega arith) (λ q. omega (arith, filled, n-used))
-            ∙ r .free-pages p (omega (arith, filled)) (omega (arith, kept .whole .sizes-same .pages))
-            ∙ ap (λ c. replicate (pageWords f c) 0) (sym (kept .whole .sizes-same .capacity));
-      }
-    where
-      z : List Item
-      z = halfAt false f b0 key
+    low-m : 1 ≤ m
+    low-m = m-low f s b0 key sized (r .pages) narrow supply more
 
-      o : List Item
-      o = halfAt true f b0 key
+    high-m : m ≤ headOf s .pageBlocks
+    high-m = m-high f s b0 key sized (r .pages) narrow supply more
 
-      s₁ : List ℕ
-      s₁ = putItems f C (takePage s) n z
+    gone-m : count m (pagesToCome f (pageTaken f s)) ≡ 0
+    gone-m = m-gone f s b0 key sized (r .pages) narrow supply more
 
-      low : 1 ≤ n
-      low = own-low f s (headOf s) b0 key (r .pages) narrow false some₀
+    take-step : (rs : List Item) → n ≡ 0 → Fit f C (leftAt f b0 key) (prefixAt f b0 key) rs
+        → PageStep f s (putItems f C (pageTaken f s) m rs) (replacedAt f b0 key (leaf (m, rs)))
+    take-step rs null fit =
+        record {
+          kept = taken-kept f C s m rs sized low-m high-m refl (fit .fits);
+          pages = pages-take f s b0 key sized (r .pages) narrow supply more rs null fit;
+          supply = take-supply f C s m rs sized low-m high-m refl (fit .fits) supply more gone-m;
+        }
 
-      n-used : n ≤ headOf s .pagesTaken
-      n-used = number-high f s (headOf s) b0 key (r .pages) narrow
+    both-step : depth b0 k < width f → 1 ≤ length (halfAt false f b0 key) → 1 ≤ length (halfAt true f b0 key)
+        → PageStep f s (putItems f C (putItems f C (pageTaken f s) n (halfAt false f b0 key)) m (halfAt true f b0 key))
+        (replacedAt f b0 key (pair (n, halfAt false f b0 key) (m, halfAt true f b0 key)))
+    both-step deep some₀ some₁ =
+        record {
+          kept = nodes-then f s s₁ (putItems f C s₁ m o) kept₁ (items-kept f C s₁ m o (kept₁ .whole .sized) low-m
+              (omega (arith, kept₁ .whole .sizes-same .pages, high-m)) (kept₁ .whole .sizes-same .capacity) fits₁);
+          pages = pages-both f s b0 key sized (r .pages) narrow supply more some₀ deep some₁;
+          supply = both-supply f s b0 key sized (r .pages) narrow supply more some₀;
+        }
+      where
+        z : List Item
+        z = halfAt false f b0 key
 
-      fits : length z ≤ C
-      fits = half-fits f s (headOf s) b0 key (r .pages) narrow false
+        o : List Item
+        o = halfAt true f b0 key
 
-      fits₁ : length o ≤ C
-      fits₁ = half-fits f s (headOf s) b0 key (r .pages) narrow true
+        s₁ : List ℕ
+        s₁ = putItems f C (pageTaken f s) n z
 
-      kept₁ : NodesKept f s s₁
-      kept₁ = taken-kept f C s n z sized low n-high refl fits
+        low : 1 ≤ n
+        low = own-low f s (headOf s) b0 key (r .pages) narrow false some₀
 
-      ok₁ : Sized f s₁
-      ok₁ = kept₁ .whole .sized
+        fits₁ : length o ≤ C
+        fits₁ = half-fits f s (headOf s) b0 key (r .pages) narrow true
 
-      room₁ : m ≤ headOf s₁ .pageBlocks
-      room₁ = omega (arith, kept₁ .whole .sizes-same .pages)
-
-      full : headOf s₁ .capacity ≡ C
-      full = kept₁ .whole .sizes-same .capacity
-
-      kept : NodesKept f s (putItems f C s₁ m o)
-      kept = nodes-then f s s₁ (putItems f C s₁ m o) kept₁ (items-kept f C s₁ m o ok₁ (omega arith) room₁ full fits₁)
-
-      filled : headOf (putItems f C s₁ m o) .pagesTaken ≡ m
-      filled =
-          ap (λ h. h .pagesTaken) (put-head f C s₁ m o ok₁ (omega arith) room₁ full fits₁)
-          ∙ take-pagesTaken f C s n z sized low n-high refl fits
+        kept₁ : NodesKept f s s₁
+        kept₁ = taken-kept f C s n z sized low n-high refl (half-fits f s (headOf s) b0 key (r .pages) narrow false)
 
 rounded-same : (θ : ℕ) (O : StoreOps) {s s′ : O .S} {more : ℕ} {u u′ : Trie ℕ} {bs bs′ : List (Trie ℕ)} → u ≡ u′ → bs ≡ bs′
     → Rounded θ O s s′ more u bs → Rounded θ O s s′ more u′ bs′
@@ -323,18 +408,18 @@ module _ (f : Format) (I : NodeOps) (s : List ℕ) (b0 : Trie Stretch) (bs : Lis
       (round I (wordStore f (headOf s .theta)) (headOf s .theta) place s₁ (pathOf (numbers b0) bs place) (x .0) (z .0))
       (pair x z)
   halved x z s₁ p =
-      let e = ap (λ t. carried (headOf s .theta) t (numbers b0) bs place) (p .kept .taken-same) in
+      let come = step-come f s b0 _ bs (y .rep) s₁ p in
+      let e = ap (λ t. carried (headOf s .theta) t (numbers b0) bs place) come in
       let w =
       round-carries (headOf s .theta) I (wordStore f (headOf s .theta)) (y .laws) (store-laws f (headOf s .theta))
       (sizes-limits _ _ _ _ (y .rep .sized .sizes) .theta-low) s₁ (numbers b0) bs place (x .0) (z .0)
       (step-ok f s b0 _ bs (y .rep) s₁ p) (step-directory f s b0 _ bs (y .rep) s₁ p)
-      (omega (arith, y .room, p .kept .taken-same, p .kept .whole .sizes-same .nodes)) in
+      (omega (arith, y .room, ap length come, rep-nodesLeft f s b0 bs (y .rep))) in
       let g = sym (numbers-graft b0 place (pair x z)) in
       record {
         stepped =
             stepped f s b0 (replacedAt f b0 key (pair x z)) bs (y .rep) s₁ p _ (bumpCost (headOf s .theta) (locals (numbers b0) bs place)) _
-            (rounded-same (headOf s .theta) (wordStore f (headOf s .theta)) g e (w .0))
-            (y .room);
+            (rounded-same (headOf s .theta) (wordStore f (headOf s .theta)) g e (w .0));
         way = w .1 ∙ ap₂ (λ u cs. pathOf u cs place) g e;
       }
 
@@ -353,8 +438,8 @@ module _ (f : Format) (I : NodeOps) (s : List ℕ) (b0 : Trie Stretch) (bs : Lis
 
   pub both-keep : BothKeep f I s b0 bs key
   both-keep y room some₀ some₁ =
-      halved f I s b0 bs key y (stretchAt f b0 key .0, halfAt false f b0 key) (suc (headOf s .pagesTaken), halfAt true f b0 key) _
-      (both-step f s b0 bs (y .rep) key (y .narrow) (y .deep) room some₀ some₁)
+      halved f I s b0 bs key y (stretchAt f b0 key .0, halfAt false f b0 key) (nextPage s, halfAt true f b0 key) _
+      (both-step f s b0 bs (y .rep) key (y .narrow) room (y .deep) some₀ some₁)
 
 pub put-keeps : (f : Format) (s : List ℕ) (b0 : Trie Stretch) (bs : List (Trie ℕ)) (key : ℕ) → PutKeeps f s b0 bs key
 put-keeps f s b0 bs key rs r narrow low fit =
@@ -367,19 +452,15 @@ put-keeps f s b0 bs key rs r narrow low fit =
     (rounded-same (headOf s .theta) (wordStore f (headOf s .theta)) same refl
     (record {
       directory = step-directory f s b0 _ bs r _ p;
-      changed = record { ok = step-ok f s b0 _ bs r _ p; now = omega arith; cap-same = refl; others-same = refl; fresh = λ x l h. refl };
+      changed = record { ok = step-ok f s b0 _ bs r _ p; now = refl; cap-same = refl; others-same = refl; fresh = λ x l h o. refl };
     }))
-    (omega (arith, r .nodes-fit))
 
 pub take-keeps : (f : Format) (I : NodeOps) (s : List ℕ) (b0 : Trie Stretch) (b : Trie ℕ) (bs : List (Trie ℕ)) (key : ℕ)
     → TakeKeeps f I s b0 b bs key
 take-keeps f I s b0 b bs key rs laws r narrow null room fit =
-    let p = take-step f s b0 (b ∷ bs) r key narrow rs null room fit in
+    let p = take-step f s b0 (b ∷ bs) r key narrow room rs null fit in
     let k : Key = bits (width f) key in
     stepped f s b0 _ (b ∷ bs) r _ p _ 0 (b ∷ bs)
-    (rounded-same (headOf s .theta) (wordStore f (headOf s .theta)) (sym (numbers-graft b0 k (leaf (suc (headOf s .pagesTaken), rs)))) refl
+    (rounded-same (headOf s .theta) (wordStore f (headOf s .theta)) (sym (numbers-graft b0 k (leaf (nextPage s, rs)))) refl
     (aim-keeps (headOf s .theta) I (wordStore f (headOf s .theta)) laws (store-laws f (headOf s .theta)) _ (numbers b0) b bs k
-    (suc (headOf s .pagesTaken))
-    (step-ok f s b0 _ (b ∷ bs) r _ p) (omega (arith, r .nodes-fit, p .kept .taken-same, p .kept .whole .sizes-same .nodes))
-    (step-directory f s b0 _ (b ∷ bs) r _ p)))
-    (omega (arith, r .nodes-fit))
+    (nextPage s) (step-ok f s b0 _ (b ∷ bs) r _ p) (step-directory f s b0 _ (b ∷ bs) r _ p)))

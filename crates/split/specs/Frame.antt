@@ -3,8 +3,7 @@
 --   pageOf f s p     == the words of page block p, likewise
 --   putNode s n ws   == s with node block n replaced by the words ws
 --   putPage f s p ws == s with page block p replaced by the words ws
---   putHead s root levels taken == s with these three words of the head
---   putPagesTaken s filled == s with this count of pages taken in the head
+--   putHead s root levels == s with these two words of the head
 use mathlib.Core.List.{List}
 use Prim.Native.Nat.{ℕ}
 use lib.ListN.{set}
@@ -24,10 +23,6 @@ putNode s n ws = replaced (nodeStart (headOf s) n) (nodeWords (headOf s .theta))
 unfoldable pub putPage : Format → List ℕ → ℕ → List ℕ → List ℕ
 putPage f s p ws = replaced (pageStart f (headOf s) p) (pageWords f (headOf s .capacity)) ws s
 
--- words 4, 6 and 7: "nodes taken, pages taken, root number, levels"
-unfoldable pub putHead : List ℕ → ℕ → ℕ → ℕ → List ℕ
-putHead s root levels taken = set (set (set s 4 taken) 6 root) 7 levels
-
--- word 5
-unfoldable pub putPagesTaken : List ℕ → ℕ → List ℕ
-putPagesTaken s filled = set s 5 filled
+-- words 6 and 7: "root number, levels"
+unfoldable pub putHead : List ℕ → ℕ → ℕ → List ℕ
+putHead s root levels = set (set s 6 root) 7 levels

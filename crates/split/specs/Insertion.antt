@@ -1,8 +1,8 @@
 -- The steps of an insertion on a store's words, and what they do to a represented store. Document 01, "Descent and splits". Pages are
 -- written as words; nodes by the operations of a round, over the words.
 --   nodesEnd h         == the number of the first word behind the node blocks
---   Others, others s   == all of a store but its node blocks, root, levels and nodes taken
---   Ok f θ s           == the store's sizes are in order, and θ is its own
+--   Others, others s   == all of a store but its node blocks, root, levels, nodes taken and released
+--   Ok f θ s           == the store's sizes are in order, θ is its own, and so are the node blocks that may be taken
 --   wordStore f θ      == a store's words as a store of nodes
 -- At the place of a key in the stretches b0:
 --   stretchAt f b0 key == the stretch that holds it
@@ -12,7 +12,6 @@
 --   replacedAt f b0 key c == b0 with the stretches c there
 --   Fit f C w q rs     == the records rs may be written into a page, at a place with w bits left and the prefix q
 --   putItems f C s p rs  == the words s with the records rs in page block p, where C is the capacity
---   nextPage s, takePage s == the number of the page block that is taken next, and the store in which it is taken
 --   SameSizes h h′     == the two heads have the same sizes
 --   Stepped f s s′ b0 bs == s′ stands for b0 and bs, and has the sizes of s and its words beyond them
 --   Roomy f I s b0 bs key == s stands for b0 and bs, the key's place has a bit left, and there are node blocks for the climb
@@ -23,7 +22,7 @@ use mathlib.Core.Path.{_≡_}
 use mathlib.Core.Bool.{Bool, true, false}
 use mathlib.Core.List.{List, [], _∷_}
 use Prim.Native.Nat.{ℕ, suc, _+_, _-_, _*_, _/_, _^_, _≤_, _<_}
-use lib.ListN.{length, drop}
+use lib.ListN.{length, drop, replicate}
 use Rattle.lists.specs.Bits.{bits}
 use Rattle.lists.specs.Lists.{All}
 use Rattle.lists.specs.Keyed.{Sorted, Prefix}
@@ -34,21 +33,26 @@ use Rattle.store.specs.declared.Format.{Format}
 use Rattle.store.specs.declared.Head.{Head}
 use Rattle.store.specs.declared.Item.{Item}
 use Rattle.store.specs.Format.{width}
-use Rattle.store.specs.Head.{headOf, nodeWords}
+use Rattle.store.specs.Head.{headOf, releasedOf, nodesLeft, pagesLeft, nodeWords}
+use Rattle.store.specs.Released.{releasedNode, nodeNext, nodesToCome, nextNode, nodeTaken, nextPage, pageTaken}
 use Rattle.page.specs.Page.{lawfulItem}
 use Rattle.represent.specs.Image.{pageImage}
 use Rattle.page.specs.Schema.{keyOf}
 use Rattle.represent.specs.Rep.{Stretch, numbers, Rep, sizeOf, Sized}
 use Rattle.split.specs.Round.{NodeOps, NodeLaws, StoreOps, placeAt, pathOf, Climbed, round, aimAt, carried}
-use Rattle.split.specs.Frame.{nodeOf, putNode, putPage, putHead, putPagesTaken}
+use Rattle.split.specs.Supply.{Supplied}
+use Rattle.split.specs.Frame.{nodeOf, putNode, putPage, putHead}
 
--- all but the node blocks and the three words of the head
+-- all but the node blocks and five words of the head
 pub record Others : Type 0 where
   pub theta : ℕ
   pub capacity : ℕ
   pub nodeBlocks : ℕ
   pub pageBlocks : ℕ
   pub pagesTaken : ℕ
+  -- the last released page, and how many are released
+  pub page : ℕ
+  pub pages : ℕ
   -- the words behind the node blocks
   pub behind : List ℕ
 
@@ -64,12 +68,16 @@ others s =
       nodeBlocks = headOf s .nodeBlocks;
       pageBlocks = headOf s .pageBlocks;
       pagesTaken = headOf s .pagesTaken;
+      page = releasedOf s .page;
+      pages = releasedOf s .pages;
       behind = drop (nodesEnd (headOf s)) s;
     }
 
 pub record Ok (f : Format) (θ : ℕ) (s : List ℕ) : Type 0 where
   pub theta : headOf s .theta ≡ θ
   pub sized : Sized f s
+  pub supplied : Supplied (nodeOf s) (releasedNode θ) (replicate (nodeWords θ) 0) (nodeNext s) (releasedOf s .nodes) (releasedOf s .node)
+      (headOf s .nodesTaken) (headOf s .nodeBlocks)
 
 abbrev pub wordStore : Format → ℕ → StoreOps
 wordStore f θ =
@@ -79,12 +87,14 @@ wordStore f θ =
       node = nodeOf;
       root = λ s. headOf s .root;
       levels = λ s. headOf s .levels;
-      taken = λ s. headOf s .nodesTaken;
       cap = λ s. headOf s .nodeBlocks;
+      free = nodesToCome;
       R = Others;
       others = others;
       put = putNode;
       head = putHead;
+      next = nextNode;
+      take = nodeTaken;
     }
 
 abbrev pub stretchAt : Format → Trie Stretch → ℕ → Stretch
@@ -115,13 +125,6 @@ pub record Fit (f : Format) (C w q : ℕ) (rs : List Item) : Type 0 where
 abbrev pub putItems : Format → ℕ → List ℕ → ℕ → List Item → List ℕ
 putItems f C s p rs = putPage f s p (pageImage f C rs)
 
--- Taking a page block is one operation, done before the block is written, as taking a node block is.
-abbrev pub nextPage : List ℕ → ℕ
-nextPage s = suc (headOf s .pagesTaken)
-
-abbrev pub takePage : List ℕ → List ℕ
-takePage s = putPagesTaken s (nextPage s)
-
 pub record SameSizes (h h′ : Head) : Type 0 where
   pub theta : h′ .theta ≡ h .theta
   pub capacity : h′ .capacity ≡ h .capacity
@@ -145,7 +148,7 @@ module _ (f : Format) (I : NodeOps) (s : List ℕ) (b0 : Trie Stretch) (bs : Lis
   rounded t a c = round I (wordStore f (headOf s .theta)) (headOf s .theta) k t (pathOf (numbers b0) bs k) a c
 
   abbrev levelsAfter : List (Trie ℕ)
-  levelsAfter = carried (headOf s .theta) (headOf s .nodesTaken) (numbers b0) bs k
+  levelsAfter = carried (headOf s .theta) (nodesToCome s) (numbers b0) bs k
 
   -- the place has a bit left, and there are node blocks for the climb
   pub record Roomy : Type 0 where
@@ -153,7 +156,7 @@ module _ (f : Format) (I : NodeOps) (s : List ℕ) (b0 : Trie Stretch) (bs : Lis
     pub rep : Rep f s b0 bs
     pub narrow : key < 2 ^ width f
     pub deep : depth b0 k < width f
-    pub room : headOf s .nodesTaken + bumpCost (headOf s .theta) (locals (numbers b0) bs k) ≤ headOf s .nodeBlocks
+    pub room : bumpCost (headOf s .theta) (locals (numbers b0) bs k) ≤ nodesLeft s
 
   -- after the round r the stretch at the key is the stretches c, and the path handed back is the key's
   pub record Turned (r : Climbed (List ℕ)) (c : Trie Stretch) : Type 0 where
@@ -174,8 +177,8 @@ module _ (f : Format) (I : NodeOps) (s : List ℕ) (b0 : Trie Stretch) (bs : Lis
       let m : ℕ = nextPage s in
       let low : List Item = halfAt false f b0 key in
       let high : List Item = halfAt true f b0 key in
-      Roomy → m ≤ headOf s .pageBlocks → 1 ≤ length low → 1 ≤ length high
-      → Turned (rounded (putItems f C (putItems f C (takePage s) (own .0) low) m high) (own .0) m) (pair (own .0, low) (m, high))
+      Roomy → 1 ≤ pagesLeft s → 1 ≤ length low → 1 ≤ length high
+      → Turned (rounded (putItems f C (putItems f C (pageTaken f s) (own .0) low) m high) (own .0) m) (pair (own .0, low) (m, high))
 
 -- "At a page below C: put the record in order."
 module _ (f : Format) (s : List ℕ) (b0 : Trie Stretch) (bs : List (Trie ℕ)) (key : ℕ) where
@@ -191,9 +194,9 @@ module _ (f : Format) (I : NodeOps) (s : List ℕ) (b0 : Trie Stretch) (b : Trie
   TakeKeeps =
       let m : ℕ = nextPage s in
       (rs : List Item) → NodeLaws (headOf s .theta) I → Rep f s b0 (b ∷ bs) → key < 2 ^ width f → stretchAt f b0 key .0 ≡ 0
-      → m ≤ headOf s .pageBlocks
+      → 1 ≤ pagesLeft s
       → Fit f (headOf s .capacity) (leftAt f b0 key) (prefixAt f b0 key) rs
       → Stepped f s
-      (aimAt I (wordStore f (headOf s .theta)) (putItems f (headOf s .capacity) (takePage s) m rs)
+      (aimAt I (wordStore f (headOf s .theta)) (putItems f (headOf s .capacity) (pageTaken f s) m rs)
       (placeAt (numbers b0) b (bits (width f) key)) m)
       (replacedAt f b0 key (leaf (m, rs))) (b ∷ bs)

@@ -1,3 +1,4 @@
+pub mod Supply
 pub mod Round
 pub mod Frame
 pub mod Insertion

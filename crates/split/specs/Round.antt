@@ -3,7 +3,7 @@
 --   NodeOps            == operations on node blocks, by value
 --   NodeLaws θ I       == what they make of the block of a node
 --   StoreOps           == a store: its head, its node blocks, all else, and how to write them
---   Put, Headed        == what writing a node block, and writing the head, comes to
+--   Put, Headed, Taken == what writing a node block, writing the head, and taking a node block comes to
 --   StoreLaws θ O      == that the operations come to this
 --   Changed s s′ more  == s′ is s with so many nodes more taken, and the same outside its nodes
 --   Rounded            == the same, and s′ has a directory
@@ -21,17 +21,18 @@
 --                         of the key k after that
 --   round θ k s path a c == the same from level 1
 --   aimAt s p q        == the run at the place p points to q
---   carried θ m u bs k == the levels bs over u after u's stretch at the key is halved, where the numbers up to m are taken
+--   carried θ ns u bs k == the levels bs over u after u's stretch at the key is halved, where the numbers ns are taken next
 --   RoundCarries, AimKeeps == a round, and another pointer at the key, keep the directory
 use mathlib.Core.Path.{_≡_}
 use mathlib.Core.Bool.{true, false}
 use mathlib.Core.List.{List, [], _∷_}
-use Prim.Native.Nat.{ℕ, suc, _+_, _-_, _≤_, _<_}
+use Prim.Native.Nat.{ℕ, suc, _-_, _≤_, _<_}
 use lib.Dec.{ltb, eqb}
-use lib.ListN.{drop}
+use lib.ListN.{length, drop}
 use Rattle.tree.specs.Trie.{Trie, leaf, fork, Key, height, leafAt, depth, rest, graft, pair}
 use Rattle.tree.specs.Carry.{locals, bumpCost}
 use Rattle.node.specs.Node.{backWord, forwardWord}
+use Rattle.represent.specs.Labelled.{count, first, behind}
 use Rattle.represent.specs.Image.{nodeImage, NodeIs}
 use Rattle.represent.specs.Rep.{Directory}
 
@@ -70,20 +71,25 @@ module _ (θ : ℕ) (I : NodeOps) where
 pub record StoreOps : Type 1 where
   pub S : Type 0
   pub Ok : S → Type 0
-  -- the words of node block n; of the head: root, levels, taken nodes; the number of node blocks
+  -- the words of node block n; of the head: root, levels; the number of node blocks
   pub node : S → ℕ → List ℕ
   pub root : S → ℕ
   pub levels : S → ℕ
-  pub taken : S → ℕ
   pub cap : S → ℕ
+  -- the numbers of the node blocks that may be taken, released and unused ones, in the order in which they are taken
+  pub free : S → List ℕ
   -- all that is neither head nor node: the pages
   pub R : Type 0
   pub others : S → R
   pub put : S → ℕ → List ℕ → S
-  pub head : S → ℕ → ℕ → ℕ → S
+  -- another root and other levels
+  pub head : S → ℕ → ℕ → S
+  -- the number of the node block that is taken next, and the store in which it is taken
+  pub next : S → ℕ
+  pub take : S → S
 
 module _ (O : StoreOps) where
-  open StoreOps O using (S, Ok, node, root, levels, taken, cap, others)
+  open StoreOps O using (S, Ok, node, root, levels, free, cap, others, next)
 
   pub record Put (s s′ : S) (n : ℕ) (ws : List ℕ) : Type 0 where
     pub ok : Ok s′
@@ -91,36 +97,48 @@ module _ (O : StoreOps) where
     pub elsewhere : (x : ℕ) → 1 ≤ x → x ≤ cap s → (x ≡ n → ⊥) → node s′ x ≡ node s x
     pub root-same : root s′ ≡ root s
     pub levels-same : levels s′ ≡ levels s
-    pub taken-same : taken s′ ≡ taken s
+    pub free-same : free s′ ≡ free s
     pub cap-same : cap s′ ≡ cap s
     pub others-same : others s′ ≡ others s
 
-  pub record Headed (s s′ : S) (r l t : ℕ) : Type 0 where
+  pub record Headed (s s′ : S) (r l : ℕ) : Type 0 where
     pub ok : Ok s′
     pub root-is : root s′ ≡ r
     pub levels-is : levels s′ ≡ l
-    pub taken-is : taken s′ ≡ t
+    pub free-same : free s′ ≡ free s
+    pub nodes-same : (x : ℕ) → 1 ≤ x → x ≤ cap s → node s′ x ≡ node s x
+    pub cap-same : cap s′ ≡ cap s
+    pub others-same : others s′ ≡ others s
+
+  -- the first of the numbers to come is taken
+  pub record Taken (s s′ : S) : Type 0 where
+    pub ok : Ok s′
+    pub first-is : free s ≡ next s ∷ free s′
+    pub root-same : root s′ ≡ root s
+    pub levels-same : levels s′ ≡ levels s
     pub nodes-same : (x : ℕ) → 1 ≤ x → x ≤ cap s → node s′ x ≡ node s x
     pub cap-same : cap s′ ≡ cap s
     pub others-same : others s′ ≡ others s
 
   pub record Changed (s s′ : S) (more : ℕ) : Type 0 where
     pub ok : Ok s′
-    pub now : taken s′ ≡ taken s + more
+    pub now : free s′ ≡ drop more (free s)
     pub cap-same : cap s′ ≡ cap s
     pub others-same : others s′ ≡ others s
-    pub fresh : (x : ℕ) → taken s′ < x → x ≤ cap s → node s′ x ≡ node s x
+    pub fresh : (x : ℕ) → 1 ≤ x → x ≤ cap s → 1 ≤ count x (free s′) → node s′ x ≡ node s x
 
 module _ (θ : ℕ) (O : StoreOps) where
-  open StoreOps O using (S, Ok, node, root, levels, taken, cap, put, head)
+  open StoreOps O using (S, Ok, node, root, levels, free, cap, put, head, take)
 
   pub record StoreLaws : Type 0 where
-    pub put-is : (s : S) (n : ℕ) (ws : List ℕ) (level : ℕ) (v : Trie ℕ) → Ok s → 1 ≤ n → n ≤ cap s → NodeIs θ ws level v
-        → Put O s (put s n ws) n ws
-    pub head-is : (s : S) (r l t : ℕ) → Ok s → t ≤ cap s → Headed O s (head s r l t) r l t
+    -- (a block that may be taken tells which one is taken after it: another one is written)
+    pub put-is : (s : S) (n : ℕ) (ws : List ℕ) (level : ℕ) (v : Trie ℕ) → Ok s → 1 ≤ n → n ≤ cap s → count n (free s) ≡ 0
+        → count 0 (free s) ≡ 0 → NodeIs θ ws level v → Put O s (put s n ws) n ws
+    pub head-is : (s : S) (r l : ℕ) → Ok s → Headed O s (head s r l) r l
+    pub take-is : (s : S) → Ok s → 1 ≤ length (free s) → Taken O s (take s)
 
   pub record Rounded (s s′ : S) (more : ℕ) (u : Trie ℕ) (bs : List (Trie ℕ)) : Type 0 where
-    pub directory : Directory θ (node s′) (root s′) (levels s′) (taken s′) u bs
+    pub directory : Directory θ (node s′) (root s′) (levels s′) (cap s′) (λ n. count n (free s′)) u bs
     pub changed : Changed O s s′ more
 
 pub record Place : Type 0 where
@@ -149,19 +167,19 @@ abbrev pub inHalf : ℕ → Place → ℕ → Place
 inHalf θ p m = record { at = chosen (p .bits) (p .at) m; bits = drop 1 (p .bits); depth = θ }
 
 module _ (O : StoreOps) where
-  open StoreOps O using (S, root, levels, taken, put, head)
+  open StoreOps O using (S, levels, put, head, next, take)
 
   -- Taking a node block is one operation, done before the block is written: its number, and the store in which it is taken. "New blocks
-  -- get the next unused number".
+  -- get the next unused number"; M-106: "Enter takes the last released block before an unused one."
   abbrev pub nextNode : S → ℕ
-  nextNode s = suc (taken s)
+  nextNode s = next s
 
   abbrev pub takeNode : S → S
-  takeNode s = head s (root s) (levels s) (nextNode s)
+  takeNode s = take s
 
   -- a root at the number n, one level higher
   abbrev pub raise : S → ℕ → S
-  raise s n = head s n (suc (levels s)) (taken s)
+  raise s n = head s n (suc (levels s))
 
   -- two blocks, "written whole"
   unfoldable pub putBoth : S → ℕ → List ℕ → ℕ → List ℕ → S
@@ -227,16 +245,16 @@ module _ (I : NodeOps) (O : StoreOps) where
   aimAt s p q = put s (p .at) (aim (node s (p .at)) (p .bits) q)
 
 -- `carry` of crate tree, with the nodes' numbers
-unfoldable pub carried : ℕ → ℕ → Trie ℕ → List (Trie ℕ) → Key → List (Trie ℕ)
-carried θ m u [] k = leaf (suc m) ∷ []
-carried θ m u (b ∷ bs) k =
+unfoldable pub carried : ℕ → List ℕ → Trie ℕ → List (Trie ℕ) → Key → List (Trie ℕ)
+carried θ ns u [] k = leaf (first ns) ∷ []
+carried θ ns u (b ∷ bs) k =
     elim (ltb (depth u k - depth b k) θ) [
       | true ↦ b ∷ bs
-      | false ↦ graft b k (pair (leafAt b k) (suc m)) ∷ carried θ (suc m) b bs k
+      | false ↦ graft b k (pair (leafAt b k) (first ns)) ∷ carried θ (behind ns) b bs k
     ]
 
 module _ (θ : ℕ) (I : NodeOps) (O : StoreOps) where
-  open StoreOps O using (S, Ok, node, root, levels, taken, cap)
+  open StoreOps O using (S, Ok, node, root, levels, free, cap)
 
   -- "At a full page: halve it on the next bit": the stretch at the key becomes two, with the pointers a and c. Blocks not taken stay. The
   -- path that is handed back is the key's in the new directory.
@@ -244,15 +262,16 @@ module _ (θ : ℕ) (I : NodeOps) (O : StoreOps) where
   RoundCarries =
       NodeLaws θ I → StoreLaws θ O → 1 ≤ θ
       → (s : S) (u : Trie ℕ) (bs : List (Trie ℕ)) (key : Key) (a c : ℕ)
-      → Ok s → Directory θ (node s) (root s) (levels s) (taken s) u bs → taken s + bumpCost θ (locals u bs key) ≤ cap s
+      → Ok s → Directory θ (node s) (root s) (levels s) (cap s) (λ n. count n (free s)) u bs
+      → bumpCost θ (locals u bs key) ≤ length (free s)
       → Rounded θ O s (round I O θ key s (pathOf u bs key) a c .store) (bumpCost θ (locals u bs key)) (graft u key (pair a c))
-      (carried θ (taken s) u bs key)
-      × (round I O θ key s (pathOf u bs key) a c .path ≡ pathOf (graft u key (pair a c)) (carried θ (taken s) u bs key) key)
+      (carried θ (free s) u bs key)
+      × (round I O θ key s (pathOf u bs key) a c .path ≡ pathOf (graft u key (pair a c)) (carried θ (free s) u bs key) key)
 
   -- "Enter, at a null entry: take a page for the whole run."
   abbrev pub AimKeeps : Type 0
   AimKeeps =
       NodeLaws θ I → StoreLaws θ O
       → (s : S) (u b : Trie ℕ) (bs : List (Trie ℕ)) (key : Key) (q : ℕ)
-      → Ok s → taken s ≤ cap s → Directory θ (node s) (root s) (levels s) (taken s) u (b ∷ bs)
+      → Ok s → Directory θ (node s) (root s) (levels s) (cap s) (λ n. count n (free s)) u (b ∷ bs)
       → Rounded θ O s (aimAt I O s (placeAt u b key) q) 0 (graft u key (leaf q)) (b ∷ bs)

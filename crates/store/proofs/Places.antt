@@ -1,6 +1,6 @@
 -- Where the blocks of a store stand: node blocks one after another behind the head, page blocks behind them, all within the size.
 use mathlib.Core.Path.{_≡_, sym, ap, ap₂, _∙_}
-use mathlib.Core.Bool.{true, _&&_}
+use mathlib.Core.Bool.{Bool, true, _&&_}
 use mathlib.Core.List.{List}
 use mathlib.Core.Logic.{_⊎_, inl, inr}
 use Prim.Native.Nat.{ℕ, _+_, _-_, _*_, _≤_, _<_}
@@ -10,16 +10,20 @@ use native.Mathlib.Omega.{arith}
 use lib.Bits.{bitOr}
 use lib.Dec.{eqb}
 use lib.ListN.{length, getD, take, drop}
+use lib.Pow.{pow-pos}
 use lib.Seq.{getD-take, getD-drop}
-use Rattle.lists.specs.Lists.{part}
+use Rattle.lists.specs.Lists.{part, every}
 use Rattle.lists.proofs.Gather.{or-zero}
 use Rattle.lists.proofs.Parts.{part-in, length-part}
 use Rattle.lists.proofs.Shifts.{stride}
 use Rattle.lists.proofs.Tests.{every-none, every-and, every-ext}
 use Rattle.store.specs.declared.Format.{Format}
+use Rattle.store.specs.declared.Format.the-variants.{Plots}
 use Rattle.store.specs.declared.Head.{Head}
-use Rattle.store.specs.Head.{word, zeros, nodeWords, pageWords, size, nodeStart, nodeAt, pageStart, Under, InUse}
-use Rattle.store.proofs.HeadLaws.{Limits, Counts, Headed, head-facts}
+use Rattle.store.specs.declared.Released.{Released}
+use Rattle.store.specs.Format.{words}
+use Rattle.store.specs.Head.{word, zeros, releasedOf, nodeWords, pageWords, size, nodeStart, nodeAt, pageStart, Under, InUse}
+use Rattle.store.proofs.HeadLaws.{Limits, Counts, Chains, Headed, head-facts}
 
 -- a word of a part
 pub part-word : (s : List ℕ) (a n i : ℕ) → a + n ≤ length s → i < n → word (part s a n) i ≡ word s (a + i)
@@ -47,6 +51,30 @@ pub zeros-lent : (s : List ℕ) (a b : ℕ) → a ≤ b → b ≤ length s
 zeros-lent s a b low high =
     let h : a + (b - a) ≤ length s = omega arith in
     rw (← (part-in s a (b - a) h)) (ap (zeros (part s a (b - a)) 0) (length-part s a (b - a) h) ∙ zeros-part s a (b - a) h)
+
+-- the first n words from `at` on, and those from number i on of a block of w words
+pub zeros-first : (s : List ℕ) (at n : ℕ) (b : Bool)
+    → b ≡ zeros (take (at + n - at) (drop at s)) 0 (length (take (at + n - at) (drop at s))) → at + n ≤ length s → b ≡ zeros s at n
+zeros-first s at n b e h =
+    let d : at + n - at ≡ n = omega arith in e ∙ zeros-lent s at (at + n) (omega arith) h ∙ ap (zeros s at) d
+
+pub zeros-rest : (s : List ℕ) (at i w : ℕ) (b : Bool)
+    → b ≡ zeros (take (at + w - (at + i)) (drop (at + i) s)) 0 (length (take (at + w - (at + i)) (drop (at + i) s))) → i ≤ w
+    → at + w ≤ length s → b ≡ zeros s (at + i) (w - i)
+zeros-rest s at i w b e l h =
+    let d : at + w - (at + i) ≡ w - i = omega arith in e ∙ zeros-lent s (at + i) (at + w) (omega arith) h ∙ ap (zeros s (at + i)) d
+
+pub zeros-one : (s : List ℕ) (at : ℕ) → zeros s at 1 ≡ eqb (word s at) 0
+unfolding zeros every
+zeros-one s at = let d : at + 0 ≡ at = omega arith in ap (λ i. eqb (word s i) 0) d
+
+pub node-words-low : (θ : ℕ) → 6 ≤ nodeWords θ
+unfolding nodeWords
+node-words-low θ = omega (arith, pow-pos θ)
+
+pub page-words-low : (f : Format) (C : ℕ) → 1 ≤ C → 2 ≤ pageWords f C
+unfolding pageWords words
+page-words-low Plots C l = omega arith
 
 -- blocks of one size, counted from 1, lie beside one another
 blocks-apart : (base step x n : ℕ) → 1 ≤ x → 1 ≤ n → (x ≡ n → ⊥)
@@ -112,6 +140,12 @@ module _ {f : Format} {s : List ℕ} {h : Head} (u : Under f s h) where
 
   pub under-room : size f (h .theta) (h .capacity) (h .nodeBlocks) (h .pageBlocks) ≤ length s
   under-room = rw (u .head) (headed .room)
+
+  pub under-chains : {r : Released} → r ≡ releasedOf s → Chains h r
+  under-chains e = rw (u .head, e) (headed .chains)
+
+  pub page-inside : {p : ℕ} → 1 ≤ p → p ≤ h .pagesTaken → pageStart f h p + pageWords f (h .capacity) ≤ length s
+  page-inside {p} low high = omega (arith, page-end h f p low (omega (arith, under-counts .filled)), under-room)
 
   -- the block of a node in use
   module _ {n : ℕ} (i : InUse h n) where

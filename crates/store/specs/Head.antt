@@ -11,8 +11,11 @@
 --   pageAt f s h p     == the words of page block p
 --   lawfulSizes θ C N P == θ, C, N and P within their limits
 --   spareOk s          == the spare words of the head are zeros
---   nodesInUse, pagesInUse, nodesLeft, pagesLeft h == node and page blocks in use, and those that remain
---   InUse h n          == n is the number of a node in use
+--   releasedOf s       == the last released node and page, and how many are released of each
+--   named name count taken == the name of a chain in the head is a taken number, or 0 just when its count is 0
+--   lawfulReleased h r == the names and counts of released blocks within their limits
+--   nodesInUse, pagesInUse, nodesLeft, pagesLeft s == node and page blocks in use, and those that remain, released or unused
+--   InUse h n          == n is the number of a taken node
 --   headRule f s       == the head rule
 --   Under f s h        == h is the head of the store s, which keeps the head rule
 --   largestTheta, largestCapacity, largestBlocks == document 01's limits
@@ -21,12 +24,14 @@ use mathlib.Core.Path.{_≡_}
 use mathlib.Core.Bool.{Bool, true, _&&_}
 use mathlib.Core.List.{List}
 use Prim.Native.Nat.{ℕ, _+_, _-_, _*_, _^_, _≤_}
-use lib.Dec.{leb, eqb}
+use lib.Dec.{leb, ltb, eqb}
 use lib.ListN.{length, getD}
 use Rattle.lists.specs.Lists.{every, part}
+use Rattle.tree.specs.Build.{same}
 use Rattle.tree.specs.Book.{levelBound}
 use Rattle.store.specs.declared.Format.{Format}
 use Rattle.store.specs.declared.Head.{Head}
+use Rattle.store.specs.declared.Released.{Released}
 use Rattle.store.specs.Format.{width, words}
 
 abbrev pub word : List ℕ → ℕ → ℕ
@@ -96,34 +101,49 @@ lawfulCounts f h =
     && leb (h .root) (h .nodesTaken)
     && leb 1 (h .levels) && leb (h .levels) (levelBound (width f) (h .theta) (h .capacity))
 
--- "eight zeros": the spare words of the head
+-- M-106: "Of the head's eight zeros the last four remain": the spare words of the head
 abbrev pub spareOk : List ℕ → Bool
-spareOk s = zeros s 8 8
+spareOk s = zeros s 12 4
 
--- Of N node blocks and P page blocks: those in use, which a reply counts, and those that remain.
-abbrev pub nodesInUse : Head → ℕ
-nodesInUse h = h .nodesTaken
+-- M-106: "Head words 8 and 9 (counting from 0) name the last released node and page; words 10 and 11 count the released nodes and pages."
+unfoldable pub releasedOf : List ℕ → Released
+releasedOf s = record { node = word s 8; page = word s 9; nodes = word s 10; pages = word s 11 }
 
-abbrev pub pagesInUse : Head → ℕ
-pagesInUse h = h .pagesTaken
+-- "each name a taken number, or 0 just when its count is 0"
+unfoldable pub named : ℕ → ℕ → ℕ → Bool
+named name count taken = leb name taken && same (eqb name 0) (eqb count 0)
 
-abbrev pub nodesLeft : Head → ℕ
-nodesLeft h = h .nodeBlocks - h .nodesTaken
+-- "The head rule wants each count below nodes taken or at most pages taken"
+unfoldable pub lawfulReleased : Head → Released → Bool
+lawfulReleased h r =
+    ltb (r .nodes) (h .nodesTaken) && leb (r .pages) (h .pagesTaken) && named (r .node) (r .nodes) (h .nodesTaken)
+    && named (r .page) (r .pages) (h .pagesTaken)
 
-abbrev pub pagesLeft : Head → ℕ
-pagesLeft h = h .pageBlocks - h .pagesTaken
+-- Of N node blocks and P page blocks: those in use, which a reply counts, and those that remain, released and unused ones together.
+abbrev pub nodesInUse : List ℕ → ℕ
+nodesInUse s = headOf s .nodesTaken - releasedOf s .nodes
 
--- n is the number of a node in use
+abbrev pub pagesInUse : List ℕ → ℕ
+pagesInUse s = headOf s .pagesTaken - releasedOf s .pages
+
+abbrev pub nodesLeft : List ℕ → ℕ
+nodesLeft s = releasedOf s .nodes + (headOf s .nodeBlocks - headOf s .nodesTaken)
+
+abbrev pub pagesLeft : List ℕ → ℕ
+pagesLeft s = releasedOf s .pages + (headOf s .pageBlocks - headOf s .pagesTaken)
+
+-- n is the number of a taken node
 pub record InUse (h : Head) (n : ℕ) : Type 0 where
   pub positive : 1 ≤ n
   pub within : n ≤ h .nodesTaken
 
--- "Head rule: the limits and the eight zeros above hold, the slice has the size, .."
+-- "Head rule: the limits and the eight zeros above hold, the slice has the size, .." (of the zeros four, by M-106)
 unfoldable pub headRule : Format → List ℕ → Bool
 headRule f s =
     lawfulSizes (headOf s .theta) (headOf s .capacity) (headOf s .nodeBlocks) (headOf s .pageBlocks) && spareOk s
     && leb (size f (headOf s .theta) (headOf s .capacity) (headOf s .nodeBlocks) (headOf s .pageBlocks)) (length s)
     && lawfulCounts f (headOf s)
+    && lawfulReleased (headOf s) (releasedOf s)
 
 -- h is the head of s, which keeps the head rule
 pub record Under (f : Format) (s : List ℕ) (h : Head) : Type 0 where

@@ -6,7 +6,8 @@ ghost use Rattle.lists.specs.Lists.{part};
 ghost use Rattle.tree.specs.Book.{log2, levelBound};
 ghost use Rattle.store.specs.Format.{width, words};
 ghost use Rattle.store.specs.Head.{largestCapacity, zeros, headOf, nodeWords, pageWords, size, nodeStart, nodeAt, pageStart, pageAt};
-ghost use Rattle.store.specs.Head.{lawfulSizes, lawfulCounts, InUse, headRule, Under};
+ghost use Rattle.store.specs.Head.{lawfulSizes, lawfulCounts, releasedOf, named, lawfulReleased, InUse, headRule, Under};
+ghost use Rattle.store.specs.Released.{nodeForm, pageForm, nodeNext, pageNext, passed, member, linkOk, nodesOk, pagesOk};
 ghost use Rattle.store.specs.SetUp.{marked, setUp, reply};
 
 pub enum Format {
@@ -31,6 +32,14 @@ pub struct Head {
     pub pagesTaken: u32,
     pub root: u32,
     pub levels: u32,
+}
+
+// The words 8 to 11 of the head: the last released node and page, and how many are released of each.
+pub struct Released {
+    pub node: u32,
+    pub page: u32,
+    pub nodes: u32,
+    pub pages: u32,
 }
 
 pub enum SetUpAnswer {
@@ -229,6 +238,48 @@ fn counts_ok(f: Format, head: Head) -> bool
     head.levels <= level_bound(f, head.theta, head.capacity)
 }
 
+// What a head says of released blocks.
+pub fn released_of(store: &[u32]) -> Released
+    requires { ⌜ 16 ≤ length (now store) ⌝ }
+    ensures { λ r. ⌜ r ≡ releasedOf (now (store .entry)) ⌝ }
+{
+    Released {
+        node: store[8],
+        page: store[9],
+        nodes: store[10],
+        pages: store[11],
+    }
+}
+
+// Whether the name of a chain with so many blocks is a taken number, or 0 just when there is none.
+fn name_ok(name: u32, count: u32, taken: u32) -> bool
+    ensures { λ r. ⌜ r ≡ named name count taken ⌝ }
+{
+    if count == 0 {
+        return name == 0;
+    }
+    if name == 0 {
+        return false;
+    }
+    name <= taken
+}
+
+// Whether the names and counts of released blocks are within their limits.
+fn released_ok(head: Head, r: Released) -> bool
+    ensures { λ b. ⌜ b ≡ lawfulReleased head r ⌝ }
+{
+    if r.nodes >= head.nodesTaken {
+        return false;
+    }
+    if r.pages > head.pagesTaken {
+        return false;
+    }
+    if !name_ok(r.node, r.nodes, head.nodesTaken) {
+        return false;
+    }
+    name_ok(r.page, r.pages, head.pagesTaken)
+}
+
 // Whether a store keeps the head rule.
 pub fn head_ok(store: &[u32], f: Format) -> bool
     ensures { λ r. ⌜ r ≡ headRule f (now (store .entry)) ⌝ }
@@ -251,10 +302,13 @@ pub fn head_ok(store: &[u32], f: Format) -> bool
     {
         return false;
     }
-    if !is_zero(&store[8..16]) {
+    if !is_zero(&store[12..16]) {
         return false;
     }
-    counts_ok(f, head)
+    if !counts_ok(f, head) {
+        return false;
+    }
+    released_ok(head, released_of(store))
 }
 
 // A block's number counted from 0.
@@ -306,6 +360,126 @@ pub fn page_at(store: &[u32], f: Format, head: Head, p: u32) -> &[u32]
         return &store[start..end];
     }
     &store[0..0]
+}
+
+// Whether a node block has the form of a released one.
+fn node_form(store: &[u32], f: Format, head: Head, n: u32) -> bool
+    requires { ⌜ (Under f (now store) head) × (InUse head n) ⌝ }
+    ensures { λ r. ⌜ r ≡ nodeForm (now (store .entry)) n ⌝ }
+{
+    let at = node_start(head, n);
+    let links = at + 2;
+    if !is_zero(&store[at..links]) {
+        return false;
+    }
+    let rest = at + 3;
+    let end = at + node_words(head.theta);
+    is_zero(&store[rest..end])
+}
+
+// Whether a page block has the form of a released one.
+fn page_form(store: &[u32], f: Format, head: Head, p: u32) -> bool
+    requires { ⌜ (Under f (now store) head) × (1 ≤ p) × (p ≤ head .pagesTaken) ⌝ }
+    ensures { λ r. ⌜ r ≡ pageForm f (now (store .entry)) p ⌝ }
+{
+    let at = page_start(f, head, p);
+    if store[at] != 0 {
+        return false;
+    }
+    let rest = at + 2;
+    let end = at + page_words(f, head.capacity);
+    is_zero(&store[rest..end])
+}
+
+// The next one of a released node.
+fn node_next(store: &[u32], head: Head, n: u32) -> u32
+    requires { ⌜ (head .theta ≤ 6) × (head ≡ headOf (now store)) ⌝ }
+    ensures { λ r. ⌜ r ≡ nodeNext (now (store .entry)) n ⌝ }
+{
+    word(store, node_start(head, n) + 2)
+}
+
+// The next one of a released page.
+fn page_next(store: &[u32], f: Format, head: Head, p: u32) -> u32
+    requires { ⌜ (head .theta ≤ 6) × (head .capacity ≤ largestCapacity) × (head ≡ headOf (now store)) ⌝ }
+    ensures { λ r. ⌜ r ≡ pageNext f (now (store .entry)) p ⌝ }
+{
+    word(store, page_start(f, head, p) + 1)
+}
+
+// Whether a node is one of n in the chain from `first` on.
+fn node_seen(store: &[u32], head: Head, name: u32, first: u32, n: u32) -> bool
+    requires { ⌜ (head .theta ≤ 6) × (head ≡ headOf (now store)) ⌝ }
+    ensures { λ r. ⌜ r ≡ member name (passed (nodeNext (now (store .entry))) n first) ⌝ }
+{
+    let mut x = first;
+    let mut i: u32 = 0;
+    while i < n {
+        if x == name {
+            return true;
+        }
+        x = node_next(store, head, x);
+        i += 1;
+    }
+    false
+}
+
+// Whether the node `name` behind n others of a chain from `first` on may be taken, where so many are left behind it.
+fn link_ok(store: &[u32], f: Format, head: Head, name: u32, first: u32, n: u32, left: u32) -> bool
+    requires { ⌜ (Under f (now store) head) × (InUse head name) ⌝ }
+    ensures { λ r. ⌜ r ≡ linkOk (nodeForm (now (store .entry))) (nodeNext (now (store .entry))) (head .nodesTaken) name
+        (passed (nodeNext (now (store .entry))) n first) left ⌝ }
+{
+    if !node_form(store, f, head, name) {
+        return false;
+    }
+    if node_seen(store, head, name, first, n) {
+        return false;
+    }
+    name_ok(node_next(store, head, name), left, head.nodesTaken)
+}
+
+// Whether the last n released nodes may be taken, or all if they are fewer.
+pub fn nodes_ok(store: &[u32], f: Format, head: Head, n: u32) -> bool
+    requires { ⌜ Under f (now store) head ⌝ }
+    ensures { λ r. ⌜ r ≡ nodesOk (now (store .entry)) n ⌝ }
+{
+    let r = released_of(store);
+    let mut name = r.node;
+    let mut i: u32 = 0;
+    while i < n {
+        if i == r.nodes {
+            return true;
+        }
+        if !link_ok(store, f, head, name, r.node, i, r.nodes - 1 - i) {
+            return false;
+        }
+        name = node_next(store, head, name);
+        i += 1;
+    }
+    true
+}
+
+// Whether the last released page may be taken, if there is one and one is asked for.
+pub fn pages_ok(store: &[u32], f: Format, head: Head, n: u32) -> bool
+    requires { ⌜ (Under f (now store) head) × (n ≤ 1) ⌝ }
+    ensures { λ r. ⌜ r ≡ pagesOk f (now (store .entry)) n ⌝ }
+{
+    if n == 0 {
+        return true;
+    }
+    let r = released_of(store);
+    if r.pages == 0 {
+        return true;
+    }
+    if !page_form(store, f, head, r.page) {
+        return false;
+    }
+    name_ok(
+        page_next(store, f, head, r.page),
+        r.pages - 1,
+        head.pagesTaken,
+    )
 }
 
 // Sets every word of a part to 0.

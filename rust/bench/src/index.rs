@@ -14,6 +14,11 @@ pub trait Index {
     fn clear(&mut self);
     /// Enters a record with a new key: whether it fits.
     fn enter(&mut self, record: Record) -> bool;
+    fn remove(&mut self, key: u32) -> Option<Record>;
+    /// Whether it has a removal.
+    fn removes(&self) -> bool {
+        true
+    }
     fn find(&mut self, key: u32) -> Option<Record>;
     /// The record with the smallest key above the given one.
     fn next(&mut self, key: u32) -> Option<Record>;
@@ -47,6 +52,14 @@ impl Index for Proved {
             Err(Refusal::NoRoom) => false,
             Err(refusal) => panic!("{refusal}"),
         }
+    }
+
+    fn remove(&mut self, _: u32) -> Option<Record> {
+        None
+    }
+
+    fn removes(&self) -> bool {
+        false
     }
 
     fn find(&mut self, key: u32) -> Option<Record> {
@@ -100,6 +113,10 @@ impl Index for Plain {
         }
     }
 
+    fn remove(&mut self, key: u32) -> Option<Record> {
+        Plain::found(plain::remove(&mut self.0, key))
+    }
+
     fn find(&mut self, key: u32) -> Option<Record> {
         Plain::found(plain::find(&self.0, key))
     }
@@ -134,6 +151,10 @@ impl Index for Map {
     fn enter(&mut self, record: Record) -> bool {
         assert!(self.0.insert(record.key, record).is_none());
         true
+    }
+
+    fn remove(&mut self, key: u32) -> Option<Record> {
+        self.0.remove(&key)
     }
 
     fn find(&mut self, key: u32) -> Option<Record> {

@@ -32,11 +32,16 @@ fn open_sqlite() -> Option<Sqlite> {
 
 /// Records a page: the most that there may be.
 const CAPACITY: u32 = 24;
-const OPERATIONS: [&str; 6] = ["enter", "find held", "find absent", "next", "range", "summary"];
+/// "replace" removes a record and enters it again, "remove all" empties the index.
+const OPERATIONS: [&str; 8] =
+    ["enter", "find held", "find absent", "next", "range", "summary", "replace", "remove all"];
+const ENTER: usize = 0;
+const REPLACE: usize = 6;
+const REMOVE_ALL: usize = 7;
 const COLUMNS: [&str; 4] = ["proved", "plain", "BTreeMap", "SQLite"];
 
-/// Nanoseconds by operation; per record for range and summary.
-type Times = [f64; 6];
+/// Nanoseconds by operation; per record for range and summary. `f64::MAX`: not measured.
+type Times = [f64; 8];
 
 /// What the tree of a set takes.
 struct Shape {
@@ -85,10 +90,11 @@ fn measure(index: &mut impl Index, work: &Work, passes: usize, best: &mut Times)
     let count = work.records.len() as f64;
     let mut out = vec![0; 4 * work.records.len()];
     for (operation, best) in best.iter_mut().enumerate() {
+        if operation >= REPLACE && !index.removes() {
+            continue;
+        }
         for _ in 0..passes {
-            if operation == 0 {
-                index.clear();
-            }
+            prepare(index, work, operation);
             let start = Instant::now();
             perform(index, work, operation, &mut out);
             *best = best.min(start.elapsed().as_nanos() as f64 / count);
@@ -96,16 +102,30 @@ fn measure(index: &mut impl Index, work: &Work, passes: usize, best: &mut Times)
     }
 }
 
+/// Makes an index ready for one pass of an operation.
+fn prepare(index: &mut impl Index, work: &Work, operation: usize) {
+    match operation {
+        ENTER => index.clear(),
+        REMOVE_ALL => assert!(fill(index, work)),
+        _ => (),
+    }
+}
+
 /// One pass of an operation over all keys.
 #[inline]
 fn perform(index: &mut impl Index, work: &Work, operation: usize, out: &mut [u32]) {
     match operation {
-        0 => work.records.iter().for_each(|&record| assert!(index.enter(black_box(record)))),
+        ENTER => work.records.iter().for_each(|&record| assert!(index.enter(black_box(record)))),
         1 => work.held.iter().for_each(|&key| _ = black_box(index.find(black_box(key)))),
         2 => work.absent.iter().for_each(|&key| _ = black_box(index.find(black_box(key)))),
         3 => work.held.iter().for_each(|&key| _ = black_box(index.next(black_box(key)))),
         4 => assert_eq!(index.range(black_box(0), u32::MAX, black_box(out)), work.records.len()),
-        _ => _ = black_box(index.summary(black_box(0), u32::MAX, work.today)),
+        5 => _ = black_box(index.summary(black_box(0), u32::MAX, work.today)),
+        REPLACE => work.held.iter().for_each(|&key| {
+            let record = index.remove(black_box(key)).expect("a held key");
+            assert!(index.enter(record));
+        }),
+        _ => work.held.iter().for_each(|&key| assert!(index.remove(black_box(key)).is_some())),
     }
 }
 
@@ -128,6 +148,8 @@ fn run(pattern: Pattern, capacity: u32, count: usize, rounds: usize) -> Row {
     if fits {
         assert_eq!(answers(&mut proved, work), expected, "the proved library's answers differ");
         assert_eq!(answers(&mut plain, work), expected, "plain Rust's answers differ");
+        perform(&mut plain, work, REPLACE, &mut []);
+        assert_eq!(answers(&mut plain, work), expected, "plain Rust's answers differ after removals");
     }
     if let Some(sqlite) = &mut sqlite {
         fill(sqlite, work);
@@ -136,7 +158,7 @@ fn run(pattern: Pattern, capacity: u32, count: usize, rounds: usize) -> Row {
     let shape = fits.then(|| shape(proved.words(), count));
 
     let passes = (20_000 / count).max(1);
-    let mut times = [[f64::MAX; 6]; 4];
+    let mut times = [[f64::MAX; 8]; 4];
     for _ in 0..rounds {
         if fits {
             measure(&mut proved, work, passes, &mut times[0]);
@@ -164,6 +186,11 @@ fn commas(number: usize) -> String {
     text
 }
 
+/// The time of one column, if it was measured.
+fn measured(row: &Row, column: usize, operation: usize) -> Option<f64> {
+    row.times[column].map(|times| times[operation]).filter(|&time| time < f64::MAX)
+}
+
 fn print_tables(rows: &[Row]) {
     let Some(Row { pattern, capacity, .. }) = rows.first() else { return };
     println!("\n{}, theta {THETA}, C {capacity}\n", pattern.title());
@@ -184,15 +211,15 @@ fn print_tables(rows: &[Row]) {
     for (operation, name) in OPERATIONS.iter().enumerate() {
         for row in rows {
             print!("| {name:11} | {:>7} |", commas(row.count));
-            let plain = row.times[1].map(|times| times[operation]);
-            for (column, times) in row.times.iter().enumerate() {
-                let cell = match times.map(|times| times[operation]) {
+            let plain = measured(row, 1, operation);
+            for column in 0..COLUMNS.len() {
+                let cell = match measured(row, column, operation) {
                     Some(time) => match plain {
                         Some(plain) if column != 1 => format!("{time:.1} ({:.2})", time / plain),
                         _ => format!("{time:.1}"),
                     },
                     None if column == 3 => "not installed".into(),
-                    None if column == 0 => "does not fit".into(),
+                    None if column == 0 && row.shape.is_none() => "does not fit".into(),
                     None => String::new(),
                 };
                 print!(" {cell:>width$} |", width = if column == 1 { 6 } else { 15 });
@@ -219,10 +246,10 @@ fn csv(rows: &[Row]) -> String {
                 None => text.push_str(",,,,,"),
             }
             write!(text, ",{name}").unwrap();
-            for times in row.times {
+            for column in 0..COLUMNS.len() {
                 text.push(',');
-                if let Some(times) = times {
-                    write!(text, "{:.2}", times[operation]).unwrap();
+                if let Some(time) = measured(row, column, operation) {
+                    write!(text, "{time:.2}").unwrap();
                 }
             }
             text.push(',');
@@ -244,9 +271,7 @@ fn profile(name: &str, bursts: bool) {
     assert!(fill(&mut proved, &work));
     let mut out = vec![0; 4 * work.records.len()];
     for _ in 0..20 {
-        if operation == 0 {
-            proved.clear();
-        }
+        prepare(&mut proved, &work, operation);
         perform(&mut proved, &work, operation, &mut out);
     }
 }

@@ -134,6 +134,7 @@ impl Drop for Statement {
 /// The table with its statements. Fields are dropped in this order: the database last.
 pub struct Sqlite {
     insert: Statement,
+    delete: Statement,
     find: Statement,
     next: Statement,
     range: Statement,
@@ -148,6 +149,7 @@ impl Sqlite {
         database.run(c"BEGIN");
         Sqlite {
             insert: database.prepare(c"INSERT INTO plots VALUES (?1, ?2, ?3, ?4)"),
+            delete: database.prepare(c"DELETE FROM plots WHERE key = ?1 RETURNING key, price, lease, last"),
             find: database.prepare(c"SELECT key, price, lease, last FROM plots WHERE key = ?1"),
             next: database.prepare(c"SELECT key, price, lease, last FROM plots WHERE key > ?1 ORDER BY key LIMIT 1"),
             range: database
@@ -174,6 +176,10 @@ impl Index for Sqlite {
     fn enter(&mut self, record: Record) -> bool {
         self.insert.run(&<[u32; 4]>::from(record));
         true
+    }
+
+    fn remove(&mut self, key: u32) -> Option<Record> {
+        self.delete.first(key)
     }
 
     fn find(&mut self, key: u32) -> Option<Record> {

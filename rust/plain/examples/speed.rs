@@ -1,7 +1,8 @@
-//! Nanoseconds per call: find, next and enter, and per record of a range and a summary, at several sizes.
+//! Nanoseconds per call: find, next, enter and remove, and per record of a range and a summary, at several sizes. `again` is a
+//! removal and an entry of the same record, `remove` empties the store.
 //! Run with `cargo run --profile bench --example speed`.
 
-use plain::{enter, find, next, range, set_up, summary, Record};
+use plain::{enter, find, next, range, remove, set_up, summary, Record};
 use std::hint::black_box;
 use std::time::Instant;
 
@@ -25,8 +26,8 @@ fn least(times: u32, pieces: usize, mut work: impl FnMut()) -> f64 {
 }
 
 fn main() {
-    println!("theta  C   keys   levels nodes pages |   find   next  enter | range100 sum100 | range-all sum-all (ns; per record for range and sum)");
-    for (theta, capacity) in [(6, 24), (6, 64)] {
+    println!("theta  C   keys   levels nodes pages |   find   next  enter  again remove | range100 sum100 | range-all sum-all (ns; per record for range and sum)");
+    for (theta, capacity) in [(6, 24)] {
         for count in [1_000, 10_000, 50_000] {
             let mut state = 77;
             let mut keys: Vec<u32> = Vec::new();
@@ -107,9 +108,26 @@ fn main() {
             let sum_all = least(times, count, || {
                 assert_eq!(summary(black_box(&store), 0, u32::MAX, 46_000).count as usize, count);
             });
+            let agains = least(times, count, || {
+                for &key in &shuffled {
+                    let record = black_box(remove(black_box(&mut store), key)).record;
+                    assert_eq!(enter(&mut store, record).number, 0);
+                }
+            });
+            let tree = (store[7], store[4] - store[10], store[5] - store[11]);
+            let mut removes = f64::MAX;
+            for _ in 0..times {
+                set_up(&mut store, theta, capacity, 4096, 4096);
+                records.iter().for_each(|&record| _ = enter(&mut store, record));
+                let start = Instant::now();
+                for &key in &shuffled {
+                    assert_eq!(black_box(remove(black_box(&mut store), key)).number, 0);
+                }
+                removes = removes.min(start.elapsed().as_nanos() as f64 / count as f64);
+            }
             println!(
-                "{theta:5} {capacity:3} {count:6} {:7} {:5} {:5} | {finds:6.1} {nexts:6.1} {enters:6.1} | {range_some:8.2} {sum_some:6.2} | {range_all:9.2} {sum_all:7.2}",
-                store[7], store[4], store[5]
+                "{theta:5} {capacity:3} {count:6} {:7} {:5} {:5} | {finds:6.1} {nexts:6.1} {enters:6.1} {agains:6.1} {removes:6.1} | {range_some:8.2} {sum_some:6.2} | {range_all:9.2} {sum_all:7.2}",
+                tree.0, tree.1, tree.2
             );
         }
     }

@@ -103,6 +103,11 @@ impl<'a> Store<'a> {
     fn taken(&self) -> (usize, usize) {
         (self.words[4] as usize, self.words[5] as usize)
     }
+    /// The last released node and page, and how many are released of each.
+    fn released(&self) -> ([usize; 2], [usize; 2]) {
+        let [node, page, nodes, pages] = [8, 9, 10, 11].map(|at| self.words[at] as usize);
+        ([node, nodes], [page, pages])
+    }
     fn levels(&self) -> u32 {
         self.words[7]
     }
@@ -149,7 +154,32 @@ fn head_rule(words: &[u32]) -> Result<(), String> {
     let f = (0..7).filter(|&f| 2u32.pow(f) <= capacity).max().unwrap();
     let most = (32 - f).div_ceil(theta);
     ensure!(1 <= levels && levels <= most, "levels {levels} of {most}");
-    ensure!(words[8..16].iter().all(|&word| word == 0), "head's zeros");
+    let [node, page, released_nodes, released_pages] = *words[8..].first_chunk().unwrap();
+    ensure!(released_nodes < nodes_taken, "{released_nodes} released nodes of {nodes_taken}");
+    ensure!(released_pages <= pages_taken, "{released_pages} released pages of {pages_taken}");
+    ensure!(if released_nodes == 0 { node == 0 } else { 1 <= node && node <= nodes_taken }, "released node {node}");
+    ensure!(if released_pages == 0 { page == 0 } else { 1 <= page && page <= pages_taken }, "released page {page}");
+    ensure!(words[12..16].iter().all(|&word| word == 0), "head's zeros");
+    Ok(())
+}
+
+/// Follows a chain of released blocks, which are not among those met; `next` is the word that names the next one.
+fn follow<'a>(
+    kind: &str,
+    [mut number, count]: [usize; 2],
+    met: &mut [bool],
+    block: impl Fn(usize) -> &'a [u32],
+    next: usize,
+) -> Result<(), String> {
+    for left in (0..count).rev() {
+        ensure!(1 <= number && number < met.len(), "released {kind} {number}, {left} left");
+        ensure!(!std::mem::replace(&mut met[number], true), "{kind} {number} is released and met before");
+        let words = block(number);
+        let zero = words.iter().enumerate().all(|(at, &word)| at == next || word == 0);
+        ensure!(zero, "{kind} {number} is released and not zero");
+        number = words[next] as usize;
+    }
+    ensure!(number == 0, "{kind} {number} behind the last released one");
     Ok(())
 }
 
@@ -229,10 +259,14 @@ fn walk(words: &[u32]) -> Result<Walk, String> {
     walk.nodes_met[words[6] as usize] = true;
     visit(&store, words[6] as usize, levels, Stretch::ALL, &mut walk)?;
 
-    let nodes: usize = walk.levels[1..].iter().map(Vec::len).sum();
-    ensure!(nodes == nodes_taken, "{nodes} nodes of {nodes_taken} taken are reached");
-    let pages = walk.levels[0].iter().filter(|&&(page, _)| page > 0).count();
-    ensure!(pages == pages_taken, "{pages} pages of {pages_taken} taken are reached");
+    // Every taken block is reached once or released once.
+    let (released_nodes, released_pages) = store.released();
+    follow("node", released_nodes, &mut walk.nodes_met, |number| store.node(number), 2)?;
+    follow("page", released_pages, &mut walk.pages_met, |number| store.page(number), 1)?;
+    let count = |met: &[bool]| met.iter().filter(|&&met| met).count();
+    let (nodes, pages) = (count(&walk.nodes_met), count(&walk.pages_met));
+    ensure!(nodes == nodes_taken, "{nodes} nodes of {nodes_taken} taken are reached or released");
+    ensure!(pages == pages_taken, "{pages} pages of {pages_taken} taken are reached or released");
     for number in nodes_taken + 1..=words[2] as usize {
         ensure!(store.node(number).iter().all(|&word| word == 0), "node {number} is free and not zero");
     }
@@ -250,8 +284,8 @@ fn walk(words: &[u32]) -> Result<Walk, String> {
     Ok(walk)
 }
 
-/// Whether the store keeps every rule: the head rule, the report's five clauses, every taken block reached once, links in
-/// key order both ways, each page's keys in their stretch, words not in use zero.
+/// Whether the store keeps every rule: the head rule, the report's five clauses, every taken block reached once or released
+/// once, links in key order both ways, each page's keys in their stretch, words not in use zero.
 pub fn check(store: &[u32]) -> Result<(), String> {
     walk(store).map(|_| ())
 }
@@ -261,6 +295,8 @@ pub fn canonical(store: &[u32]) -> Result<(), String> {
     let walk = walk(store)?;
     let tree = Tree::of(&walk.keys, store[0], store[1]);
     ensure!(store[7] == tree.levels(), "levels {} for {}", store[7], tree.levels());
+    let in_use = (store[4] - store[10], store[5] - store[11]);
+    ensure!(in_use == (tree.nodes(), tree.pages()), "{in_use:?} blocks for {} and {}", tree.nodes(), tree.pages());
     for (level, (met, stretches)) in walk.levels.iter().zip(&tree.stretches).enumerate() {
         let same = met.iter().map(|(_, stretch)| stretch).eq(stretches);
         ensure!(same, "level {level}: {met:?} for {stretches:?}");
@@ -280,7 +316,8 @@ pub fn keys(store: &[u32]) -> Result<Vec<u32>, String> {
 /// Whether two stores hold the same tree, block numbers apart.
 pub fn same_tree(a: &[u32], b: &[u32]) -> bool {
     let ok = |store: &[u32]| head_rule(store).is_ok();
-    if !ok(a) || !ok(b) || a[..2] != b[..2] || a[4..6] != b[4..6] || a[7] != b[7] {
+    let in_use = |store: &[u32]| [store[4] - store[10], store[5] - store[11]];
+    if !ok(a) || !ok(b) || a[..2] != b[..2] || in_use(a) != in_use(b) || a[7] != b[7] {
         return false;
     }
     let (mut terminals_a, mut terminals_b) = (Vec::new(), Vec::new());

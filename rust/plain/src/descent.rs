@@ -41,9 +41,39 @@ impl<'a> Place<'a> {
     }
 }
 
+/// A key's path: at each level the node, and the bits used before it. At level 0 stands the page.
+pub struct Path {
+    pub node: [u32; 33],
+    pub used: [u32; 33],
+}
+
+impl Path {
+    #[inline]
+    pub fn new() -> Path {
+        Path { node: [0; 33], used: [0; 33] }
+    }
+
+    /// Descends with a key and notes its path.
+    #[inline]
+    pub fn descend<'a>(&mut self, store: &'a [u32], head: &Head, key: u32) -> Result<Place<'a>, Damaged> {
+        let place = descend::<true>(store, head, key, |level, number, used| {
+            self.node[level as usize] = number;
+            self.used[level as usize] = used;
+        })?;
+        self.node[0] = place.pointer;
+        self.used[0] = place.used();
+        Ok(place)
+    }
+
+    /// The local depth of the key's entry at a level.
+    pub fn h(&self, level: usize) -> u32 {
+        self.used[level - 1] - self.used[level]
+    }
+}
+
 /// Descends with a key. Each node of the path is told to `step`, with its level and the bits used before it. Where
 /// CHECKED is false the same path has been checked before.
-#[inline]
+#[inline(always)]
 pub fn descend<'a, const CHECKED: bool>(
     store: &'a [u32],
     head: &Head,

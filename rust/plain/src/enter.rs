@@ -1,14 +1,14 @@
 //! Enter: every test and the count of blocks before the first write, then rounds of halving, then the record.
 
 use crate::answer;
-use crate::descent::{descend, Place};
+use crate::descent::{Path, Place};
 use crate::head::Head;
 use crate::money::Record;
 use crate::node::{self, bit, BACK, FORWARD, LEVEL};
 use crate::page;
 use crate::read::own_page;
 
-/// Enter's answer: the key, and the levels, nodes and pages after it.
+/// Enter's answer: the key, and the levels and the nodes and pages in use after it.
 #[derive(Clone, Copy, Debug, Default, PartialEq, Eq)]
 pub struct Entered {
     pub number: u32,
@@ -18,54 +18,34 @@ pub struct Entered {
     pub pages: u32,
 }
 
-/// The key's path: at each level the node, and the bits used before it. At level 0 stands the page.
-struct Path {
-    node: [u32; 33],
-    used: [u32; 33],
-}
-
-impl Path {
-    /// The local depth of the key's entry at a level.
-    fn h(&self, level: usize) -> u32 {
-        self.used[level - 1] - self.used[level]
-    }
-}
-
-/// Enters a record. Refused with 3, 6, 9, 8 or 10.
+/// Enters a record. Refused with 3, 6, 9, 8 or 10, and with 9 for a released block that it would take.
 pub fn enter(store: &mut [u32], record: Record) -> Entered {
-    match entered(store, record) {
-        Ok(head) => Entered {
-            number: answer::DONE,
-            key: record.key,
-            levels: head.levels,
-            nodes: head.nodes_taken,
-            pages: head.pages_taken,
-        },
-        Err(number) => Entered { number, ..Entered::default() },
+    let refused = |number| Entered { number, ..Entered::default() };
+    let Some(mut head) = Head::read(store) else {
+        return refused(answer::HEAD);
+    };
+    match enter_under(store, &mut head, record) {
+        Ok(()) => {
+            let (nodes, pages) = head.in_use();
+            Entered { number: answer::DONE, key: record.key, levels: head.levels, nodes, pages }
+        }
+        Err(number) => refused(number),
     }
 }
 
 #[inline]
-fn entered(store: &mut [u32], record: Record) -> Result<Head, u32> {
-    let mut head = Head::read(store).ok_or(answer::HEAD)?;
+fn enter_under(store: &mut [u32], head: &mut Head, record: Record) -> Result<(), u32> {
     if !record.lawful() {
         return Err(answer::OUTSIDE);
     }
     let key = record.key;
-    let mut path = Path { node: [0; 33], used: [0; 33] };
-    let place = descend::<true>(store, &head, key, |level, number, used| {
-        path.node[level as usize] = number;
-        path.used[level as usize] = used;
-    })
-    .map_err(|_| answer::DAMAGED)?;
-    path.node[0] = place.pointer;
-    path.used[0] = place.used();
-
+    let mut path = Path::new();
+    let place = path.descend(store, head, key).map_err(|_| answer::DAMAGED)?;
     let (rows, at) = match place.pointer {
         0 => (&[][..], 0),
-        _ => own_page(store, &head, &place, key).map_err(|_| answer::DAMAGED)?,
+        _ => own_page(store, head, &place, key).map_err(|_| answer::DAMAGED)?,
     };
-    if !neighbour_ok(store, &head, &place) {
+    if !neighbour_ok(store, head, &place) {
         return Err(answer::DAMAGED);
     }
     if rows.get(at).is_some_and(|row| row[0] == key) {
@@ -74,49 +54,58 @@ fn entered(store: &mut [u32], record: Record) -> Result<Head, u32> {
 
     if !rows.is_empty() && rows.len() < head.capacity as usize {
         page::put(head.page_mut(store, place.pointer), at, record.words());
-        return Ok(head);
+        return Ok(());
     }
+    enter_in_new(store, head, &mut path, record, at)
+}
 
+/// Enters a record for which a page is taken: its run is null, or its page is full.
+fn enter_in_new(store: &mut [u32], head: &mut Head, path: &mut Path, record: Record, at: usize) -> Result<(), u32> {
+    let (key, old) = (record.key, path.node[0]);
     // A full page is halved down to the first bit in which its keys and the new one differ.
     let (mut rounds, mut low) = (0, 0);
-    if let [first, ..] = rows {
-        let shared = ((first[0] ^ key) | (rows[rows.len() - 1][0] ^ key)).leading_zeros();
+    if old != 0 {
+        let rows = page::rows(head.page(store, old));
+        let shared = ((rows[0][0] ^ key) | (rows[rows.len() - 1][0] ^ key)).leading_zeros();
         rounds = shared + 1 - path.used[0];
         low = page::low_count(rows, shared);
     }
-    if nodes_for(&head, &path, rounds) > head.nodes - head.nodes_taken || head.pages_taken == head.pages {
+    let nodes = nodes_for(head, path, rounds);
+    if !head.has(nodes, 1) {
         return Err(answer::FULL);
     }
+    if !head.lends(store, nodes, 1) {
+        return Err(answer::DAMAGED);
+    }
 
-    head.pages_taken += 1;
-    let (old, new) = (path.node[0], head.pages_taken);
+    let new = head.take_page(store);
     if rounds == 0 {
         page::write_first(head.page_mut(store, new), record.words());
         node::aim(head.node_mut(store, path.node[1]), key, path.used[1], new);
     } else {
         for _ in 1..rounds {
             let (zero, one) = if bit(key, path.used[0]) { (0, old) } else { (old, 0) };
-            round(store, &mut head, &mut path, key, zero, one);
+            round(store, head, path, key, zero, one);
         }
         let upper = bit(key, path.used[0]);
         if low == 0 || low == head.capacity as usize {
             // The key is alone in its half.
             page::write_first(head.page_mut(store, new), record.words());
             let (zero, one) = if upper { (old, new) } else { (new, old) };
-            round(store, &mut head, &mut path, key, zero, one);
+            round(store, head, path, key, zero, one);
         } else {
-            let (zero, one) = head.two_pages(store, old, new);
+            let [zero, one] = head.two_pages(store, old, new);
             page::halve(zero, one, low);
             if upper {
                 page::put(one, at - low, record.words());
             } else {
                 page::put(zero, at, record.words());
             }
-            round(store, &mut head, &mut path, key, old, new);
+            round(store, head, path, key, old, new);
         }
     }
     head.write(store);
-    Ok(head)
+    Ok(())
 }
 
 /// Looks at the terminal's forward neighbour, if any: another level-1 node that links back.
@@ -155,9 +144,8 @@ fn round(store: &mut [u32], head: &mut Head, path: &mut Path, key: u32, mut low:
         if path.h(level) <= head.theta {
             return node::halve(head.node_mut(store, number), key, used, low, high);
         }
-        head.nodes_taken += 1;
-        let new = head.nodes_taken;
-        let (left, right) = head.two_nodes(store, number, new);
+        let new = head.take_node(store);
+        let [left, right] = head.two_nodes(store, number, new);
         node::split(left, right);
         let half = if bit(key, used) { &mut *right } else { &mut *left };
         node::halve(half, key, used + 1, low, high);
@@ -176,9 +164,8 @@ fn round(store: &mut [u32], head: &mut Head, path: &mut Path, key: u32, mut low:
         path.used[level] = used + 1;
         (low, high) = (number, new);
     }
-    head.nodes_taken += 1;
     head.levels += 1;
-    head.root = head.nodes_taken;
+    head.root = head.take_node(store);
     path.node[head.levels as usize] = head.root;
     node::write_root(head.node_mut(store, head.root), head.levels, low, high);
 }

@@ -1,13 +1,14 @@
 //! The head of a store, where its blocks stand, and set-up.
 
 use crate::answer;
+use crate::released::Chain;
 
 pub const HEAD_WORDS: usize = 16;
 
 /// The most records that a page may have room for.
 pub const CAPACITY_MOST: u32 = 24;
 
-/// The head's eight words in use. One that `read` gives keeps the head rule, so its taken blocks are inside the slice.
+/// The head's twelve words in use. One that `read` gives keeps the head rule, so its taken blocks are inside the slice.
 #[derive(Clone, Copy)]
 pub struct Head {
     pub theta: u32,
@@ -18,6 +19,8 @@ pub struct Head {
     pub pages_taken: u32,
     pub root: u32,
     pub levels: u32,
+    pub released_nodes: Chain,
+    pub released_pages: Chain,
 }
 
 /// Set-up's answer: the size of the store.
@@ -29,7 +32,7 @@ pub struct SetUp {
 
 impl Head {
     /// The head of a store, if the head rule holds.
-    #[inline]
+    #[inline(always)]
     pub fn read(store: &[u32]) -> Option<Head> {
         let words: &[u32; HEAD_WORDS] = store.first_chunk()?;
         let head = Head {
@@ -41,21 +44,26 @@ impl Head {
             pages_taken: words[5],
             root: words[6],
             levels: words[7],
+            released_nodes: Chain { last: words[8], count: words[10] },
+            released_pages: Chain { last: words[9], count: words[11] },
         };
         let lawful = head.sizes_ok()
-            && all_zero(&words[8..])
+            && all_zero(&words[12..])
             && (1..=head.nodes).contains(&head.nodes_taken)
             && head.pages_taken <= head.pages
             && (1..=head.nodes_taken).contains(&head.root)
             && head.levels_ok()
+            && head.released_ok()
             && store.len() >= head.size();
         lawful.then_some(head)
     }
 
-    /// Writes the counts, the root and the levels back.
+    /// Writes the counts, the root, the levels and the released blocks back.
     #[inline]
     pub fn write(&self, store: &mut [u32]) {
+        let (nodes, pages) = (self.released_nodes, self.released_pages);
         store[4..8].copy_from_slice(&[self.nodes_taken, self.pages_taken, self.root, self.levels]);
+        store[8..12].copy_from_slice(&[nodes.last, pages.last, nodes.count, pages.count]);
     }
 
     fn sizes_ok(&self) -> bool {
@@ -68,6 +76,16 @@ impl Head {
     /// Levels is 1 to L, L the quotient (32 - f) / theta rounded up: below L levels use fewer than 32 - f bits.
     fn levels_ok(&self) -> bool {
         (1..=32).contains(&self.levels) && (self.levels - 1) * self.theta < 32 - self.capacity.ilog2()
+    }
+
+    /// Each count is below nodes taken or at most pages taken, and each name lawful.
+    #[inline]
+    fn released_ok(&self) -> bool {
+        let (nodes, pages) = (self.released_nodes, self.released_pages);
+        (nodes.count < self.nodes_taken)
+            & (pages.count <= self.pages_taken)
+            & nodes.named(self.nodes_taken)
+            & pages.named(self.pages_taken)
     }
 
     pub fn size(&self) -> usize {
@@ -114,17 +132,19 @@ impl Head {
         &mut store[self.page_start(number)..][..self.page_words()]
     }
 
-    /// Two node blocks at once, the second with the higher number.
-    pub fn two_nodes<'a>(&self, store: &'a mut [u32], low: u32, high: u32) -> (&'a mut [u32], &'a mut [u32]) {
-        let (first, second) = store.split_at_mut(self.node_start(high));
-        (self.node_mut(first, low), &mut second[..self.node_words()])
+    /// Two node blocks at once.
+    pub fn two_nodes<'a>(&self, store: &'a mut [u32], one: u32, other: u32) -> [&'a mut [u32]; 2] {
+        two(store, self.node_start(one), self.node_start(other), self.node_words())
     }
 
-    /// Two page blocks at once, the second with the higher number.
-    pub fn two_pages<'a>(&self, store: &'a mut [u32], low: u32, high: u32) -> (&'a mut [u32], &'a mut [u32]) {
-        let (first, second) = store.split_at_mut(self.page_start(high));
-        (self.page_mut(first, low), &mut second[..self.page_words()])
+    /// Two page blocks at once.
+    pub fn two_pages<'a>(&self, store: &'a mut [u32], one: u32, other: u32) -> [&'a mut [u32]; 2] {
+        two(store, self.page_start(one), self.page_start(other), self.page_words())
     }
+}
+
+fn two(words: &mut [u32], one: usize, other: usize, length: usize) -> [&mut [u32]; 2] {
+    words.get_disjoint_mut([one..one + length, other..other + length]).expect("two blocks of the store")
 }
 
 /// Whether words that are not in use are zero: an or-fold of eight words at a time.
@@ -143,7 +163,18 @@ pub fn all_zero(words: &[u32]) -> bool {
 
 /// Clears the store's size and takes node 1 as root, with one null entry. Refused with 4 or 5.
 pub fn set_up(store: &mut [u32], theta: u32, capacity: u32, nodes: u32, pages: u32) -> SetUp {
-    let head = Head { theta, capacity, nodes, pages, nodes_taken: 1, pages_taken: 0, root: 1, levels: 1 };
+    let head = Head {
+        theta,
+        capacity,
+        nodes,
+        pages,
+        nodes_taken: 1,
+        pages_taken: 0,
+        root: 1,
+        levels: 1,
+        released_nodes: Chain::default(),
+        released_pages: Chain::default(),
+    };
     if !head.sizes_ok() {
         return SetUp { number: answer::SIZES, size: 0 };
     }

@@ -13,12 +13,15 @@ mod money;
 mod node;
 mod page;
 mod read;
+mod released;
+mod remove;
 
 pub use enter::{enter, Entered};
 pub use head::{set_up, SetUp};
 pub use label::{convert, key_of, label_of, Keyed, Labelled};
 pub use money::{balance, Balance, Record};
 pub use read::{find, next, range, summary, Found, Ranged, Summary};
+pub use remove::remove;
 
 /// The answer numbers.
 pub mod answer {

@@ -1,4 +1,4 @@
-//! Node blocks: the rule of a visited node, its entries, and the ways in which enter changes it.
+//! Node blocks: the rule of a visited node, its entries, and the ways in which enter and remove change it.
 
 use crate::head::{all_zero, Head};
 
@@ -145,20 +145,64 @@ pub fn split(left: &mut [u32], right: &mut [u32]) {
 
 /// Lowers every local depth by one and shrinks the node to the largest.
 fn lower(node: &mut [u32]) {
+    let mut largest = 0;
     let old = node[DEPTH];
-    let entries = entries_mut(node);
-    let mut depth = 0;
-    for entry in &mut entries[..1 << old] {
+    for entry in &mut entries_mut(node)[..1 << old] {
         entry[0] -= 1;
-        depth = depth.max(entry[0]);
+        largest = largest.max(entry[0]);
     }
+    shrink(node, largest);
+}
+
+/// Shrinks a node to its largest local depth.
+fn shrink(node: &mut [u32], depth: u32) {
+    let old = std::mem::replace(&mut node[DEPTH], depth);
     if depth < old {
+        let entries = entries_mut(node);
         for i in 0..1 << depth {
             entries[i] = entries[i << (old - depth)];
         }
         entries[1 << depth..1 << old].fill([0, 0]);
     }
-    node[DEPTH] = depth;
+}
+
+/// The run of a stretch with so many bits in all, in a node on the key's path: its local depth, its first entry and the one
+/// behind it. A stretch that has outgrown the node covers all of it.
+fn stretch_run(node: &[u32], key: u32, used: u32, bits: u32) -> (u32, usize, usize) {
+    let h = bits.saturating_sub(used);
+    let (first, end) = run(entry_number(key, used, node[DEPTH]), node[DEPTH], h);
+    (h, first, end)
+}
+
+/// The depth of a node once a stretch below it has so many bits.
+pub fn covered_depth(node: &[u32], key: u32, used: u32, bits: u32) -> u32 {
+    let (h, first, end) = stretch_run(node, key, used, bits);
+    let entries = entries(node);
+    entries[..first].iter().chain(&entries[end..]).map(|entry| entry[0]).fold(h, u32::max)
+}
+
+/// Lets one run with this pointer stand for a stretch with so many bits, and shrinks the node to its largest local depth.
+pub fn cover(node: &mut [u32], key: u32, used: u32, bits: u32, pointer: u32) {
+    let depth = covered_depth(node, key, used, bits);
+    let (h, first, end) = stretch_run(node, key, used, bits);
+    entries_mut(node)[first..end].fill([h, pointer]);
+    shrink(node, depth);
+}
+
+/// Joins the right one of a pair to the left one: every local depth rises by one, and the right one's forward link stays.
+pub fn join(left: &mut [u32], right: &[u32]) {
+    let raised = |[h, pointer]: Entry| [h + 1, pointer];
+    let depth = left[DEPTH].max(right[DEPTH]);
+    let (stretched, other) = (depth - left[DEPTH], depth - right[DEPTH]);
+    let (low, high) = entries_mut(left)[..2 << depth].split_at_mut(1 << depth);
+    for i in (0..1 << depth).rev() {
+        low[i] = raised(low[i >> stretched]);
+    }
+    for (i, entry) in high.iter_mut().enumerate() {
+        *entry = raised(entries(right)[i >> other]);
+    }
+    left[DEPTH] = depth + 1;
+    left[FORWARD] = right[FORWARD];
 }
 
 /// A root over two nodes.

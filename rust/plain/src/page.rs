@@ -1,4 +1,4 @@
-//! Page blocks: the rule of a visited page, its records, and what enter writes into it.
+//! Page blocks: the rule of a visited page, its records, and what enter and remove write into it.
 
 use crate::head::all_zero;
 use crate::money::term_fault;
@@ -81,4 +81,21 @@ pub fn halve(page: &mut [u32], new: &mut [u32], low: usize) {
     new[to..].fill(0);
     page[0] = low as u32;
     page[from..].fill(0);
+}
+
+/// Takes the record at a place out.
+#[inline]
+pub fn take_out(page: &mut [u32], at: usize) {
+    let count = page[0] as usize;
+    page[0] -= 1;
+    let rows: &mut [Row] = page[1..].as_chunks_mut().0;
+    rows.copy_within(at + 1..count, at);
+    rows[count - 1] = [0; 4];
+}
+
+/// Puts the records of another page behind those of this one.
+pub fn append(page: &mut [u32], other: &[u32]) {
+    let (count, more) = (page[0] as usize, other[0] as usize);
+    page[1 + 4 * count..][..4 * more].copy_from_slice(&other[1..][..4 * more]);
+    page[0] += more as u32;
 }

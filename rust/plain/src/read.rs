@@ -7,7 +7,7 @@ use crate::money::{amount, day_ok, Record};
 use crate::node::{self, agree, BACK, FORWARD};
 use crate::page::{self, Row};
 
-/// The answer of find and next.
+/// The answer of find, next and remove.
 #[derive(Clone, Copy, Debug, Default, PartialEq, Eq)]
 pub struct Found {
     pub number: u32,
@@ -32,7 +32,7 @@ pub struct Summary {
 }
 
 impl Found {
-    fn refused(number: u32) -> Found {
+    pub(crate) fn refused(number: u32) -> Found {
         Found { number, ..Found::default() }
     }
 

@@ -3,7 +3,7 @@
 mod common;
 
 use common::{new_store, size, Rng};
-use plain::{balance, checker, convert, enter, find, key_of, label_of, next, range, set_up, summary, Record};
+use plain::{balance, checker, convert, enter, find, key_of, label_of, next, range, remove, set_up, summary, Record};
 
 fn plot(key: u32) -> Record {
     Record { key, price: 1, lease: 0, last: 0 }
@@ -166,6 +166,68 @@ fn sample() {
     assert_eq!((listed.number, listed.count, listed.more), (0, 1, 0));
 }
 
+/// The sample's three keys handed back one by one, word by word.
+#[test]
+fn handed_back() {
+    let mut store = new_store(1, 1, 4, 4);
+    let records = [
+        Record { key: 2_147_483_648, price: 1_250_000, lease: 36_525, last: 66_000 },
+        Record { key: 3_221_225_472, price: 90_000, lease: 0, last: 0 },
+        Record { key: 1_073_741_824, price: 60_000, lease: 9_131, last: 45_999 },
+    ];
+    for record in records {
+        assert_eq!(entered(&mut store, record)[0], 0);
+    }
+    let full = store.clone();
+    assert_eq!(remove(&mut store, 1).number, 1);
+    assert_eq!(remove(&mut store, 0).number, 1);
+    assert_eq!(store, full);
+
+    // Keys below 2^31 have a stretch of their own, because those above need two.
+    let removed = remove(&mut store, 1_073_741_824);
+    assert_eq!((removed.number, removed.record), (0, records[2]));
+    let words = [
+        [1, 1, 4, 4, 3, 3, 3, 2, 0, 3, 0, 1, 0, 0, 0, 0].as_slice(),
+        &[0, 1, 0, 2, 0, 0, 0, 0],
+        &[1, 1, 1, 0, 1, 1, 1, 2],
+        &[1, 2, 0, 0, 1, 1, 1, 2],
+        &[0; 8],
+        &[1, 2_147_483_648, 1_250_000, 36_525, 66_000],
+        &[1, 3_221_225_472, 90_000, 0, 0],
+        &[0; 5],
+        &[0; 5],
+    ];
+    assert_eq!(store, words.concat());
+    checker::canonical(&store).unwrap();
+
+    // One page is enough, so one node is: the left one stays, and the root goes last.
+    let removed = remove(&mut store, 3_221_225_472);
+    assert_eq!((removed.number, removed.record), (0, records[1]));
+    let words = [
+        [1, 1, 4, 4, 3, 3, 1, 1, 3, 2, 2, 2, 0, 0, 0, 0].as_slice(),
+        &[0, 1, 0, 0, 0, 1, 0, 0],
+        &[0; 8],
+        &[0, 0, 2, 0, 0, 0, 0, 0],
+        &[0; 8],
+        &[1, 2_147_483_648, 1_250_000, 36_525, 66_000],
+        &[0, 3, 0, 0, 0],
+        &[0; 5],
+        &[0; 5],
+    ];
+    assert_eq!(store, words.concat());
+    checker::canonical(&store).unwrap();
+
+    // The last released are taken first, and the reply counts blocks in use.
+    assert_eq!(entered(&mut store, records[1]), [0, 3_221_225_472, 2, 3, 2]);
+    assert_eq!(store[4..12], [3, 3, 2, 2, 0, 3, 0, 1]);
+    checker::canonical(&store).unwrap();
+    for record in [records[0], records[1]] {
+        assert_eq!(remove(&mut store, record.key).record, record);
+    }
+    assert_eq!([store[4] - store[10], store[5] - store[11], store[7]], [1, 0, 1]);
+    checker::canonical(&store).unwrap();
+}
+
 #[test]
 fn refusals_in_order() {
     let mut store = new_store(2, 2, 9, 9);
@@ -184,8 +246,10 @@ fn refusals_in_order() {
     assert_eq!(entered(&mut damaged, plot(0))[0], 6);
     assert_eq!(summary(&damaged, 2, 1, 0).number, 7);
     assert_eq!((find(&damaged, 0).number, next(&damaged, 0).number), (9, 9));
+    assert_eq!((remove(&mut damaged, 0).number, remove(&mut damaged, 5).number), (9, 9));
     damaged[8] = 1;
     assert_eq!(entered(&mut damaged, plot(0))[0], 3);
+    assert_eq!(remove(&mut damaged, 5).number, 3);
     assert_eq!((summary(&damaged, 2, 1, 100_000).number, range(&damaged, 2, 1, &mut []).number), (3, 3));
     for words in [0, 1, 8, 15, 16, store.len() - 1] {
         let short = &mut store.clone()[..words];
@@ -201,6 +265,12 @@ fn top_keys() {
         let before = store.clone();
         let answer = entered(&mut store, plot(u32::MAX));
         if answer[0] == 0 {
+            checker::canonical(&store).unwrap();
+            // Every join of every level: the tree of one key, and the same again with released blocks.
+            assert_eq!(remove(&mut store, u32::MAX).number, 0);
+            assert!(checker::same_tree(&store, &before));
+            checker::canonical(&store).unwrap();
+            assert_eq!(entered(&mut store, plot(u32::MAX)), answer);
             checker::canonical(&store).unwrap();
         } else {
             assert_eq!(store, before);
@@ -240,7 +310,20 @@ fn checker_sees() {
     for key in 1..40 {
         assert_eq!(entered(&mut store, plot(key << 20))[0], 0);
     }
+    for key in 3..30 {
+        assert_eq!(remove(&mut store, key << 20).number, 0);
+    }
+    assert_eq!(store[10..12], [3, 14]);
     checker::canonical(&store).unwrap();
+    // A taken block that is neither reached nor released.
+    for (name, block) in [(8, 16 + 12 * (store[8] as usize - 1)), (9, 16 + 40 * 12 + 9 * (store[9] as usize - 1))] {
+        let mut other = store.clone();
+        other[name] = other[block + 10 - name];
+        other[name + 2] -= 1;
+        checker::check(&other).expect_err("a lost block");
+        other[block + 10 - name] = 0;
+        checker::check(&other).expect_err("a lost block");
+    }
     // Every word of the store matters to the checker, but for those of records, where another may be lawful.
     let mut rng = Rng(3);
     for at in 0..store.len() {

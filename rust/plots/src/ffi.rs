@@ -73,7 +73,7 @@ pub fn set_up(store: &mut [u32], theta: u32, capacity: u32, nodes: u32, pages: u
     unsafe { exports::plots_set_up(store, store_words, theta, capacity, nodes, pages, reply, reply_words) }
 }
 
-/// Enters a record. Values: the key, the levels, the nodes taken, the pages taken. Numbers: 0, 3, 6, 9, 8, 10.
+/// Enters a record. Values: the key, the levels, the nodes in use, the pages in use. Numbers: 0, 3, 6, 9, 8, 10.
 #[inline]
 pub fn enter(store: &mut [u32], key: u32, price: u32, lease: u32, last: u32, reply: &mut [u64]) -> u32 {
     let (store, store_words) = (store.as_mut_ptr(), store.len());

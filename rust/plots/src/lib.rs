@@ -100,9 +100,9 @@ pub struct Entered {
     pub key: u32,
     /// The tree's levels after the entry.
     pub levels: u32,
-    /// The nodes taken after the entry.
+    /// The nodes in use after the entry.
     pub nodes: u32,
-    /// The pages taken after the entry.
+    /// The pages in use after the entry.
     pub pages: u32,
 }
 

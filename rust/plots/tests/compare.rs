@@ -1,10 +1,14 @@
 //! The proved library against plain Rust: the number, the reply, every word of the store and of the output, and the words
-//! around each slice, after each of many random calls on sound stores, on damaged ones, and on words of no store.
+//! around each slice, after each of many random calls on sound stores, on damaged ones, and on words of no store; with released
+//! blocks that removals leave, and with their chains bent.
 
 #[path = "../../plain/tests/common/mod.rs"]
 mod common;
 
-use common::{circle, damage, elsewhere, other, record, size, too_deep, unlawful, Keys, Rng};
+use common::{
+    bend, circle, damage, elsewhere, joined_circle, other, record, size, tangle, too_deep, too_deep_beside, unlawful,
+    Keys, Rng,
+};
 use plain::Record;
 use plots::{ffi, Label, Sizes, Store};
 use std::ops::Range;
@@ -238,6 +242,11 @@ impl Pair {
         let length = self.words().len();
         self.call_on(call, length, rng, counts)
     }
+
+    /// Plain Rust's removal on both, for the blocks that it releases.
+    fn remove(&mut self, key: u32) {
+        assert_eq!(plain::remove(self.proved.words(), key), plain::remove(self.plain.words(), key));
+    }
 }
 
 impl Counts {
@@ -378,8 +387,16 @@ fn some_sizes(rng: &mut Rng) -> [u32; 4] {
     [theta, capacity, nodes, pages]
 }
 
+/// Some calls, and removals between them: now few, now many.
 fn history(pair: &mut Pair, calls: &mut Calls, length: u32, rng: &mut Rng, counts: &mut Counts) {
+    let mut removals = 0;
     for _ in 0..length {
+        if rng.chance(10) {
+            removals = rng.one_of(&[0, 10, 50]);
+        }
+        if rng.chance(removals) {
+            pair.remove(rng.one_of(&calls.held));
+        }
         let call = calls.draw(rng);
         let number = pair.call(call, rng, counts);
         if let (Call::Enter(record), 0) = (call, number) {
@@ -422,14 +439,29 @@ fn sound_stores() {
         }
         assert!(pair.proved == pair.plain);
         history(&mut pair, &mut calls, 200, rng, &mut counts);
+        // Half of them go, and others take the blocks that they leave.
+        for at in 0..calls.held.len() / 2 {
+            pair.remove(calls.held[2 * at]);
+        }
+        assert!(pair.words()[11] > 0);
+        for _ in 0..5_000 {
+            let key = calls.keys.draw(rng);
+            let Record { price, lease, last, .. } = record(key, rng);
+            let answer = plain::enter(pair.plain.words(), Record { key, price, lease, last });
+            assert_eq!(ffi::enter(pair.proved.words(), key, price, lease, last, &mut []), answer.number);
+        }
+        assert!(pair.proved == pair.plain);
+        history(&mut pair, &mut calls, 200, rng, &mut counts);
     }
     counts.print_and_judge("sound stores", &[3, 9]);
 }
 
-/// Changes one to three places of a store, head words more often than others.
+/// Changes one to three places of a store, head words more often than others, and chains of released blocks.
 fn some_damage(words: &mut [u32], rng: &mut Rng) {
     for _ in 0..1 + rng.below(3) {
-        if rng.chance(8) {
+        if rng.chance(30) && plain::find(words, 0).number != plain::answer::HEAD {
+            bend(words, rng);
+        } else if rng.chance(8) {
             let at = rng.below(16) as usize;
             words[at] = other(words[at], words, rng);
         } else {
@@ -451,6 +483,9 @@ fn damaged_stores() {
                 calls.held.push(key);
             }
         }
+        for _ in 0..rng.below(calls.held.len() as u32) {
+            sound.remove(rng.one_of(&calls.held));
+        }
         for _ in 0..20 {
             let mut pair = Pair::new(sound.words());
             pair.change(|words| some_damage(words, rng));
@@ -460,10 +495,11 @@ fn damaged_stores() {
                 let length = pair.words().len().saturating_sub(cut);
                 pair.call_on(call, length, rng, &mut counts);
             }
-            // Entries go on, with more damage.
+            // Entries go on, with more damage, after removals that a damaged store allows.
             if rng.chance(20) {
                 pair.change(|words| some_damage(words, rng));
                 for _ in 0..6 {
+                    pair.remove(rng.one_of(&calls.held));
                     let call = Call::Enter(record(calls.keys.draw(rng), rng));
                     pair.call(call, rng, &mut counts);
                 }
@@ -477,6 +513,30 @@ fn damaged_stores() {
         }
     }
     counts.print_and_judge("damaged stores", &[]);
+}
+
+/// Entries that take blocks, in stores with released ones and chains bent: one call on each.
+#[test]
+fn bent_chains() {
+    let mut counts = Counts::default();
+    for seed in 0..4_000 {
+        let rng = &mut Rng(seed ^ 0xbe4d_0000_0000);
+        let [theta, _, nodes, pages] = some_sizes(rng);
+        let capacity = rng.one_of(&[1, 1, 2, 4]);
+        let (mut sound, mut calls) = start(rng, theta, capacity, nodes, pages, &mut counts);
+        history(&mut sound, &mut calls, 60, rng, &mut counts);
+        for _ in 0..rng.below(30) {
+            sound.remove(rng.one_of(&calls.held));
+        }
+        for _ in 0..40 {
+            let mut pair = Pair::new(sound.words());
+            pair.change(|words| bend(words, rng));
+            let key = if rng.chance(50) { rng.one_of(&calls.held) ^ rng.below(4) } else { calls.keys.draw(rng) };
+            pair.call(Call::Enter(record(key, rng)), rng, &mut counts);
+        }
+    }
+    println!("chains bent: {} calls, enter {:?}", counts.calls(), counts.0[1]);
+    assert!([0, 3, 8, 9, 10].iter().all(|&number| counts.0[1][number] > 1_000));
 }
 
 /// Words of no store, most of them with a lawful head.
@@ -493,6 +553,9 @@ fn any_words() {
             }
             words[5] -= 1;
             words[8..16].fill(0);
+            if rng.chance(30) {
+                words[8..12].fill_with(|| rng.below(3));
+            }
         }
         let mut pair = Pair::new(&words);
         let mut calls = Calls { keys: Keys::new(6, rng), held: vec![1, 2, 3, 1 << 31] };
@@ -502,6 +565,27 @@ fn any_words() {
         }
     }
     println!("words of no store: {} calls", counts.calls());
+}
+
+/// Trees of sound blocks put together at random.
+#[test]
+fn tangles() {
+    let mut counts = Counts::default();
+    for seed in 0..10_000 {
+        let rng = &mut Rng(seed ^ 0x7a91_0000_0000);
+        let (words, mut held) = tangle(rng);
+        held.push(1);
+        let mut pair = Pair::new(&words);
+        if rng.chance(50) {
+            pair.change(|words| damage(words, rng));
+        }
+        let mut calls = Calls { keys: Keys::new(6, rng), held };
+        for _ in 0..10 {
+            let call = calls.draw(rng);
+            pair.call(call, rng, &mut counts);
+        }
+    }
+    println!("tangles: {} calls", counts.calls());
 }
 
 /// Every single word of some small stores changed, in several ways.
@@ -536,6 +620,10 @@ fn made_stores() {
     let mut stores = vec![(elsewhere(), 77), (too_deep(), u32::MAX - 1)];
     for taken in 1..=5 {
         stores.extend([true, false].map(|found| (circle(taken, found, high), high)));
+    }
+    stores.extend([1, 2, 3].map(too_deep_beside));
+    for theta in 1..=6 {
+        stores.extend([[u32::MAX - 1, u32::MAX], [1, 2]].map(|keys| (joined_circle(theta, keys), keys[0])));
     }
     for (words, key) in stores {
         let mut calls = Calls { keys: Keys::new(6, rng), held: vec![key] };

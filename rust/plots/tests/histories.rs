@@ -1,5 +1,5 @@
-//! Histories of random entries through the proved library: after every accepted one the store is sound and holds the tree of
-//! its records, as `plain::checker` judges; the same set in several orders ends in the same tree.
+//! Histories of random entries through the proved library, with removals between them: after every accepted call the store is
+//! sound and holds the tree of its records, as `plain::checker` judges; the same set in several orders ends in the same tree.
 
 #[path = "../../plain/tests/common/mod.rs"]
 mod common;
@@ -32,8 +32,17 @@ fn expected(book: &Book, record: &Record, sizes: Sizes) -> Result<Entered, Refus
     Ok(Entered { key: record.key, levels: tree.levels(), nodes: tree.nodes(), pages: tree.pages() })
 }
 
-/// One history in words that are longer than the size; gives how many records it holds.
-fn history(seed: u64) -> usize {
+/// Plain Rust's removal of a held key, for the blocks that it releases.
+fn remove(store: Store<Vec<u32>>, key: u32) -> (Store<Vec<u32>>, Record) {
+    let mut words = store.into_words();
+    let answer = plain::remove(&mut words, key);
+    assert_eq!(answer.number, 0);
+    (Store::over(words), answer.record.words().into())
+}
+
+/// One history in words that are longer than the size; gives how many entries it accepts. Of 100 calls some are removals, now
+/// as many, now others.
+fn history(seed: u64, removing: &[u32]) -> usize {
     let rng = &mut Rng(seed ^ 0x815_0000_0000);
     let theta = 1 + rng.below(6);
     let capacity = rng.one_of(&[1, 1, 2, 3, 4, 7, 8, 16, 24]);
@@ -46,7 +55,21 @@ fn history(seed: u64) -> usize {
 
     let mut book = Book::new();
     let mut draws = Keys::new(rng.below(Keys::KINDS), rng);
+    let (mut removals, mut accepted) = (removing[0], 0);
     for _ in 0..20 + rng.below(if capacity > 8 { 200 } else { 60 }) {
+        if rng.chance(10) {
+            removals = rng.one_of(removing);
+        }
+        let held: Vec<u32> = book.keys().copied().collect();
+        if !held.is_empty() && rng.chance(removals) {
+            let key = rng.one_of(&held);
+            let record;
+            (store, record) = remove(store, key);
+            assert_eq!(book.remove(&key), Some(record));
+            assert_eq!(store.find(key), Ok(None));
+            canonical(store.words()).unwrap_or_else(|fault| panic!("seed {seed}: {fault}"));
+            continue;
+        }
         let key = draws.draw(rng);
         let record = if rng.chance(3) { unlawful(key, rng) } else { record(key, rng) };
         let record = Record::from(record.words());
@@ -57,6 +80,7 @@ fn history(seed: u64) -> usize {
             assert!(store.words() == before, "seed {seed}");
             continue;
         }
+        accepted += 1;
         book.insert(record.key, record);
         check(store.words()).unwrap_or_else(|fault| panic!("seed {seed}: {fault}"));
         canonical(store.words()).unwrap_or_else(|fault| panic!("seed {seed}: {fault}"));
@@ -64,13 +88,15 @@ fn history(seed: u64) -> usize {
         assert_eq!(store.find(record.key), Ok(Some(record)));
     }
     assert!(keys(store.words()).unwrap().iter().eq(book.keys()));
-    book.len()
+    accepted
 }
 
 #[test]
 fn many_histories() {
-    let records: usize = (0..3_000).map(history).sum();
-    println!("3,000 histories, {records} accepted entries");
+    let accepted: usize = (0..3_000).map(|seed| history(seed, &[0])).sum();
+    println!("3,000 histories, {accepted} accepted entries");
+    let accepted: usize = (0..3_000).map(|seed| history(seed, &[10, 40, 60, 90])).sum();
+    println!("3,000 histories with removals, {accepted} accepted entries");
 }
 
 /// The same set in several orders ends in the same tree, and another set does not.

@@ -39,7 +39,7 @@ abbrev full : tie.Else1 Inv-loop μ-loop → tie.In-loop Inv-loop μ-loop
 full d = d .before .before .before .before
 
 abbrev halved : tie.After-in-half Inv-loop μ-loop → tie.Else1 Inv-loop μ-loop
-halved c = c .before .before .before .before .before
+halved c = c .before .before .before .before .before .before
 
 abbrev step : tie.In-loop Inv-loop μ-loop → Step
 step p = getD (p .before .loop .steps) (p .before .loop .i) noStep
@@ -96,10 +96,11 @@ split-at-requires c κs =
     let p = full (c .before) in
     let w = p .before .loop .inv .1 in
     let o = c .before .if1 .left in
-    (w .head-is, call p .pre .1, ready p, o, climb-more _ _ _ _ _ _ _ _ _ _ _ _ _ w (p .loop-test .taken) o)
+    let m = climb-more _ _ _ _ _ _ _ _ _ _ _ _ _ w (p .loop-test .taken) o in
+    (w .head-is, call p .pre .1, ready p, o, m .0, m .1)
 
 in-half-requires : tie.Need-in-half-requires Inv-loop μ-loop
-in-half-requires c κs = left (full (c .before .before .before .before)) .0
+in-half-requires c κs = left (full (c .before .before .before .before .before)) .0
 
 mul-steps-2 : tie.Need-mul-steps-2 Inv-loop μ-loop
 mul-steps-2 c = let b = below (full (halved c)) in search needs
@@ -115,12 +116,12 @@ loop-less c = omega (arith, full (halved c) .loop-test .taken)
 
 loop-again : tie.Need-loop-again Inv-loop μ-loop
 loop-again c =
-    let g = c .before .before .before in
+    let g = c .before .before .before .before in
     let p = full (halved c) in
     let l = p .before .loop in (
       g .split-at .kept .0 ∙ l .inv .0,
-      climb-on _ _ _ _ _ _ _ _ _ _ _ _ _ (l .inv .1) (p .loop-test .taken) (c .in-half .result) _ _ (halved c .if1 .left)
-          (g .split-at .ensures .0) (g .split-at .ensures .1) (c .in-half .ensures),
+      climb-on _ _ _ _ _ _ _ _ _ _ _ _ _ (l .inv .1) (p .loop-test .taken) (c .in-half .result) _ _ _ (halved c .if1 .left)
+          (g .split-at .ensures .0) (g .split-at .ensures .1) (g .split-at .ensures .2) (c .in-half .ensures),
     )
 
 -- the path has a place for a root

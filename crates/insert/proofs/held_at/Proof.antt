@@ -10,7 +10,7 @@ returns c = held-null _ _ _ _ _ (c .if1 .taken)
 
 key-held-requires : tie.Need-key-held-requires
 key-held-requires c κs = (
-  own-rule _ _ _ _ _ (c .before .if1 .left) (c .page-at .ensures) (c .before .before .before .before .pre .2),
+  own-rule _ _ _ _ _ _ (c .before .if1 .left) (c .page-at .ensures) (c .before .before .before .pre .2),
   rw (c .page-at .ensures) (page-lent _ _ _ _),
 )
 

@@ -16,11 +16,11 @@ abbrev counted : tie.Else2 → tie.After-low-count
 counted r = r .before .before .before
 
 abbrev taken : tie.After-page-start → tie.After-take-page
-taken c = c .before .before .before
+taken c = c .before .before .before .before
 
 limits : (c : tie.Start)
     → let a = c .args in
-    (8 ≤ length (a .store .now)) × (a .head .theta ≤ 6) × (a .head .capacity ≤ largestCapacity) × (a .head .pagesTaken < 4096)
+    (16 ≤ length (a .store .now)) × (a .head .theta ≤ 6) × (a .head .capacity ≤ largestCapacity) × (a .head .pagesTaken ≤ 4096)
 limits c = part-limits (c .args .f) _ _ (c .args .page) (c .args .bit) (c .pre .0) (c .pre .1)
 
 page-at-requires : tie.Need-page-at-requires
@@ -47,16 +47,16 @@ returns-2 c =
     )
 
 take-page-requires : tie.Need-take-page-requires
-take-page-requires c κs = let s = call (counted (c .before)) in (limits s .0, s .pre .0, limits s .3)
+take-page-requires c κs = let s = call (counted (c .before)) in (limits s .0, s .pre .0, limits s .1, limits s .2, limits s .3)
 
 -- the head with the page taken
-next : (c : tie.After-take-page) → (c .take-page .result .theta ≤ 6) × (c .take-page .result .capacity ≤ largestCapacity)
+next : (c : tie.After-take-page) → (c .take-page .result .head .theta ≤ 6) × (c .take-page .result .head .capacity ≤ largestCapacity)
 next c =
     let q = call (counted (c .before .before)) .pre in
-    part-next _ _ _ _ _ (q .0) (q .1) _ _ (c .take-page .ensures .0) (c .take-page .ensures .1)
+    part-next _ _ _ _ _ (q .0) (q .1) _ _ (c .take-page .ensures .1) (c .take-page .ensures .2)
 
 page-start-requires : tie.Need-page-start-requires
-page-start-requires c κs = next (c .before .before)
+page-start-requires c κs = next (c .before .before .before)
 
 page-start-requires-2 : tie.Need-page-start-requires-2
 page-start-requires-2 c κs = next (taken c)
@@ -67,8 +67,8 @@ halve-page-requires c κs =
     let t = taken (to .before) in
     let x = counted (t .before .before) in
     let q = call x .pre in
-    part-ready _ _ _ _ _ (q .0) (q .1) _ _ (x .before .page-at .ensures) (x .low-count .ensures .1) _ _ _ _ (t .take-page .ensures .0)
-    (t .take-page .ensures .1) (to .before .page-start .ensures .0) (to .page-start2 .ensures .0) (x .low-count .ensures .0)
+    part-ready _ _ _ _ _ (q .0) (q .1) _ _ (x .before .page-at .ensures) (x .low-count .ensures .1) _ _ _ _ _ (t .take-page .ensures .1)
+    (t .take-page .ensures .2) (t .take-page .ensures .0) (to .before .page-start .ensures .0) (to .page-start2 .ensures .0) (x .low-count .ensures .0)
 
 returns-3 : tie.Need-returns-3
 returns-3 c =
@@ -78,8 +78,8 @@ returns-3 c =
     let r = t .before .before in
     let x = counted r in
     let q = call x .pre in
-    part-both _ _ _ _ _ (q .0) (q .1) _ _ (x .before .page-at .ensures) (x .low-count .ensures .1) _ _ _ _ (t .take-page .ensures .0)
-    (t .take-page .ensures .1) (to .before .page-start .ensures .0) (to .page-start2 .ensures .0) _ (r .before .before .if1 .left)
+    part-both _ _ _ _ _ (q .0) (q .1) _ _ (x .before .page-at .ensures) (x .low-count .ensures .1) _ _ _ _ _ (t .take-page .ensures .1)
+    (t .take-page .ensures .2) (t .take-page .ensures .0) (to .before .page-start .ensures .0) (to .page-start2 .ensures .0) _ (r .before .before .if1 .left)
     (λ e. r .if2 .left (e ∙ sym (r .before .count-of .ensures .0))) (x .low-count .ensures .0) (u .halve-page .ensures)
 
 pub part-page-spec : {M : Type 1} → statement M

@@ -3,7 +3,7 @@ use borrow.Author.Needs.{needs}
 use Rattle.page.proofs.Inside.{page-lent, filled}
 use Rattle.page.proofs.Laws.{rule-facts}
 use native.Mathlib.Omega.{arith}
-use Rattle.insert.proofs.EnterCode.{own-rule, own-agrees, rounds-small, plan-null, plan-room, plan-full}
+use Rattle.insert.proofs.EnterCode.{own-test, own-rule, own-agrees, rounds-small, plan-null, plan-room, plan-full}
 use Rattle.insert.proofs.plan_for.Statement.{statement}
 use Rattle.insert.proofs.plan_for.Tie as tie
 
@@ -21,8 +21,9 @@ rounds-for-requires c κs =
     let p = c .before .before .before in
     let pre = p .before .before .before .before .pre in
     let e = p .page-at .ensures in
-    let r = own-rule _ _ _ _ _ (p .before .if1 .left) e (pre .7) in
-    (pre .5, own-agrees _ _ _ _ _ (p .before .if1 .left) e (pre .7), rule-facts _ _ _ r .some, filled _ _ _ r (rw e (page-lent _ _ _ _)))
+    let o = own-test _ _ _ _ _ (pre .7) in
+    let r = own-rule _ _ _ _ _ _ (p .before .if1 .left) e o in
+    (pre .5, own-agrees _ _ _ _ _ _ (p .before .if1 .left) e o, rule-facts _ _ _ r .some, filled _ _ _ r (rw e (page-lent _ _ _ _)))
 
 nodes-for-requires : tie.Need-nodes-for-requires
 nodes-for-requires c κs =

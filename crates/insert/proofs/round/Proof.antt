@@ -24,14 +24,14 @@ abbrev full : tie.Else1 → tie.Start
 full d = d .before .before .before .before .before
 
 abbrev halved : tie.After-in-half → tie.Else1
-halved i = i .before .before .before .before .before
+halved i = i .before .before .before .before .before .before
 
 abbrev step : tie.Start → Step
 step s = getD (s .args .path) 0 noStep
 
 -- the node of level 1
 ready : (s : tie.Start) → let a = s .args in Ready (a .f) (a .store .now) (placeOf (a .f) (a .key) (step s))
-ready s = round-ready _ _ _ _ _ (s .args .left) (s .args .right) (s .pre .0) (s .pre .2) (s .pre .3)
+ready s = round-ready _ _ _ _ _ (s .args .left) (s .args .right) (s .pre .0) (s .pre .2)
 
 -- a bit is left
 left : (s : tie.Start) → (step s .used < width (s .args .f)) × (step s .depth < 64)
@@ -58,7 +58,7 @@ returns c =
     let g = c .before .before .before in
     let d = g .before .before in
     let s = roomy d in
-    round-stops _ _ _ _ _ _ _ (s .pre .0) (s .pre .2) (s .pre .3) (c .deeper .result) _ (d .if1 .taken)
+    round-stops _ _ _ _ _ _ _ (s .pre .0) (s .pre .2) (c .deeper .result) _ (d .if1 .taken)
     (g .grow-block .ensures ∙ grown-block _ _ (placeOf _ _ (step s)) _ _ _ (s .pre .0 .head-is)) (c .deeper .ensures _ _)
 
 split-first-requires : tie.Need-split-first-requires
@@ -69,12 +69,13 @@ split-first-requires c κs =
       s .pre .1,
       ready s,
       o,
-      round-more _ _ _ _ _ (s .args .left) (s .args .right) (s .pre .0) (s .pre .2) (s .pre .3) o,
-      round-behind _ _ _ _ _ (s .args .left) (s .args .right) (s .pre .0) (s .pre .2) (s .pre .3),
+      round-more _ _ _ _ _ (s .args .left) (s .args .right) (s .pre .0) (s .pre .2) o .0,
+      round-more _ _ _ _ _ (s .args .left) (s .args .right) (s .pre .0) (s .pre .2) o .1,
+      round-behind _ _ _ _ _ (s .args .left) (s .args .right) (s .pre .0) (s .pre .2),
     )
 
 in-half-requires : tie.Need-in-half-requires
-in-half-requires c κs = left (full (c .before .before .before .before)) .0
+in-half-requires c κs = left (full (c .before .before .before .before .before)) .0
 
 array-set-from-steps-2 : tie.Need-array-set-from-steps-2
 array-set-from-steps-2 c = omega arith
@@ -82,21 +83,21 @@ array-set-from-steps-2 c = omega arith
 climb-requires : tie.Need-climb-requires
 climb-requires c κs =
     let i = c .before in
-    let g = i .before .before .before .split-first .ensures in
+    let g = i .before .before .before .before .split-first .ensures in
     let q = full (halved i) .pre in
-    let r = round-climbs _ _ _ _ _ _ _ (q .0) (q .2) (q .3) (i .in-half .result) _ _ (halved i .if1 .left) (g .0) (g .1)
-    (i .in-half .ensures) (q .4) in
+    let r = round-climbs _ _ _ _ _ _ _ (q .0) (q .2) (i .in-half .result) _ _ _ (halved i .if1 .left) (g .0) (g .1) (g .2)
+    (i .in-half .ensures) (q .3) in
     (r .0, q .1, r .1, r .2)
 
 returns-2 : tie.Need-returns-2
 returns-2 c =
     let u = c .before .before in
     let i = u .before .before in
-    let g = i .before .before .before .split-first .ensures in
+    let g = i .before .before .before .before .split-first .ensures in
     let q = full (halved i) .pre in
     let e = u .climb .ensures in
-    let r = round-ends _ _ _ _ _ _ _ (q .0) (q .2) (q .3) (i .in-half .result) _ _ (u .climb .result .head) (u .climb .result .steps) _
-    (halved i .if1 .left) (g .0) (g .1) (i .in-half .ensures) (e .1) (e .2) in
+    let r = round-ends _ _ _ _ _ _ _ (q .0) (q .2) (i .in-half .result) _ _ _ (u .climb .result .head) (u .climb .result .steps) _
+    (halved i .if1 .left) (g .0) (g .1) (g .2) (i .in-half .ensures) (e .1) (e .2) in
     (e .0, r .0, r .1)
 
 pub round-spec : {M : Type 1} → statement M

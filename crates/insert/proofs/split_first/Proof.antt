@@ -32,36 +32,42 @@ take-node-requires : tie.Need-take-node-requires
 take-node-requires c κs =
     let s = c .before .before .before .before .before in
     let a = s .args in
-    take-needs (a .f) (a .store .now) (s .pre .2 .sized) (a .head) (s .pre .0) (s .pre .4)
+    take-needs (a .f) (a .store .now) (s .pre .2 .sized) (s .pre .2 .fits) (a .head) (s .pre .0)
 
 split-linked-requires : tie.Need-split-linked-requires
 split-linked-requires c κs =
-    let x = c .before .before .before in
+    let x = c .before .before .before .before in
     let s = x .before .before .before .before .before .before in
     let a = s .args in
-    split-needs (a .f) (a .store .now) (a .key) (a .t) (s .pre .2) (s .pre .1) (a .head) _ _ (s .pre .0) (s .pre .4) (s .pre .3)
-    (x .take-node .ensures .0) (x .take-node .ensures .1)
+    let e = x .take-node .ensures in
+    split-needs (a .f) (a .store .now) (a .key) (a .t) (s .pre .2) (s .pre .1) (a .head) _ _ _ (s .pre .0) (s .pre .4) (s .pre .5) (s .pre .3)
+    (e .1) (e .2) (e .0)
 
 relink-requires : tie.Need-relink-requires
 relink-requires c κs =
     let y = c .before .before .before in
-    let x = y .before .before .before .before in
+    let x = y .before .before .before .before .before in
     let r = x .before .before in
     let s = r .before .before .before .before in
     let a = s .args in
-    first-needs (a .f) (a .store .now) (placeOf (a .f) (a .key) (a .t)) (a .a) (a .c) (s .pre .2) (a .head) _ _ _ _ (s .pre .0) (s .pre .4)
-    (s .pre .5) (x .take-node .ensures .0) (x .take-node .ensures .1) (y .split-linked .ensures) (behind r)
+    let e = x .take-node .ensures in
+    first-needs (a .f) (a .store .now) (placeOf (a .f) (a .key) (a .t)) (a .a) (a .c) (s .pre .2) (a .head) _ _ _ _ _ (s .pre .0) (s .pre .4)
+    (s .pre .5) (s .pre .6) (e .1) (e .2) (e .0) (y .split-linked .ensures) (behind r)
 
 returns : tie.Need-returns
 returns c =
     let z = c .before .before in
     let y = z .before .before .before .before in
-    let x = y .before .before .before .before in
+    let x = y .before .before .before .before .before in
     let r = x .before .before in
     let s = r .before .before .before .before in
     let a = s .args in
-    first-done (a .f) (a .store .now) (placeOf (a .f) (a .key) (a .t)) (a .a) (a .c) (s .pre .2) (a .head) _ _ _ _ _ (s .pre .0) (s .pre .4)
-    (s .pre .5) (x .take-node .ensures .0) (x .take-node .ensures .1) (y .split-linked .ensures) (behind r) (z .relink .ensures)
+    let e = x .take-node .ensures in
+    let k =
+    first-done (a .f) (a .store .now) (placeOf (a .f) (a .key) (a .t)) (a .a) (a .c) (s .pre .2) (a .head) _ _ _ _ _ _ (s .pre .0) (s .pre .4)
+    (s .pre .5) (s .pre .6) (e .1) (e .2) (e .0) (y .split-linked .ensures) (behind r) (z .relink .ensures)
+    in
+    (e .0, k .0, k .1)
 
 pub split-first-spec : {M : Type 1} → statement M
 split-first-spec =

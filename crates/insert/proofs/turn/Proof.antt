@@ -50,7 +50,7 @@ round-requires c κs =
     let p = c .before .before .before .before in
     let q = call (wide p) .pre in
     let r = turn-round _ _ _ _ _ (q .0) (q .2) _ (bit-is (wide p)) _ _ _ _ (p .part-page .ensures .0) (p .part-page .ensures .1) in
-    (r .0, q .1, r .1, r .2, r .3)
+    (r .0, q .1, r .1, r .2)
 
 bit-set-requires : tie.Need-bit-set-requires
 bit-set-requires c κs = let w = wide (halved (c .before .before)) in omega (arith, w .width-of .ensures .0, width-within (call w .args .f))

@@ -1,7 +1,6 @@
 -- What is left of the way, from the node and the level that the loop has reached, is the whole way.
 use borrow.Author.Needs.{needs}
-use mathlib.Core.Path.{_≡_}
-use mathlib.Core.Bool.{true≢false}
+use mathlib.Core.Path.{_≡_, refl}
 use Prim.Native.Nat.{_≤_}
 use native.Mathlib.Omega.{arith}
 use borrow.Author.Tests.{not-true, not-false}
@@ -10,22 +9,22 @@ use Rattle.store.specs.Head.{InUse}
 use Rattle.store.proofs.HeadLaws.{width-within}
 use Rattle.search.specs.Descent.{noSteps, lost, stepTaken, descend, descent}
 use Rattle.search.proofs.BlockLaws.{under-levels, root-in-use}
-use Rattle.search.proofs.DescentLaws.{seen-bits, seen-in-use, turn-lost, turn-on, turn-out}
+use Rattle.search.proofs.DescentLaws.{seen-bits, seen-in-use, turn-visited, turn-lost, turn-on, turn-out}
 use Rattle.search.proofs.descend.Statement.{statement}
 use Rattle.search.proofs.descend.Tie as tie
 
 abbrev Inv-loop : tie.InvT-loop
-Inv-loop store f head key steps₀ node₀ used₀ level₀ steps node used level =
+Inv-loop store f head key checked steps₀ node₀ used₀ level₀ steps node used level =
     (level ≤ 32) × (used ≤ width f) × (1 ≤ level → InUse head node)
     × (descend f store head key level node used steps ≡ descent f store head key)
 
 abbrev μ-loop : tie.MeasureT-loop
-μ-loop store f head key steps₀ node₀ used₀ level₀ steps node used level = level
+μ-loop store f head key checked steps₀ node₀ used₀ level₀ steps node used level = level
 
 loop-holds : tie.Need-loop-holds Inv-loop μ-loop
 unfolding descent noSteps
 loop-holds c =
-    let u = c .before .before .pre in
+    let u = c .before .before .pre .0 in
     let l = under-levels u in
     let e = c .to-index .ensures .0 in
     (omega (arith, e, l .1), omega arith, λ z. root-in-use u, rw e)
@@ -33,7 +32,12 @@ loop-holds c =
 visit-node-requires : tie.Need-visit-node-requires Inv-loop μ-loop
 visit-node-requires c κs =
     let l = c .before .loop in
-    (c .before .before .before .before .pre, l .inv .2 (omega arith), l .inv .1, λ z. absurd (true≢false z))
+    let p = c .before .before .before .before .pre in (
+      p .0,
+      l .inv .2 (omega arith),
+      l .inv .1,
+      λ z. turn-visited _ _ _ _ _ _ _ _ _ refl (omega arith) _ (l .inv .3) (p .1 z),
+    )
 
 returns : tie.Need-returns Inv-loop μ-loop
 unfolding lost

@@ -1,5 +1,8 @@
 //! The operations once more, as the paper says them word by word and with no thought of speed: each next starts from the
-//! root, nodes are lists of entries, an entry tries again after each halving, and 10 is found by running out of blocks.
+//! root, nodes are lists of entries, an entry tries again after each halving, and the blocks that it takes are counted by
+//! entering the record in a larger store.
+
+mod remove;
 
 use plain::Record;
 use std::cmp::Reverse;
@@ -71,7 +74,20 @@ impl Literal {
             && root <= nodes_taken
             && levels >= 1
             && levels <= most
-            && self.words[8..16] == [0; 8]
+            && self.words[10] < nodes_taken
+            && self.words[11] <= pages_taken
+            && self.name_ok(self.words[8], self.words[10], nodes_taken)
+            && self.name_ok(self.words[9], self.words[11], pages_taken)
+            && self.words[12..16] == [0; 4]
+    }
+
+    /// A taken number, or 0 just when the count is 0.
+    fn name_ok(&self, name: u32, count: u32, taken: u32) -> bool {
+        if count == 0 {
+            name == 0
+        } else {
+            name >= 1 && name <= taken
+        }
     }
 
     fn node_ok(&self, number: u32, level: u32) -> bool {
@@ -331,25 +347,76 @@ impl Literal {
         if records.iter().any(|held| held.key == key) {
             return refused(8);
         }
-        let before = self.words.clone();
-        loop {
-            match self.attempt(record) {
-                None => {
-                    self.words = before;
-                    return refused(10);
-                }
-                Some(false) => (),
-                Some(true) => return (0, key, self.words[7], self.words[4], self.words[5]),
-            }
+        let mut trial = self.larger();
+        while !trial.attempt(record) {}
+        let (nodes, pages) = (trial.words[4] - self.words[4], trial.words[5] - self.words[5]);
+        let nodes_left = self.words[10] + self.words[2] - self.words[4];
+        let pages_left = self.words[11] + self.words[3] - self.words[5];
+        if nodes > nodes_left || pages > pages_left {
+            return refused(10);
         }
+        if !self.may_take_nodes(nodes) || !self.may_take_pages(pages) {
+            return refused(9);
+        }
+        while !self.attempt(record) {}
+        (0, key, self.words[7], self.words[4] - self.words[10], self.words[5] - self.words[11])
     }
 
-    /// Puts the record if there is room, else halves once: whether it was put; None if blocks run out.
-    fn attempt(&mut self, record: Record) -> Option<bool> {
+    /// The same tree in a store with room for any entry and no released blocks.
+    fn larger(&self) -> Literal {
+        let more = 33 * (1 + 32 / self.theta());
+        let mut words = self.words[..self.page_at(1)].to_vec();
+        words.resize(words.len() + (more * (4 + (2 << self.theta()))) as usize, 0);
+        let pages = self.words[3] + 1;
+        words.extend(&self.words[self.page_at(1)..self.page_at(pages)]);
+        words.resize(words.len() + 1 + 4 * self.words[1] as usize, 0);
+        words[2] += more;
+        words[3] += 1;
+        words[8..12].fill(0);
+        Literal { words }
+    }
+
+    /// A released node has level 0 and the next one in its third word; other words are zero.
+    fn may_take_nodes(&self, nodes: u32) -> bool {
+        let block = |number| &self.words[self.node_at(number)..self.node_at(number + 1)];
+        self.may_take(nodes, [self.words[8], self.words[10], self.words[4]], block, 2)
+    }
+
+    /// A released page has count 0 and the next one in its second word; other words are zero.
+    fn may_take_pages(&self, pages: u32) -> bool {
+        let block = |number| &self.words[self.page_at(number)..self.page_at(number + 1)];
+        self.may_take(pages, [self.words[9], self.words[11], self.words[5]], block, 1)
+    }
+
+    /// Whether an entry may take so many blocks: those of the chain have their form, and none stands in it twice.
+    fn may_take<'a>(
+        &self,
+        blocks: u32,
+        [name, count, taken]: [u32; 3],
+        block: impl Fn(u32) -> &'a [u32],
+        next: usize,
+    ) -> bool {
+        let mut met = Vec::new();
+        let (mut number, mut left) = (name, count);
+        while left > 0 && met.len() < blocks as usize {
+            left -= 1;
+            let words = block(number);
+            let zero = (0..words.len()).all(|at| at == next || words[at] == 0);
+            if met.contains(&number) || !zero || !self.name_ok(words[next], left, taken) {
+                return false;
+            }
+            met.push(number);
+            number = words[next];
+        }
+        true
+    }
+
+    /// Puts the record if there is room, else halves once: whether it was put.
+    fn attempt(&mut self, record: Record) -> bool {
         let descent = self.descend(record.key).expect("sound path");
         let (terminal, before) = *descent.path.last().unwrap();
         if descent.pointer == 0 {
-            let page = self.take_page()?;
+            let page = self.take_page();
             self.write_page(page, &[record]);
             let mut node = self.read_node(terminal);
             let depth = node.depth();
@@ -360,14 +427,14 @@ impl Literal {
                 entry.1 = page;
             }
             self.write_node(terminal, &node);
-            return Some(true);
+            return true;
         }
         let mut records = self.records(descent.pointer);
         if records.len() < self.words[1] as usize {
             records.push(record);
             records.sort_by_key(|record| record.key);
             self.write_page(descent.pointer, &records);
-            return Some(true);
+            return true;
         }
         let (ones, zeros): (Vec<Record>, Vec<Record>) = records.iter().partition(|held| bit(held.key, descent.used));
         let (low, high) = if zeros.is_empty() {
@@ -375,17 +442,17 @@ impl Literal {
         } else if ones.is_empty() {
             (descent.pointer, 0)
         } else {
-            let page = self.take_page()?;
+            let page = self.take_page();
             self.write_page(descent.pointer, &zeros);
             self.write_page(page, &ones);
             (descent.pointer, page)
         };
-        self.halve_run(&descent.path, record.key, low, high)?;
-        Some(false)
+        self.halve_run(&descent.path, record.key, low, high);
+        false
     }
 
     /// Halves the key's run in the last node of a path.
-    fn halve_run(&mut self, path: &[(u32, u32)], key: u32, low: u32, high: u32) -> Option<()> {
+    fn halve_run(&mut self, path: &[(u32, u32)], key: u32, low: u32, high: u32) {
         let theta = self.theta();
         let (&(number, used), above) = path.split_last().unwrap();
         let mut node = self.read_node(number);
@@ -393,9 +460,9 @@ impl Literal {
         if node.entries[entry].0 < theta {
             node.halve(entry, low, high);
             self.write_node(number, &node);
-            return Some(());
+            return;
         }
-        let new = self.take_node()?;
+        let new = self.take_node();
         let (mut left, mut right) = node.split();
         if node.level == 1 {
             left.forward = new;
@@ -413,22 +480,33 @@ impl Literal {
         if !above.is_empty() {
             return self.halve_run(above, key, number, new);
         }
-        let root = self.take_node()?;
+        let root = self.take_node();
         self.words[6] = root;
         self.words[7] += 1;
         let level = self.words[7];
         self.write_node(root, &Node { level, back: 0, forward: 0, entries: vec![(1, number), (1, new)] });
-        Some(())
     }
 
-    fn take_node(&mut self) -> Option<u32> {
-        self.words[4] += 1;
-        (self.words[4] <= self.words[2]).then_some(self.words[4])
+    fn take_node(&mut self) -> u32 {
+        if self.words[10] == 0 {
+            self.words[4] += 1;
+            return self.words[4];
+        }
+        let number = self.words[8];
+        self.words[8] = self.words[self.node_at(number) + 2];
+        self.words[10] -= 1;
+        number
     }
 
-    fn take_page(&mut self) -> Option<u32> {
-        self.words[5] += 1;
-        (self.words[5] <= self.words[3]).then_some(self.words[5])
+    fn take_page(&mut self) -> u32 {
+        if self.words[11] == 0 {
+            self.words[5] += 1;
+            return self.words[5];
+        }
+        let number = self.words[9];
+        self.words[9] = self.words[self.page_at(number) + 1];
+        self.words[11] -= 1;
+        number
     }
 
     fn read_node(&self, number: u32) -> Node {
