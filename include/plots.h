@@ -38,6 +38,10 @@ uint32_t plots_set_up(uint32_t *store, size_t store_words, uint32_t theta, uint3
 uint32_t plots_enter(uint32_t *store, size_t store_words, uint32_t key, uint32_t price, uint32_t lease, uint32_t last, uint64_t *reply,
                      size_t reply_words);
 
+/* Removes the record with a key; blocks that are then not needed are released, and entries take them again.
+ * Reply: the key, the price, the lease days, the last day of the record removed. Returns 0, 1, 3 or 9. */
+uint32_t plots_remove(uint32_t *store, size_t store_words, uint32_t key, uint64_t *reply, size_t reply_words);
+
 /* The record with a key.
  * Reply: the key, the price, the lease days, the last day. Returns 0, 1, 3 or 9. */
 uint32_t plots_find(const uint32_t *store, size_t store_words, uint32_t key, uint64_t *reply, size_t reply_words);

@@ -31,7 +31,7 @@ use Rattle.scan.specs.Summary.{summaryRefused, summaryOf}
 use Rattle.scan.specs.Range.{rangeRefused, rangeOf}
 use Rattle.insert.specs.Enter.{enterTests, unchanged, enterOf}
 use Rattle.index.specs.Calls.{Answer, counts}
-use Rattle.index.specs.Model.{Model, listOf, fresh, enterIn}
+use Rattle.index.specs.Model.{Model, fresh, enterIn}
 use Rattle.index.proofs.CallLaws.{Holding, set-up-holding, enter-step}
 use Rattle.readings.proofs.Promises.{find-reads, next-reads, summary-reads}
 use Rattle.desk.specs.Replies.{told, setUpTold, enterTold, findTold, nextTold, summaryTold, listedLines}
@@ -126,20 +126,20 @@ countsIn (Rattle.index.specs.Calls.several a) = refused 0
 countsIn (Rattle.index.specs.Calls.totals a) = refused 0
 
 range-lines : (s : List ℕ) (m : Model) (low high : ℕ) → Holding Plots 8192 m s → high < 2 ^ 32
-    → outcomeBytes s (opened s low high) ≡ rangeLines (listOf m) low high
+    → outcomeBytes s (opened s low high) ≡ rangeLines (m .held) low high
 unfolding rangeLines
 range-lines s m low high h q =
     elim (decLe low high) [
-      | yes p ↦ rw (le-ltb high low p, rangeLines) (listed-whole s (listOf m) (h .holds) high q low p)
-      | no p ↦ rw (lt-ltb high low (omega arith), rangeLines) (refused-whole s (listOf m) (h .holds) high q low (omega arith))
+      | yes p ↦ rw (le-ltb high low p, rangeLines) (listed-whole s (m .held) (h .holds) high q low p)
+      | no p ↦ rw (lt-ltb high low (omega arith), rangeLines) (refused-whole s (m .held) (h .holds) high q low (omega arith))
     ]
 
 dump-lines : (s : List ℕ) (m : Model) → Holding Plots 8192 m s → outcomeBytes s (dumped s) ≡ dumpLines m
 unfolding dumpLines
 dump-lines s m h =
-    dump-whole s (listOf m) (h .holds)
+    dump-whole s (m .held) (h .holds)
     ∙ ap
-    (λ (z : Sizes). replyLine (SetUpLine (z .theta) (z .capacity) (z .nodeBlocks) (z .pageBlocks)) ++ listedLines true (listOf m))
+    (λ (z : Sizes). replyLine (SetUpLine (z .theta) (z .capacity) (z .nodeBlocks) (z .pageBlocks)) ++ listedLines true (m .held))
     (h .sizes)
 
 holding-same : (s : List ℕ) (m : Model) → Holding Plots 8192 m s → (q : Request) → All (λ n. n < 2 ^ 32) (fieldsOf q) → Same s (holding m) q
@@ -149,11 +149,11 @@ holding-same s m h (SetUp θ C N P) f =
 holding-same s m h (Enter k p l d) f =
     let a = enter-step Plots 8192 (record { key = k; price = p; lease = l; last = d }) m s h in
     (ap (λ r. replyLine (enterTold (countsIn r))) (a .0), a .1)
-holding-same s m h (Find k) f = (ap (λ r. replyLine (findTold r)) (find-reads Plots s (listOf m) (h .holds) k (f .0)), h)
-holding-same s m h (Next k) f = (ap (λ r. replyLine (nextTold r)) (next-reads Plots s (listOf m) (h .holds) k (f .0)), h)
+holding-same s m h (Find k) f = (ap (λ r. replyLine (findTold r)) (find-reads Plots s (m .held) (h .holds) k (f .0)), h)
+holding-same s m h (Next k) f = (ap (λ r. replyLine (nextTold r)) (next-reads Plots s (m .held) (h .holds) k (f .0)), h)
 holding-same s m h (Range low high) f = (range-lines s m low high h (f .1 .0), h)
 holding-same s m h (Summary low high today) f =
-    (ap (λ r. replyLine (summaryTold r)) (summary-reads Plots s (listOf m) (h .holds) low high today (f .1 .0)), h)
+    (ap (λ r. replyLine (summaryTold r)) (summary-reads Plots s (m .held) (h .holds) low high today (f .1 .0)), h)
 holding-same s m h Dump f = (dump-lines s m h, h)
 holding-same s m h Wrong f = (refl, h)
 

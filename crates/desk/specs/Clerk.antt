@@ -29,7 +29,7 @@ use Rattle.page.specs.Schema.{schemaOf}
 use Rattle.represent.specs.Rep.{Holds}
 use Rattle.scan.specs.Range.{ranged}
 use Rattle.readings.specs.Listing.{within, findIn, nextIn, summaryIn}
-use Rattle.index.specs.Model.{Model, listOf, fresh, enterIn}
+use Rattle.index.specs.Model.{Model, fresh, enterIn}
 use Rattle.desk.specs.Replies.{setUpTold, enterTold, findTold, nextTold, summaryTold, listedLines}
 use Rattle.desk.specs.Transcript.{opened, outcomeBytes, ending, transcript}
 
@@ -69,7 +69,7 @@ rangeLines S low high =
 unfoldable pub dumpLines : Model → List ℕ
 dumpLines m =
     let z = m .sizes in
-    replyLine (SetUpLine (z .theta) (z .capacity) (z .nodeBlocks) (z .pageBlocks)) ++ listedLines true (listOf m)
+    replyLine (SetUpLine (z .theta) (z .capacity) (z .nodeBlocks) (z .pageBlocks)) ++ listedLines true (m .held)
 
 -- on a store that nobody has set up every request but set-up gets 3
 unfoldable pub reckoned : Register → Request → Reckoned
@@ -83,14 +83,14 @@ reckoned unset Dump = record { bytes = replyLine (Refused 6 3); register = unset
 reckoned (holding m) (Enter k p l d) =
     let it : Item = record { key = k; price = p; lease = l; last = d } in
     record {
-      bytes = replyLine (enterTold (entered (schemaOf Plots) (m .sizes) (listOf m) it .reply));
+      bytes = replyLine (enterTold (entered (schemaOf Plots) (m .sizes) (m .held) it .reply));
       register = holding (enterIn Plots it m .model);
     }
-reckoned (holding m) (Find k) = record { bytes = replyLine (findTold (findIn (listOf m) k)); register = holding m }
-reckoned (holding m) (Next k) = record { bytes = replyLine (nextTold (nextIn (listOf m) k)); register = holding m }
-reckoned (holding m) (Range low high) = record { bytes = rangeLines (listOf m) low high; register = holding m }
+reckoned (holding m) (Find k) = record { bytes = replyLine (findTold (findIn (m .held) k)); register = holding m }
+reckoned (holding m) (Next k) = record { bytes = replyLine (nextTold (nextIn (m .held) k)); register = holding m }
+reckoned (holding m) (Range low high) = record { bytes = rangeLines (m .held) low high; register = holding m }
 reckoned (holding m) (Summary low high today) =
-    record { bytes = replyLine (summaryTold (summaryIn (listOf m) low high today)); register = holding m }
+    record { bytes = replyLine (summaryTold (summaryIn (m .held) low high today)); register = holding m }
 reckoned (holding m) Dump = record { bytes = dumpLines m; register = holding m }
 reckoned r Wrong = record { bytes = replyLine WrongLine; register = r }
 

@@ -3,8 +3,8 @@
 --   valuesOf a      == the values of an answer that is to be written
 --   Says a n vs     == that answer has the number n and the values vs
 --   sizeValues r    == of set-up: the size
---   enterValues r   == of enter: the key, the levels, the nodes taken, the pages taken
---   recordValues r  == of find and next: the key, the price, the lease days, the last day
+--   enterValues r   == of enter: the key, the levels, the nodes and the pages in use
+--   recordValues r  == of remove, find and next: the key, the price, the lease days, the last day
 --   rangeValues r   == of range: the count, the first key not written
 --   summaryValues r == of summary: the count, the total balance, the key of the earliest last day
 --   balanceValues r == of balance: the balance
@@ -39,11 +39,11 @@ Says a n vs = (a .number ≡ n) × (valuesOf a ≡ vs)
 unfoldable pub sizeValues : Rattle.store.specs.SetUp.Reply → List ℕ
 sizeValues r = r .size ∷ []
 
--- "Enter gives key, levels, nodes taken, pages taken."
+-- "Enter gives key, levels, nodes taken, pages taken." M-106: "replies count blocks in use"
 unfoldable pub enterValues : Rattle.tree.specs.Book.Reply → List ℕ
 enterValues r = r .key ∷ r .levels ∷ r .nodes ∷ r .pages ∷ []
 
--- "Find and next give the record."
+-- "Find and next give the record." M-106: remove "gives the removed record"
 unfoldable pub recordValues : Rattle.search.specs.Find.Reply → List ℕ
 recordValues r = r .item .key ∷ r .item .price ∷ r .item .lease ∷ r .item .last ∷ []
 

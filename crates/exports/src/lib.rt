@@ -21,6 +21,7 @@ ghost use Rattle.search.specs.Next.{nextReply};
 ghost use Rattle.scan.specs.Range.{rangeOf};
 ghost use Rattle.scan.specs.Summary.{summaryOf};
 ghost use Rattle.insert.specs.Enter.{enterOf};
+ghost use Rattle.remove.specs.Remove.{removeOf};
 ghost use Rattle.index.specs.Answers.{reply, enterReply, rangeReply, summaryReply};
 ghost use Rattle.exports.specs.Reply.{filled, valuesOf, Says, sizeValues, enterValues, recordValues, rangeValues};
 ghost use Rattle.exports.specs.Reply.{summaryValues, balanceValues, keyValues, labelValues};
@@ -271,6 +272,16 @@ pub extern "C" fn plots_enter(
         last: last,
     };
     put_answer(reply, enter_answer(index::enter(store, record)))
+}
+
+// Removes the record with a key and gives it, or none: refused with 3 or 9 before any word of the store is written.
+#[no_mangle]
+pub extern "C" fn plots_remove(store: &mut [u32], key: u32, reply: &mut [u64]) -> u32
+    ensures { λ r. ⌜ (let a = removeOf Plots (now (store .entry)) key in
+        (r ≡ a .reply .number) × (now (store .exit) ≡ a .words)
+        × (now (reply .exit) ≡ filled (recordValues (a .reply)) (now (reply .entry)))) ⌝ }
+{
+    put_answer(reply, find_answer(index::remove(store, key)))
 }
 
 // The record with a key, or none.

@@ -26,8 +26,10 @@ use Rattle.scan.specs.Range.{ranged, listed, rangeOf}
 use Rattle.scan.specs.Summary.{summed, summaryOf}
 use Rattle.insert.specs.Enter.{enterTests, done}
 use Rattle.insert.proofs.Refusals.{enter-zero, enter-refused}
-use Rattle.index.specs.Calls.{Call, setUp, enter, find, next, range, summary, run, numberOf}
-use Rattle.index.specs.Checks.{sound, checks, Done}
+use Rattle.search.specs.Descent.{descent}
+use Rattle.remove.specs.Remove.{planOf, carriedOut, foundOf, removeOf}
+use Rattle.index.specs.Calls.{Call, setUp, enter, remove, find, next, range, summary, run, numberOf}
+use Rattle.index.specs.Checks.{sound, joined, checks, Done}
 use Rattle.index.specs.Demands.{Numbered}
 
 module _ (f : Format) (c : Call) (s : List ℕ) where
@@ -69,6 +71,29 @@ enter-numbered f it s =
       | no z ↦ with-number f (enter it) s _ z refl (ap (λ a. a .reply .number) (enter-refused f s it _ refl z))
       | yes e ↦ with-none f (enter it) s e (ap (λ a. a .reply .number) (enter-zero f s it e))
     ]
+
+-- remove: what find finds, and where it finds the record, what would join
+remove-numbered : (f : Format) (k : ℕ) (s : List ℕ) → Numbered f (remove k) s
+unfolding removeOf foundOf carriedOut joined
+remove-numbered f k s =
+    elim (bool-cases (headRule f s)) [
+      | inr a ↦ with-number f (remove k) s 3 (λ z. omega arith) (failing-here _ _ a) (rw (a, removeOf))
+      | inl a ↦ sought (findOf f s (headOf s) k) refl a
+    ]
+  where
+    sought : (x : Sought) → findOf f s (headOf s) k ≡ x → headRule f s ≡ true → Numbered f (remove k) s
+    sought Damaged e a =
+        with-number f (remove k) s 9 (λ z. omega arith) (failing-on _ _ a ∙ failing-here _ _ (ap sound e)) (rw (a, e, removeOf, foundOf))
+    sought Nothing e a =
+        with-none f (remove k) s (failing-none _ (a, (ap sound e, (ap (joined f s k) e, tt)))) (inr (rw (a, e, removeOf, foundOf)))
+    sought (Record it) e a =
+        elim (bool-cases (planOf f s (headOf s) k (descent f s (headOf s) k) .ok)) [
+          | inr b ↦
+              with-number f (remove k) s 9 (λ z. omega arith)
+              (failing-on _ _ a ∙ failing-on _ _ (ap sound e) ∙ failing-here _ _ (ap (joined f s k) e ∙ b)) (rw (a, e, removeOf, foundOf) (rw (b, carriedOut)))
+          | inl b ↦
+              with-none f (remove k) s (failing-none _ (a, (ap sound e, (ap (joined f s k) e ∙ b, tt)))) (inl (rw (a, e, removeOf, foundOf) (rw (b, carriedOut))))
+        ]
 
 -- find and next: what was sought, behind the head rule
 sought-numbered : (f : Format) (s : List ℕ) (a : Sought)
@@ -146,6 +171,7 @@ pub numbers : (f : Format) (c : Call) (s : List ℕ) → Numbered f c s
 unfolding findReply nextReply
 numbers f (setUp θ C N P) s = set-up-numbered f θ C N P s
 numbers f (enter it) s = enter-numbered f it s
+numbers f (remove k) s = remove-numbered f k s
 numbers f (find k) s = sought-numbered f s (findOf f s (headOf s) k)
 numbers f (next k) s = sought-numbered f s (nextOf f s (headOf s) true k)
 numbers f (range low high out) s = range-numbered f low high out s

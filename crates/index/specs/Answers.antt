@@ -26,7 +26,7 @@ reply NotFound = record { number = 1; item = noItem }
 reply HeadBroken = record { number = 3; item = noItem }
 reply DamageMet = record { number = 9; item = noItem }
 
--- "Enter gives key, levels, nodes taken, pages taken."; "record or today outside its limits: 6"; "key already held: 8"; "entry needs more
+-- "Enter gives key, levels, nodes taken, pages taken." (M-106: those in use); "record or today outside its limits: 6"; "key already held: 8"; "entry needs more
 -- blocks than remain: 10"
 abbrev pub enterReply : EnterAnswer → Rattle.tree.specs.Book.Reply
 enterReply (Entered k l n p) = record { number = 0; key = k; levels = l; nodes = n; pages = p }

@@ -41,14 +41,14 @@ module _ (f : Format) (C : ℕ) (rs : List Item) (i : ℕ) (within : i ≤ lengt
 -- what `copy_words` asks
 pub copy-fits : (f : Format) (C from to i w n : ℕ) (s : List ℕ) → Halvable f s C from to i → w ≡ words f → n ≡ word s from
     → (from + 1 + w * i + w * (n - i) ≤ length s) × (to + 1 + w * (n - i) ≤ length s)
-    × ((from + 1 + w * i + w * (n - i) ≤ to + 1) ⊎ (to + 1 + w * (n - i) ≤ from + 1 + w * i))
+    × ((from + 1 + w * i + w * (n - i) ≤ to + 1) ⊎ (to + 1 ≤ from + 1 + w * i))
 copy-fits f C from to i w n s ready is e = (omega (arith, ready .from-in, room), omega (arith, ready .to-in, room), apart (ready .apart))
   where
     room : 1 + w * i + w * (n - i) ≤ pageWords f C
     room = room-cut f C w n (pageWords f C) is refl i (omega (arith, ready .within)) (omega (arith, ready .fits))
 
     apart : (from + pageWords f C ≤ to) ⊎ (to + pageWords f C ≤ from)
-        → (from + 1 + w * i + w * (n - i) ≤ to + 1) ⊎ (to + 1 + w * (n - i) ≤ from + 1 + w * i)
+        → (from + 1 + w * i + w * (n - i) ≤ to + 1) ⊎ (to + 1 ≤ from + 1 + w * i)
     apart (inl h) = inl (omega (arith, room))
     apart (inr h) = inr (omega (arith, room))
 

@@ -23,7 +23,7 @@ use Rattle.lists.proofs.Elsewhere.{Elsewhere, part-beside, drop-beside}
 
 module _ {A : Type 0} where
   -- one element more behind a replaced part
-  replaced-more : (a n : ℕ) (ys : List A) (y : A) (xs : List A) → a + n < length xs → length ys ≡ n
+  pub replaced-more : (a n : ℕ) (ys : List A) (y : A) (xs : List A) → a + n < length xs → length ys ≡ n
       → set (replaced a n ys xs) (a + n) y ≡ replaced a (suc n) (ys ++ y ∷ []) xs
   unfolding replaced
   replaced-more a n ys y xs h e =
@@ -70,7 +70,7 @@ module _ (s : List ℕ) where
   pub copy-none : (from to : ℕ) → Copied from to 0 s
   copy-none from to = sym (replaced-none to s)
 
-  pub copy-turn : (from to n j : ℕ) (t : List ℕ) → from + n ≤ length s → to + n ≤ length s → (from + n ≤ to) ⊎ (to + n ≤ from) → j < n
+  pub copy-turn : (from to n j : ℕ) (t : List ℕ) → from + n ≤ length s → to + n ≤ length s → (from + n ≤ to) ⊎ (to ≤ from) → j < n
       → Copied from to j t → Copied from to (j + 1) (set t (to + j) (getD t (from + j) 0))
   copy-turn from to n j t a b d l e =
       rw (e, add-one j)
@@ -84,7 +84,7 @@ module _ (s : List ℕ) where
       size : length (row s from j) ≡ j
       size = length-row from j (omega arith)
 
-      read : (from + n ≤ to) ⊎ (to + n ≤ from) → getD old (from + j) 0 ≡ getD s (from + j) 0
+      read : (from + n ≤ to) ⊎ (to ≤ from) → getD old (from + j) 0 ≡ getD s (from + j) 0
       read (inl q) = replaced-below to j (row s from j) s (omega arith) size 0 (from + j) (omega arith)
       read (inr q) = replaced-above to j (row s from j) s (omega arith) size 0 (from + j) (omega arith)
 

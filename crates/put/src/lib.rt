@@ -19,7 +19,7 @@ ghost use Rattle.represent.specs.Image.{pageImage};
 ghost use Rattle.put.specs.Put.{Halvable, cutTo};
 
 // Moves n words up by so many places, the last one first.
-fn move_up(part: &mut [u32], from: usize, n: usize, by: usize)
+pub fn move_up(part: &mut [u32], from: usize, n: usize, by: usize)
     requires { ⌜ from + n + by ≤ length (now part) ⌝ }
     ensures { λ _. ⌜ now (part .exit) ≡ replaced (from + by) n (take n (drop from (now (part .entry)))) (now (part .entry)) ⌝ }
 {
@@ -82,9 +82,9 @@ pub fn low_count(page: &[u32], f: Format, bit: u32) -> usize
     i
 }
 
-// Copies n words to another place that they do not overlap.
-fn copy_words(store: &mut [u32], from: usize, to: usize, n: usize)
-    requires { ⌜ (from + n ≤ length (now store)) × (to + n ≤ length (now store)) × ((from + n ≤ to) ⊎ (to + n ≤ from)) ⌝ }
+// Copies n words to another place, the first one first: it lies below them, or they do not overlap it.
+pub fn copy_words(store: &mut [u32], from: usize, to: usize, n: usize)
+    requires { ⌜ (from + n ≤ length (now store)) × (to + n ≤ length (now store)) × ((from + n ≤ to) ⊎ (to ≤ from)) ⌝ }
     ensures { λ _. ⌜ now (store .exit) ≡ replaced to n (take n (drop from (now (store .entry)))) (now (store .entry)) ⌝ }
 {
     let mut j: usize = 0;
@@ -95,7 +95,7 @@ fn copy_words(store: &mut [u32], from: usize, to: usize, n: usize)
 }
 
 // Gives a page n records: its first n stay, and all words behind them are cleared.
-fn cut_page(part: &mut [u32], f: Format, capacity: u32, n: usize)
+pub fn cut_page(part: &mut [u32], f: Format, capacity: u32, n: usize)
     requires { ⌜ (n ≤ capacity) × (length (now part) ≡ pageWords f capacity) ⌝ }
     ensures { λ _. ⌜ now (part .exit) ≡ cutTo f capacity n (now (part .entry)) ⌝ }
 {

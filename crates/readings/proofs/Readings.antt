@@ -58,7 +58,7 @@ module _ (f : Format) (s : List ℕ) (h : Head) (k : ℕ) where
       (ap Record (page-head f (h .capacity) (pageAt f s h p) (it ∷ its) is (l .lawful) it its refl))
 
   -- the key's own page p, after the used bits
-  abbrev found : ℕ → ℕ → Sought
+  abbrev pub found : ℕ → ℕ → Sought
   found p used =
       elim (eqb p 0) [
         | true ↦ Nothing
@@ -80,10 +80,10 @@ module _ (f : Format) (s : List ℕ) (h : Head) (k : ℕ) where
             ]
       ]
 
-  abbrev Agree : ℕ → List Item → Type 0
+  abbrev pub Agree : ℕ → List Item → Type 0
   Agree used rs = All (λ it. it .key / 2 ^ (width f - used) ≡ k / 2 ^ (width f - used)) rs
 
-  sound : (p used : ℕ) (it : Item) (its : List Item) → Lawful f s h (p, it ∷ its) → Agree used (it ∷ its)
+  pub sound : (p used : ℕ) (it : Item) (its : List Item) → Lawful f s h (p, it ∷ its) → Agree used (it ∷ its)
       → soundPage f h (pageAt f s h p) k used ≡ true
   unfolding soundPage
   sound p used it its l a =
@@ -93,7 +93,7 @@ module _ (f : Format) (s : List ℕ) (h : Head) (k : ℕ) where
         page-agrees f (h .capacity) (pageAt f s h p) (it ∷ its) is (l .lawful) k used a,
       )
 
-  found-is : (x : Stretch) (used : ℕ) → Lawful f s h x → Agree used (x .1) → found (x .0) used ≡ firstWhere (λ it. eqb (it .key) k) (x .1)
+  pub found-is : (x : Stretch) (used : ℕ) → Lawful f s h x → Agree used (x .1) → found (x .0) used ≡ firstWhere (λ it. eqb (it .key) k) (x .1)
   unfolding firstWhere
   found-is (p, []) used l a = rw (eq-eqb p 0 (l .page), found)
   found-is (p, it ∷ its) used l a =

@@ -19,11 +19,11 @@ use Rattle.represent.specs.Rep.{Stretch, numbers, contents, Lawful, Rep}
 use Rattle.represent.proofs.LabelLaws.{label-low, label-high, ind-eq, ind-self, ind-other, each-of}
 use Rattle.represent.proofs.Links.{rep-once}
 
-abbrev upTo : ℕ → (ℕ → ℕ) → ℕ
+abbrev pub upTo : ℕ → (ℕ → ℕ) → ℕ
 upTo zero g = 0
 upTo (suc m) g = upTo m g + g (suc m)
 
-upTo-add : (m : ℕ) (g h : ℕ → ℕ) → upTo m (λ x. g x + h x) ≡ upTo m g + upTo m h
+pub upTo-add : (m : ℕ) (g h : ℕ → ℕ) → upTo m (λ x. g x + h x) ≡ upTo m g + upTo m h
 upTo-add zero g h = omega arith
 upTo-add (suc m) g h = omega (arith, upTo-add m g h)
 
@@ -35,7 +35,7 @@ upTo-none : (m n : ℕ) → m < n → upTo m (λ x. ind x n) ≡ 0
 upTo-none zero n h = refl
 upTo-none (suc m) n h = omega (arith, upTo-none m n (omega arith), ind-other (suc m) n (λ e. omega arith))
 
-upTo-one : (m n : ℕ) → 1 ≤ n → n ≤ m → upTo m (λ x. ind x n) ≡ 1
+pub upTo-one : (m n : ℕ) → 1 ≤ n → n ≤ m → upTo m (λ x. ind x n) ≡ 1
 upTo-one zero n low high = absurd (omega arith)
 upTo-one (suc m) n low high =
     elim (ℕ-discrete (suc m) n) [
@@ -43,11 +43,11 @@ upTo-one (suc m) n low high =
       | no e ↦ omega (arith, upTo-one m n low (omega arith), ind-other (suc m) n e)
     ]
 
-upTo-ones : (m : ℕ) (g : ℕ → ℕ) → ((x : ℕ) → 1 ≤ x → x ≤ m → g x ≡ 1) → upTo m g ≡ m
+pub upTo-ones : (m : ℕ) (g : ℕ → ℕ) → ((x : ℕ) → 1 ≤ x → x ≤ m → g x ≡ 1) → upTo m g ≡ m
 upTo-ones zero g h = refl
 upTo-ones (suc m) g h = omega (arith, upTo-ones m g (λ x low high. h x low (omega arith)), h (suc m) (omega arith) (omega arith))
 
-upTo-zero : (m : ℕ) (g : ℕ → ℕ) → ((x : ℕ) → 1 ≤ x → g x ≡ 0) → upTo m g ≡ 0
+pub upTo-zero : (m : ℕ) (g : ℕ → ℕ) → ((x : ℕ) → 1 ≤ x → g x ≡ 0) → upTo m g ≡ 0
 upTo-zero zero g h = refl
 upTo-zero (suc m) g h = omega (arith, upTo-zero m g h, h (suc m) (omega arith))
 
@@ -60,13 +60,13 @@ module _ (m : ℕ) where
   counted (leaf n) h = upTo-one m n (h .0) (h .1)
   counted (fork l r) h = upTo-add m (λ x. occ x l) (λ x. occ x r) ∙ ap₂ _+_ (counted l (h .0)) (counted r (h .1))
 
-  levels-counted : (bs : List (Trie ℕ)) → ((n : ℕ) → 1 ≤ occs n bs → (1 ≤ n) × (n ≤ m)) → upTo m (λ x. occs x bs) ≡ allLeaves (map shape bs)
+  pub levels-counted : (bs : List (Trie ℕ)) → ((n : ℕ) → 1 ≤ occs n bs → (1 ≤ n) × (n ≤ m)) → upTo m (λ x. occs x bs) ≡ allLeaves (map shape bs)
   levels-counted [] h = upTo-zero m (λ x. 0) (λ x low. refl)
   levels-counted (b ∷ bs) h =
       upTo-add m (λ x. occ x b) (λ x. occs x bs)
       ∙ ap₂ _+_ (counted b (each-of _ b (λ n o. h n (omega arith))) ∙ sym (leaves-shape b)) (levels-counted bs (λ n o. h n (omega arith)))
 
-  pages-counted : (f : Format) (s : List ℕ) (h : Head) (t : Trie Stretch) → Each (Lawful f s h) t → Each (λ n. n ≤ m) (numbers t)
+  pub pages-counted : (f : Format) (s : List ℕ) (h : Head) (t : Trie Stretch) → Each (Lawful f s h) t → Each (λ n. n ≤ m) (numbers t)
       → upTo m (λ x. occ x (numbers t)) ≡ pages (contents t)
   pages-counted f s h (leaf (p, [])) l high = upTo-zero m (λ x. ind x p) (λ x low. ind-other x p (λ e. omega (arith, l .page)))
   pages-counted f s h (leaf (p, r ∷ rs)) l high = upTo-one m p (l .page .0) high

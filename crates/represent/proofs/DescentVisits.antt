@@ -41,7 +41,7 @@ module _ {A : Type 0} where
   rest-drop (fork l r) (true ∷ k) = rest-drop r k
 
   module _ (P : ℕ → Trie A → Type 0) where
-    height-under : (b : Trie ℕ) (u : Trie A) (k : Key) → Over P b u → depth b k + height (under b u k) ≤ height u
+    pub height-under : (b : Trie ℕ) (u : Trie A) (k : Key) → Over P b u → depth b k + height (under b u k) ≤ height u
     height-under (leaf n) u k h = omega arith
     height-under (fork l r) (leaf x) k h = absurd h
     height-under (fork l r) (fork ul ur) [] h = omega (arith, height-under l ul [] (h .0))
@@ -68,7 +68,7 @@ set-last (suc l) z a ys = ap (λ xs. z ∷ xs) (set-last l z a ys)
 
 module _ (f : Format) (s : List ℕ) (h : Head) (k : ℕ) where
   -- one turn, at a node that keeps its rule
-  turn : (l n used H deep pointer : ℕ) (ys : List Step) → nodeRule h s (nodeStart h n) (suc l) ≡ true → H ≡ depthWord s (nodeStart h n)
+  pub turn : (l n used H deep pointer : ℕ) (ys : List Step) → nodeRule h s (nodeStart h n) (suc l) ≡ true → H ≡ depthWord s (nodeStart h n)
       → used + H ≤ width f
       → entryOf s (nodeStart h n) (entryNumber (width f) k used H) ≡ (deep, pointer)
       → descend f s h k (suc l) n used (replicate (suc l) noStep ++ ys)
@@ -89,7 +89,7 @@ above-length zero θ t h = omega arith
 above-length (suc n) θ (leaf x) h = omega arith
 above-length (suc n) θ (fork l r) h = omega (arith, above-length n θ (cut θ (fork l r)) h, height-cut θ (fork l r))
 
-tower-length : (θ : ℕ) (t : Shape) → 1 ≤ θ → length (tower θ t) ≤ max 1 (height t)
+pub tower-length : (θ : ℕ) (t : Shape) → 1 ≤ θ → length (tower θ t) ≤ max 1 (height t)
 unfolding tower
 tower-length θ t h = omega (arith, above-length (height t) θ (cut θ t) h, height-cut θ t)
 

@@ -33,7 +33,7 @@ use Rattle.tree.proofs.TrieLaws.{shape-relabel}
 use Rattle.represent.proofs.Counting.{rep-nodes, rep-pages, all-nodes, all-pages, released-node, released-page}
 use Rattle.represent.proofs.Keyed.{lawful-bounded}
 
-width-low : (f : Format) → 7 ≤ width f
+pub width-low : (f : Format) → 7 ≤ width f
 unfolding width
 width-low Plots = omega arith
 
@@ -48,7 +48,7 @@ module _ (θ : ℕ) (node : ℕ → List ℕ) (root top : ℕ) where
   top-level k u (b ∷ bs) p = omega (arith, top-level (suc k) b bs (p .1))
 
   -- there is a level
-  root-in : (u : Trie ℕ) (bs : List (Trie ℕ)) → Nodes θ node root top 0 u bs → Links node bs → (1 ≤ occs root bs) × (1 ≤ top)
+  pub root-in : (u : Trie ℕ) (bs : List (Trie ℕ)) → Nodes θ node root top 0 u bs → Links node bs → (1 ≤ occs root bs) × (1 ≤ top)
   root-in u [] p l = absurd l
   root-in u (b ∷ bs) p l = (root-label 1 b bs (p .1), omega (arith, top-level 1 b bs (p .1)))
 

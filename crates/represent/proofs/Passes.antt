@@ -35,12 +35,12 @@ use Rattle.represent.proofs.Keyed.{keyed-own}
 
 -- pages
 module _ (f : Format) (s : List ℕ) (h : Head) where
-  page-rule : (x : Stretch) → Lawful f s h x → (x .0 ≡ 0 → ⊥) → pageRule f (h .capacity) (pageAt f s h (x .0)) ≡ true
+  pub page-rule : (x : Stretch) → Lawful f s h x → (x .0 ≡ 0 → ⊥) → pageRule f (h .capacity) (pageAt f s h (x .0)) ≡ true
   page-rule (p, []) l n = absurd (n (l .page))
   page-rule (p, r ∷ rs) l n =
       page-passes f (h .capacity) (pageAt f s h p) (r ∷ rs) (l .page .1) (l .lawful) (omega arith) (l .fits) (l .sorted)
 
-  page-agreed : (x : Stretch) (k used : ℕ) → Lawful f s h x → (x .0 ≡ 0 → ⊥)
+  pub page-agreed : (x : Stretch) (k used : ℕ) → Lawful f s h x → (x .0 ≡ 0 → ⊥)
       → Prefix keyOf (width f - used) (k / 2 ^ (width f - used)) (x .1)
       → agrees f (pageAt f s h (x .0)) k used ≡ true
   page-agreed (p, []) k used l n a = absurd (n (l .page))
@@ -57,7 +57,7 @@ agrees-passes f s b0 bs k r low =
     (keyed-own (width f) 0 k b0 (r .pages .keyed) (div-eq-of-lt low)))
 
 -- a trie over another: P of each leaf and what stands there, whose labels are labels of the whole
-over-each : (P : ℕ → Trie ℕ → Type 0) (Q : ℕ → Type 0) (b u : Trie ℕ)
+pub over-each : (P : ℕ → Trie ℕ → Type 0) (Q : ℕ → Type 0) (b u : Trie ℕ)
     → ((n : ℕ) (v : Trie ℕ) → 1 ≤ occ n b → ((x : ℕ) → occ x v ≤ occ x u) → P n v → Q n) → Over P b u → Each Q b
 over-each P Q b u g h =
     each-of Q b (λ n o.

@@ -166,7 +166,7 @@ fn own_entry(store: &[u32], f: Format, head: Head, key: u64, n: u32, used: u32) 
 }
 
 // Visits node n at this level, after the used bits.
-fn visit_node(
+pub fn visit_node(
     store: &[u32],
     f: Format,
     head: Head,

@@ -27,11 +27,11 @@ use Rattle.store.proofs.Places.{part-word, node-words-low, page-words-low}
 use Rattle.store.proofs.Places.{node-start, node-end, nodes-apart, nodes-end, page-start, page-end, pages-apart}
 
 -- all that a store's layout goes by are its sizes
-node-layout : (s : List ℕ) (h h′ : Head) (n : ℕ) → SameSizes h h′ → nodeAt s h′ n ≡ nodeAt s h n
+pub node-layout : (s : List ℕ) (h h′ : Head) (n : ℕ) → SameSizes h h′ → nodeAt s h′ n ≡ nodeAt s h n
 unfolding nodeAt nodeStart
 node-layout s h h′ n k = rw (k .theta)
 
-page-layout : (f : Format) (s : List ℕ) (h h′ : Head) (p : ℕ) → SameSizes h h′ → pageAt f s h′ p ≡ pageAt f s h p
+pub page-layout : (f : Format) (s : List ℕ) (h h′ : Head) (p : ℕ) → SameSizes h h′ → pageAt f s h′ p ≡ pageAt f s h p
 unfolding pageAt pageStart
 page-layout f s h h′ p k = rw (k .theta, k .capacity, k .nodes)
 
@@ -67,7 +67,7 @@ sized-long f s ok = omega (arith, nodes-end (headOf s) f, ok .long)
 
 -- a write of n words from number a on, behind the sizes
 module _ {a n : ℕ} {s t : List ℕ} (e : Elsewhere 0 a n s t) where
-  sizes-kept : 4 ≤ a → SameSizes (headOf s) (headOf t)
+  pub sizes-kept : 4 ≤ a → SameSizes (headOf s) (headOf t)
   unfolding headOf
   sizes-kept h =
       record {
@@ -93,13 +93,13 @@ module _ {a n : ℕ} {s t : List ℕ} (e : Elsewhere 0 a n s t) where
       at j l h (inl b) = e .above j (omega arith)
       at j l h (inr b) = e .below j (omega arith)
 
-  node-kept : 4 ≤ a → (x : ℕ)
+  pub node-kept : 4 ≤ a → (x : ℕ)
       → (nodeStart (headOf s) x + nodeWords (headOf s .theta) ≤ a) ⊎ (a + n ≤ nodeStart (headOf s) x) → nodeOf t x ≡ nodeOf s x
   unfolding nodeAt
   node-kept h x d =
       node-layout t (headOf s) (headOf t) x (sizes-kept h) ∙ part-beside 0 e (nodeStart (headOf s) x) (nodeWords (headOf s .theta)) d
 
-  page-kept : 4 ≤ a → (f : Format) (p : ℕ)
+  pub page-kept : 4 ≤ a → (f : Format) (p : ℕ)
       → (pageStart f (headOf s) p + pageWords f (headOf s .capacity) ≤ a) ⊎ (a + n ≤ pageStart f (headOf s) p) → pageOf f t p ≡ pageOf f s p
   unfolding pageAt
   page-kept h f p d =

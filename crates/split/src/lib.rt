@@ -18,7 +18,7 @@ ghost use Rattle.split.specs.Block.{lower, upper, aim, linked, top};
 ghost use Rattle.split.specs.Value.{withEntry, withEntries, parted, running, Shallow, localAt, Reached};
 
 // Sets entry j of a node block.
-fn set_entry(part: &mut [u32], j: usize, h: u32, p: u32)
+pub fn set_entry(part: &mut [u32], j: usize, h: u32, p: u32)
     requires { ⌜ 5 + 2 * j < length (now part) ⌝ }
     ensures { λ _. ⌜ now (part .exit) ≡ withEntry (now (part .entry)) j (h, p) ⌝ }
 {
@@ -27,7 +27,7 @@ fn set_entry(part: &mut [u32], j: usize, h: u32, p: u32)
 }
 
 // Sets n entries of a node block from `start` on.
-fn fill(part: &mut [u32], start: usize, n: usize, h: u32, p: u32)
+pub fn fill(part: &mut [u32], start: usize, n: usize, h: u32, p: u32)
     requires { ⌜ 4 + 2 * (start + n) ≤ length (now part) ⌝ }
     ensures { λ _. ⌜ now (part .exit) ≡ withEntries (now (part .entry)) start n (λ j. (h, p)) ⌝ }
 {
@@ -54,7 +54,7 @@ fn spread(part: &mut [u32], n: usize)
 }
 
 // Of the first entries every step-th: n of them.
-fn thin(part: &mut [u32], step: usize, n: usize)
+pub fn thin(part: &mut [u32], step: usize, n: usize)
     requires { ⌜ (1 ≤ step) × (4 + 2 * (n * step) ≤ length (now part)) ⌝ }
     ensures { λ _. ⌜ now (part .exit) ≡ withEntries (now (part .entry)) 0 n (λ j. entryOf (now (part .entry)) 0 (j * step)) ⌝ }
 {
@@ -97,7 +97,7 @@ fn lower_entries(node: &[u32], start: usize, n: usize, to: &mut [u32]) -> u32
 }
 
 // Writes a block's first four words and clears the words behind its entries in use.
-fn settle(part: &mut [u32], theta: u32, depth: u32, level: u32, back: u32, forward: u32)
+pub fn settle(part: &mut [u32], theta: u32, depth: u32, level: u32, back: u32, forward: u32)
     requires { ⌜ (theta ≤ 6) × (depth ≤ theta) × (length (now part) ≡ nodeWords theta) ⌝ }
     ensures { λ _. ⌜ now (part .exit) ≡ block theta depth level back forward (entryOf (now (part .entry)) 0) ⌝ }
 {
@@ -110,13 +110,13 @@ fn settle(part: &mut [u32], theta: u32, depth: u32, level: u32, back: u32, forwa
 }
 
 // A run of entries: where it begins, and how many they are.
-struct Run {
-    start: usize,
-    n: usize,
+pub struct Run {
+    pub start: usize,
+    pub n: usize,
 }
 
 // The run of entry i, by the node's depth and the entry's local depth. A run of more local depth than the node has is one entry.
-fn run_of(depth: u32, local: u32, i: usize) -> Run
+pub fn run_of(depth: u32, local: u32, i: usize) -> Run
     requires { ⌜ (depth ≤ 6) × (i < 2 ^ depth) ⌝ }
     ensures { λ r. ⌜ (r .n ≡ 2 ^ (depth - local)) × (r .start ≡ i - i % r .n) × (r .start + r .n ≤ 2 ^ depth) ⌝ }
 {
@@ -246,7 +246,7 @@ fn split_into(
 }
 
 // Copies words over a part of as many.
-fn copy(part: &mut [u32], words: &[u32])
+pub fn copy(part: &mut [u32], words: &[u32])
     requires { ⌜ length (now words) ≡ length (now part) ⌝ }
     ensures { λ _. ⌜ now (part .exit) ≡ now (words .entry) ⌝ }
 {
@@ -259,7 +259,7 @@ fn copy(part: &mut [u32], words: &[u32])
 }
 
 // Writes words into block n, which is lent as a part of the store.
-fn put_block(store: &mut [u32], head: Head, n: u32, words: &[u32])
+pub fn put_block(store: &mut [u32], head: Head, n: u32, words: &[u32])
     requires { ⌜ (head .theta ≤ 6) × (length (now words) ≡ nodeWords (head .theta))
         × (nodeStart head n + nodeWords (head .theta) ≤ length (now store)) ⌝ }
     ensures { λ _. ⌜ now (store .exit)

@@ -15,10 +15,6 @@ pub trait Index {
     /// Enters a record with a new key: whether it fits.
     fn enter(&mut self, record: Record) -> bool;
     fn remove(&mut self, key: u32) -> Option<Record>;
-    /// Whether it has a removal.
-    fn removes(&self) -> bool {
-        true
-    }
     fn find(&mut self, key: u32) -> Option<Record>;
     /// The record with the smallest key above the given one.
     fn next(&mut self, key: u32) -> Option<Record>;
@@ -54,12 +50,8 @@ impl Index for Proved {
         }
     }
 
-    fn remove(&mut self, _: u32) -> Option<Record> {
-        None
-    }
-
-    fn removes(&self) -> bool {
-        false
+    fn remove(&mut self, key: u32) -> Option<Record> {
+        self.0.remove(key).expect("a sound store")
     }
 
     fn find(&mut self, key: u32) -> Option<Record> {

@@ -40,7 +40,7 @@ const REPLACE: usize = 6;
 const REMOVE_ALL: usize = 7;
 const COLUMNS: [&str; 4] = ["proved", "plain", "BTreeMap", "SQLite"];
 
-/// Nanoseconds by operation; per record for range and summary. `f64::MAX`: not measured.
+/// Nanoseconds by operation; per record for range and summary.
 type Times = [f64; 8];
 
 /// What the tree of a set takes.
@@ -90,9 +90,6 @@ fn measure(index: &mut impl Index, work: &Work, passes: usize, best: &mut Times)
     let count = work.records.len() as f64;
     let mut out = vec![0; 4 * work.records.len()];
     for (operation, best) in best.iter_mut().enumerate() {
-        if operation >= REPLACE && !index.removes() {
-            continue;
-        }
         for _ in 0..passes {
             prepare(index, work, operation);
             let start = Instant::now();
@@ -148,6 +145,8 @@ fn run(pattern: Pattern, capacity: u32, count: usize, rounds: usize) -> Row {
     if fits {
         assert_eq!(answers(&mut proved, work), expected, "the proved library's answers differ");
         assert_eq!(answers(&mut plain, work), expected, "plain Rust's answers differ");
+        perform(&mut proved, work, REPLACE, &mut []);
+        assert_eq!(answers(&mut proved, work), expected, "the proved library's answers differ after removals");
         perform(&mut plain, work, REPLACE, &mut []);
         assert_eq!(answers(&mut plain, work), expected, "plain Rust's answers differ after removals");
     }
@@ -188,7 +187,7 @@ fn commas(number: usize) -> String {
 
 /// The time of one column, if it was measured.
 fn measured(row: &Row, column: usize, operation: usize) -> Option<f64> {
-    row.times[column].map(|times| times[operation]).filter(|&time| time < f64::MAX)
+    row.times[column].map(|times| times[operation])
 }
 
 fn print_tables(rows: &[Row]) {
@@ -219,7 +218,7 @@ fn print_tables(rows: &[Row]) {
                         _ => format!("{time:.1}"),
                     },
                     None if column == 3 => "not installed".into(),
-                    None if column == 0 && row.shape.is_none() => "does not fit".into(),
+                    None if column == 0 => "does not fit".into(),
                     None => String::new(),
                 };
                 print!(" {cell:>width$} |", width = if column == 1 { 6 } else { 15 });

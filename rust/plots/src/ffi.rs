@@ -1,4 +1,4 @@
-//! The ten functions of `plots.h` over slices. Each returns the answer's number and writes the answer's values to the
+//! The eleven functions of `plots.h` over slices. Each returns the answer's number and writes the answer's values to the
 //! front of `reply`, as far as they fit; its other words stay. [`Store`](crate::Store) is made of these.
 //!
 //! Every function is defined on any words and any arguments, so all of them are safe. What the library asks of a slice
@@ -28,6 +28,7 @@ mod exports {
             reply: *mut u64,
             reply_words: usize,
         ) -> u32;
+        pub fn plots_remove(store: *mut u32, store_words: usize, key: u32, reply: *mut u64, reply_words: usize) -> u32;
         pub fn plots_find(store: *const u32, store_words: usize, key: u32, reply: *mut u64, reply_words: usize) -> u32;
         pub fn plots_next(store: *const u32, store_words: usize, key: u32, reply: *mut u64, reply_words: usize) -> u32;
         pub fn plots_range(
@@ -80,6 +81,15 @@ pub fn enter(store: &mut [u32], key: u32, price: u32, lease: u32, last: u32, rep
     let (reply, reply_words) = (reply.as_mut_ptr(), reply.len());
     // SAFETY: both slices are lent mutably for the call, so they are valid for writes and do not overlap.
     unsafe { exports::plots_enter(store, store_words, key, price, lease, last, reply, reply_words) }
+}
+
+/// Takes the record with a key out. Values: the key, the price, the lease days, the last day. Numbers: 0, 1, 3, 9.
+#[inline]
+pub fn remove(store: &mut [u32], key: u32, reply: &mut [u64]) -> u32 {
+    let (store, store_words) = (store.as_mut_ptr(), store.len());
+    let (reply, reply_words) = (reply.as_mut_ptr(), reply.len());
+    // SAFETY: both slices are lent mutably for the call, so they are valid for writes and do not overlap.
+    unsafe { exports::plots_remove(store, store_words, key, reply, reply_words) }
 }
 
 /// The record with a key. Values: the key, the price, the lease days, the last day. Numbers: 0, 1, 3, 9.

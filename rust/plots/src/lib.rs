@@ -26,6 +26,9 @@
 //! assert_eq!(store.summary(1, u32::MAX, 46000)?, Summary { count: 3, total: 684496, earliest: Some(1073741824) });
 //! let keys: Result<Vec<u32>, Refusal> = store.range(1, u32::MAX).map(|record| Ok(record?.key)).collect();
 //! assert_eq!(keys?, [1073741824, 2147483648, 3221225472]);
+//!
+//! assert_eq!(store.remove(3221225472)?, Some(perpetual));
+//! assert_eq!(store.find(3221225472)?, None);
 //! # Ok::<(), Refusal>(())
 //! ```
 #![deny(missing_docs)]

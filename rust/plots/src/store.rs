@@ -90,6 +90,30 @@ impl<W: AsRef<[u32]> + AsMut<[u32]>> Store<W> {
             number => Err(Refusal::of(number)),
         }
     }
+
+    /// Takes the record with a key out and gives it. Blocks that it leaves are released; the next entries take them first.
+    /// Refused: `HeadBroken`, `Damaged`.
+    ///
+    /// ```
+    /// use plots::{Entered, Record, Refusal, Sizes, Store};
+    ///
+    /// let mut store = Store::new(Sizes { theta: 6, capacity: 1, nodes: 76, pages: 2 })?;
+    /// let record = Record { key: u32::MAX, price: 100, lease: 10, last: 500 };
+    /// store.enter(record)?;
+    /// // The two highest keys need 76 nodes, each of them alone needs one.
+    /// let other = Record { key: u32::MAX - 1, ..record };
+    /// assert_eq!(store.enter(other)?, Entered { key: u32::MAX - 1, levels: 6, nodes: 76, pages: 2 });
+    /// assert_eq!(store.remove(u32::MAX)?, Some(record));
+    /// assert_eq!(store.remove(u32::MAX)?, None);
+    /// assert_eq!(store.enter(record)?, Entered { key: u32::MAX, levels: 6, nodes: 76, pages: 2 });
+    /// # Ok::<(), Refusal>(())
+    /// ```
+    #[inline]
+    pub fn remove(&mut self, key: u32) -> Result<Option<Record>, Refusal> {
+        let mut reply = [0; 4];
+        let number = ffi::remove(self.words.as_mut(), key, &mut reply);
+        found(number, &reply)
+    }
 }
 
 impl<W: AsRef<[u32]>> Store<W> {

@@ -6,8 +6,8 @@
 mod common;
 
 use common::{
-    bend, circle, damage, elsewhere, joined_circle, other, record, size, tangle, too_deep, too_deep_beside, unlawful,
-    Keys, Rng,
+    bend, circle, damage, damage_around, elsewhere, joined_circle, other, record, size, tangle, too_deep,
+    too_deep_beside, unlawful, Keys, Rng,
 };
 use plain::Record;
 use plots::{ffi, Label, Sizes, Store};
@@ -17,6 +17,7 @@ use std::ops::Range;
 enum Call {
     SetUp { theta: u32, capacity: u32, nodes: u32, pages: u32 },
     Enter(Record),
+    Remove(u32),
     Find(u32),
     Next(u32),
     Range { low: u32, high: u32 },
@@ -28,9 +29,10 @@ enum Call {
 }
 
 /// The operations in the order of `Call::index`, each with the numbers that it can answer.
-const OPERATIONS: [(&str, &[usize]); 10] = [
+const OPERATIONS: [(&str, &[usize]); 11] = [
     ("set_up", &[0, 4, 5]),
     ("enter", &[0, 3, 6, 8, 9, 10]),
+    ("remove", &[0, 1, 3, 9]),
     ("find", &[0, 1, 3, 9]),
     ("next", &[0, 1, 3, 9]),
     ("range", &[0, 3, 7, 9]),
@@ -46,14 +48,15 @@ impl Call {
         match self {
             Call::SetUp { .. } => 0,
             Call::Enter(_) => 1,
-            Call::Find(_) => 2,
-            Call::Next(_) => 3,
-            Call::Range { .. } => 4,
-            Call::Summary { .. } => 5,
-            Call::Balance { .. } => 6,
-            Call::KeyOf { .. } => 7,
-            Call::LabelOf(_) => 8,
-            Call::Convert(_) => 9,
+            Call::Remove(_) => 2,
+            Call::Find(_) => 3,
+            Call::Next(_) => 4,
+            Call::Range { .. } => 5,
+            Call::Summary { .. } => 6,
+            Call::Balance { .. } => 7,
+            Call::KeyOf { .. } => 8,
+            Call::LabelOf(_) => 9,
+            Call::Convert(_) => 10,
         }
     }
 
@@ -68,6 +71,10 @@ impl Call {
             Call::Enter(record) => {
                 let a = plain::enter(store, record);
                 (a.number, vec![a.key.into(), a.levels.into(), a.nodes.into(), a.pages.into()])
+            }
+            Call::Remove(key) => {
+                let a = plain::remove(store, key);
+                (a.number, words(a.record))
             }
             Call::Find(key) => {
                 let a = plain::find(store, key);
@@ -109,6 +116,7 @@ impl Call {
         match self {
             Call::SetUp { theta, capacity, nodes, pages } => ffi::set_up(store, theta, capacity, nodes, pages, reply),
             Call::Enter(Record { key, price, lease, last }) => ffi::enter(store, key, price, lease, last, reply),
+            Call::Remove(key) => ffi::remove(store, key, reply),
             Call::Find(key) => ffi::find(store, key, reply),
             Call::Next(key) => ffi::next(store, key, reply),
             Call::Range { low, high } => ffi::range(store, low, high, out, reply),
@@ -132,6 +140,7 @@ impl Call {
             Call::Enter(record) => store
                 .enter(record.words().into())
                 .map(|a| vec![a.key.into(), a.levels.into(), a.nodes.into(), a.pages.into()]),
+            Call::Remove(key) => store.remove(key).map(|record| record.map_or_else(Vec::new, words)),
             Call::Find(key) => store.find(key).map(|record| record.map_or_else(Vec::new, words)),
             Call::Next(key) => store.next(key).map(|record| record.map_or_else(Vec::new, words)),
             Call::Range { low, high } => store.range_into(low, high, out).map(|a| vec![a.count as u64, key(a.more)]),
@@ -149,7 +158,7 @@ impl Call {
             }
             Call::Convert(key) => plots::convert(key).map(|key| vec![key.into()]),
         };
-        let values = [1, 4, 4, 4, 2, 3, 1, 1, 4, 1][self.index()];
+        let values = [1, 4, 4, 4, 4, 2, 3, 1, 1, 4, 1][self.index()];
         match answer {
             Ok(none) if none.is_empty() => (1, vec![0; values]),
             Ok(values) => (0, values),
@@ -189,7 +198,7 @@ struct Pair {
 }
 
 #[derive(Default)]
-struct Counts([[u64; 12]; 10]);
+struct Counts([[u64; 12]; 11]);
 
 impl Pair {
     fn new(words: &[u32]) -> Pair {
@@ -242,11 +251,6 @@ impl Pair {
         let length = self.words().len();
         self.call_on(call, length, rng, counts)
     }
-
-    /// Plain Rust's removal on both, for the blocks that it releases.
-    fn remove(&mut self, key: u32) {
-        assert_eq!(plain::remove(self.proved.words(), key), plain::remove(self.plain.words(), key));
-    }
 }
 
 impl Counts {
@@ -295,9 +299,9 @@ impl Calls {
         }
     }
 
-    /// A call on the store: readings and entries.
+    /// A call on the store: readings, entries and removals.
     fn draw(&mut self, rng: &mut Rng) -> Call {
-        match rng.below(10) {
+        match rng.below(11) {
             0..=2 => {
                 let key = if rng.chance(80) { self.keys.draw(rng) } else { self.key(rng) };
                 Call::Enter(if rng.chance(5) { unlawful(key, rng) } else { record(key, rng) })
@@ -308,10 +312,11 @@ impl Calls {
                 let (low, high) = self.bounds(rng);
                 Call::Range { low, high }
             }
-            _ => {
+            9 => {
                 let (low, high) = self.bounds(rng);
                 Call::Summary { low, high, today: day(rng) }
             }
+            _ => Call::Remove(if rng.chance(80) { rng.one_of(&self.held) } else { self.key(rng) }),
         }
     }
 }
@@ -395,7 +400,7 @@ fn history(pair: &mut Pair, calls: &mut Calls, length: u32, rng: &mut Rng, count
             removals = rng.one_of(&[0, 10, 50]);
         }
         if rng.chance(removals) {
-            pair.remove(rng.one_of(&calls.held));
+            pair.call(Call::Remove(rng.one_of(&calls.held)), rng, counts);
         }
         let call = calls.draw(rng);
         let number = pair.call(call, rng, counts);
@@ -440,9 +445,11 @@ fn sound_stores() {
         assert!(pair.proved == pair.plain);
         history(&mut pair, &mut calls, 200, rng, &mut counts);
         // Half of them go, and others take the blocks that they leave.
-        for at in 0..calls.held.len() / 2 {
-            pair.remove(calls.held[2 * at]);
+        for &key in calls.held.iter().step_by(2) {
+            let answer = plain::remove(pair.plain.words(), key);
+            assert_eq!(ffi::remove(pair.proved.words(), key, &mut []), answer.number);
         }
+        assert!(pair.proved == pair.plain);
         assert!(pair.words()[11] > 0);
         for _ in 0..5_000 {
             let key = calls.keys.draw(rng);
@@ -484,7 +491,7 @@ fn damaged_stores() {
             }
         }
         for _ in 0..rng.below(calls.held.len() as u32) {
-            sound.remove(rng.one_of(&calls.held));
+            sound.call(Call::Remove(rng.one_of(&calls.held)), rng, &mut counts);
         }
         for _ in 0..20 {
             let mut pair = Pair::new(sound.words());
@@ -499,7 +506,7 @@ fn damaged_stores() {
             if rng.chance(20) {
                 pair.change(|words| some_damage(words, rng));
                 for _ in 0..6 {
-                    pair.remove(rng.one_of(&calls.held));
+                    pair.call(Call::Remove(rng.one_of(&calls.held)), rng, &mut counts);
                     let call = Call::Enter(record(calls.keys.draw(rng), rng));
                     pair.call(call, rng, &mut counts);
                 }
@@ -526,17 +533,45 @@ fn bent_chains() {
         let (mut sound, mut calls) = start(rng, theta, capacity, nodes, pages, &mut counts);
         history(&mut sound, &mut calls, 60, rng, &mut counts);
         for _ in 0..rng.below(30) {
-            sound.remove(rng.one_of(&calls.held));
+            sound.call(Call::Remove(rng.one_of(&calls.held)), rng, &mut counts);
         }
         for _ in 0..40 {
             let mut pair = Pair::new(sound.words());
             pair.change(|words| bend(words, rng));
             let key = if rng.chance(50) { rng.one_of(&calls.held) ^ rng.below(4) } else { calls.keys.draw(rng) };
             pair.call(Call::Enter(record(key, rng)), rng, &mut counts);
+            // The blocks that a removal releases join the bent chain.
+            pair.call(Call::Remove(rng.one_of(&calls.held)), rng, &mut counts);
         }
     }
     println!("chains bent: {} calls, enter {:?}", counts.calls(), counts.0[1]);
     assert!([0, 3, 8, 9, 10].iter().all(|&number| counts.0[1][number] > 1_000));
+}
+
+/// Removals, each in a store where something around its key is changed, and none in some.
+#[test]
+fn around_the_key() {
+    let mut counts = Counts::default();
+    for seed in 0..4_000 {
+        let rng = &mut Rng(seed ^ 0xa404_0000_0000);
+        let [theta, capacity, nodes, pages] = some_sizes(rng);
+        let (mut sound, mut calls) = start(rng, theta, capacity.min(4), nodes, pages, &mut counts);
+        history(&mut sound, &mut calls, 80, rng, &mut counts);
+        calls.held.retain(|&key| plain::find(sound.words(), key).number == 0);
+        if calls.held.is_empty() {
+            continue;
+        }
+        for _ in 0..60 {
+            let mut pair = Pair::new(sound.words());
+            let key = rng.one_of(&calls.held);
+            if rng.chance(80) {
+                pair.change(|words| damage_around(words, key, rng));
+            }
+            pair.call(Call::Remove(key), rng, &mut counts);
+        }
+    }
+    println!("around the key: {} calls, remove {:?}", counts.calls(), counts.0[2]);
+    assert!([0, 1, 9].iter().all(|&number| counts.0[2][number] > 1_000));
 }
 
 /// Words of no store, most of them with a lawful head.
@@ -579,13 +614,16 @@ fn tangles() {
         if rng.chance(50) {
             pair.change(|words| damage(words, rng));
         }
+        for &key in &held {
+            Pair::new(pair.words()).call(Call::Remove(key), rng, &mut counts);
+        }
         let mut calls = Calls { keys: Keys::new(6, rng), held };
         for _ in 0..10 {
             let call = calls.draw(rng);
             pair.call(call, rng, &mut counts);
         }
     }
-    println!("tangles: {} calls", counts.calls());
+    println!("tangles: {} calls, remove {:?}", counts.calls(), counts.0[2]);
 }
 
 /// Every single word of some small stores changed, in several ways.
@@ -628,7 +666,7 @@ fn made_stores() {
     for (words, key) in stores {
         let mut calls = Calls { keys: Keys::new(6, rng), held: vec![key] };
         for key in [0, 1, key - 1, key, key + 1, u32::MAX] {
-            for call in [Call::Find(key), Call::Next(key), Call::Enter(record(key, rng))] {
+            for call in [Call::Find(key), Call::Next(key), Call::Enter(record(key, rng)), Call::Remove(key)] {
                 Pair::new(&words).call(call, rng, &mut counts);
             }
         }

@@ -1,5 +1,5 @@
-//! Histories of random entries through the proved library, with removals between them: after every accepted call the store is
-//! sound and holds the tree of its records, as `plain::checker` judges; the same set in several orders ends in the same tree.
+//! Histories of random entries and removals through the proved library: after every accepted call the store is sound and holds
+//! the tree of its records, as `plain::checker` judges; the same set in several orders ends in the same tree.
 
 #[path = "../../plain/tests/common/mod.rs"]
 mod common;
@@ -32,14 +32,6 @@ fn expected(book: &Book, record: &Record, sizes: Sizes) -> Result<Entered, Refus
     Ok(Entered { key: record.key, levels: tree.levels(), nodes: tree.nodes(), pages: tree.pages() })
 }
 
-/// Plain Rust's removal of a held key, for the blocks that it releases.
-fn remove(store: Store<Vec<u32>>, key: u32) -> (Store<Vec<u32>>, Record) {
-    let mut words = store.into_words();
-    let answer = plain::remove(&mut words, key);
-    assert_eq!(answer.number, 0);
-    (Store::over(words), answer.record.words().into())
-}
-
 /// One history in words that are longer than the size; gives how many entries it accepts. Of 100 calls some are removals, now
 /// as many, now others.
 fn history(seed: u64, removing: &[u32]) -> usize {
@@ -60,12 +52,10 @@ fn history(seed: u64, removing: &[u32]) -> usize {
         if rng.chance(10) {
             removals = rng.one_of(removing);
         }
-        let held: Vec<u32> = book.keys().copied().collect();
-        if !held.is_empty() && rng.chance(removals) {
-            let key = rng.one_of(&held);
-            let record;
-            (store, record) = remove(store, key);
-            assert_eq!(book.remove(&key), Some(record));
+        if rng.chance(removals) {
+            let held: Vec<u32> = book.keys().copied().collect();
+            let key = if held.is_empty() || rng.chance(10) { draws.draw(rng) } else { rng.one_of(&held) };
+            assert_eq!(store.remove(key), Ok(book.remove(&key)), "seed {seed}");
             assert_eq!(store.find(key), Ok(None));
             canonical(store.words()).unwrap_or_else(|fault| panic!("seed {seed}: {fault}"));
             continue;
@@ -86,6 +76,10 @@ fn history(seed: u64, removing: &[u32]) -> usize {
         canonical(store.words()).unwrap_or_else(|fault| panic!("seed {seed}: {fault}"));
         assert!(store.words()[length..].iter().all(|&word| word == 0xabcd));
         assert_eq!(store.find(record.key), Ok(Some(record)));
+        // A new key that is accepted and then removed leaves the tree of before.
+        let mut undone = store.clone();
+        assert_eq!(undone.remove(record.key), Ok(Some(record)));
+        assert!(same_tree(undone.words(), &before), "seed {seed}");
     }
     assert!(keys(store.words()).unwrap().iter().eq(book.keys()));
     accepted
@@ -144,6 +138,42 @@ fn any_order() {
     }
     println!("{sets} sets in six orders");
     assert!(sets > 400);
+}
+
+/// A store of exactly the tree's size is filled, emptied and filled again, each time in some order.
+#[test]
+fn filled_again() {
+    for seed in 0..300 {
+        let rng = &mut Rng(seed ^ 0xf1_0000_0000);
+        let theta = 1 + rng.below(6);
+        let capacity = rng.one_of(&[1, 2, 3, 8, 24]);
+        let mut draws = Keys::new(rng.below(Keys::KINDS), rng);
+        let mut book = Book::new();
+        for _ in 0..5 + rng.below(100) {
+            let key = draws.draw(rng).max(1);
+            book.insert(key, Record::from(record(key, rng).words()));
+        }
+        let sorted: Vec<u32> = book.keys().copied().collect();
+        let tree = Tree::of(&sorted, theta, capacity);
+        if tree.nodes() > 4_096 || tree.pages() > 4_096 {
+            continue;
+        }
+        let mut store = Store::new(Sizes { theta, capacity, nodes: tree.nodes(), pages: tree.pages() }).unwrap();
+        let mut records: Vec<Record> = book.values().copied().collect();
+        for _ in 0..3 {
+            for &record in &records {
+                store.enter(record).unwrap_or_else(|refusal| panic!("seed {seed}: {refusal}"));
+            }
+            canonical(store.words()).unwrap();
+            rng.shuffle(&mut records);
+            for &record in &records {
+                assert_eq!(store.remove(record.key), Ok(Some(record)), "seed {seed}");
+            }
+            canonical(store.words()).unwrap();
+            assert!(keys(store.words()).unwrap().is_empty());
+            rng.shuffle(&mut records);
+        }
+    }
 }
 
 /// The starred checks of the scope paper that entries can show.

@@ -1,5 +1,5 @@
-//! The proved library against the standard library's sorted map, on sound stores: the whole list, find, next, ranges whole,
-//! in parts and through the iterator, and summaries.
+//! The proved library against the standard library's sorted map, on sound stores: removals, the whole list, find, next, ranges
+//! whole, in parts and through the iterator, and summaries.
 
 #[path = "../../plain/tests/common/mod.rs"]
 mod common;
@@ -30,11 +30,15 @@ fn sheet(records: &[Record], today: u32) -> Summary {
     }
 }
 
-/// Enters random records in the store and in the map until one does not fit or there are enough.
+/// Enters random records in the store and in the map and removes some of them.
 fn fill(store: &mut Store<Vec<u32>>, entries: u32, keys: &mut Keys, rng: &mut Rng) -> Map {
     let mut map = Map::new();
     for _ in 0..entries {
         let key = keys.draw(rng);
+        if rng.chance(20) {
+            let held = map.range(key..).next().map_or(key, |(&held, _)| held);
+            assert_eq!(store.remove(held), Ok(map.remove(&held)));
+        }
         let record = Record::from(record(key, rng).words());
         match store.enter(record) {
             Ok(Entered { key: entered, .. }) => {

@@ -21,7 +21,7 @@ fits : (c : tie.After-page-words)
     let w = c .before .before .before .before .words-of .result in
     let high = c .before .to-index .result - a .i in
     (a .from + 1 + w * a .i + w * high ≤ length (a .store .now)) × (a .to + 1 + w * high ≤ length (a .store .now))
-    × ((a .from + 1 + w * a .i + w * high ≤ a .to + 1) ⊎ (a .to + 1 + w * high ≤ a .from + 1 + w * a .i))
+    × ((a .from + 1 + w * a .i + w * high ≤ a .to + 1) ⊎ (a .to + 1 ≤ a .from + 1 + w * a .i))
 fits c =
     let start = c .before .before .before .before .before .before in
     let a = start .args in

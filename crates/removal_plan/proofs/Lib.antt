@@ -1,0 +1,11 @@
+pub mod MarkLaws
+pub mod SeekLaws
+pub mod LeafLaws
+pub mod PageLaws
+pub mod LinkLaws
+pub mod PageJoinLaws
+pub mod NodeMateLaws
+pub mod HandLaws
+pub mod TurnLaws
+pub mod NodeJoinLaws
+pub mod PathLaws

@@ -1,0 +1,5 @@
+pub mod Marks
+pub mod Pages
+pub mod Pairs
+pub mod Nodes
+pub mod Paths

@@ -1,0 +1,4 @@
+pub mod LoopLaws
+pub mod PlanLaws
+pub mod LevelsApart
+pub mod ReadyLaws
