@@ -13,7 +13,7 @@ use Rattle.lists.specs.Lists.{All}
 use Rattle.lists.proofs.Cases.{by-cases}
 use Rattle.tree.specs.Book.{Reply, Sizes, refused}
 use Rattle.lines.specs.declared.Request.{Request}
-use Rattle.lines.specs.declared.Request.the-variants.{SetUp, Enter, Find, Next, Range, Summary, Dump, Wrong}
+use Rattle.lines.specs.declared.Request.the-variants.{SetUp, Enter, Find, Next, Range, Summary, Dump, Remove, Wrong}
 use Rattle.lines.specs.declared.Reply.the-variants.{SetUpLine}
 use Rattle.lines.specs.Request.{fieldsOf, parsed}
 use Rattle.lines.specs.Reply.{lineFeed, replyLine}
@@ -30,11 +30,12 @@ use Rattle.search.specs.Next.{nextReply}
 use Rattle.scan.specs.Summary.{summaryRefused, summaryOf}
 use Rattle.scan.specs.Range.{rangeRefused, rangeOf}
 use Rattle.insert.specs.Enter.{enterTests, unchanged, enterOf}
+use Rattle.remove.specs.Remove.{removeOf}
 use Rattle.index.specs.Calls.{Answer, counts}
-use Rattle.index.specs.Model.{Model, fresh, enterIn}
-use Rattle.index.proofs.CallLaws.{Holding, set-up-holding, enter-step}
+use Rattle.index.specs.Model.{Model, fresh, enterIn, removeIn}
+use Rattle.index.proofs.CallLaws.{Holding, set-up-holding, enter-step, remove-step}
 use Rattle.readings.proofs.Promises.{find-reads, next-reads, summary-reads}
-use Rattle.desk.specs.Replies.{told, setUpTold, enterTold, findTold, nextTold, summaryTold, listedLines}
+use Rattle.desk.specs.Replies.{told, setUpTold, enterTold, foundTold, summaryTold, listedLines}
 use Rattle.desk.specs.Listing.{partOf}
 use Rattle.desk.specs.Transcript.{answered, opened, largestKey, dumped, outcomeBytes, served, transcript}
 use Rattle.desk.specs.Clerk.{Register, unset, holding, setUpReply, afterSetUp, rangeLines, dumpLines, reckoned, reckonings}
@@ -91,6 +92,10 @@ module _ (s : List ℕ) (e : headRule Plots s ≡ false) where
   unfolding checked
   sought-broken a = rw (e, checked)
 
+  remove-broken : (k : ℕ) → removeOf Plots s k ≡ record { reply = record { number = 3; item = noItem }; words = s }
+  unfolding removeOf
+  remove-broken k = rw (e, removeOf)
+
   summary-broken : (low high today : ℕ) → summaryOf Plots s low high today ≡ summaryRefused 3
   unfolding summaryOf
   summary-broken low high today = rw (e, summaryOf)
@@ -103,18 +108,20 @@ abbrev zeros : List ℕ
 zeros = replicate 8192 0
 
 unset-same : (q : Request) → Same zeros unset q
-unfolding answered outcomeBytes reckoned told enterTold findTold nextTold summaryTold findReply nextReply
+unfolding answered outcomeBytes reckoned told enterTold foundTold summaryTold findReply nextReply
 unset-same (SetUp θ C N P) = let a = set-up-same θ C N P zeros unset refl in (ap (λ r. replyLine (setUpTold r)) (a .0), a .1)
 unset-same (Enter k p l d) =
     let a = enter-broken zeros zeros-broken (record { key = k; price = p; lease = l; last = d }) in
     (ap (λ r. replyLine (enterTold (r .reply))) a, ap (λ r. r .words) a)
-unset-same (Find k) = (ap (λ r. replyLine (findTold r)) (sought-broken zeros zeros-broken _), refl)
-unset-same (Next k) = (ap (λ r. replyLine (nextTold r)) (sought-broken zeros zeros-broken _), refl)
+unset-same (Find k) = (ap (λ r. replyLine (foundTold 2 r)) (sought-broken zeros zeros-broken _), refl)
+unset-same (Next k) = (ap (λ r. replyLine (foundTold 3 r)) (sought-broken zeros zeros-broken _), refl)
 unset-same (Range low high) =
     (ap (outcomeBytes zeros) (sym (first-refused zeros low high 3 (λ z. omega arith) (part-broken zeros zeros-broken low high))), refl)
 unset-same (Summary low high today) = (ap (λ r. replyLine (summaryTold r)) (summary-broken zeros zeros-broken low high today), refl)
 unset-same Dump =
     (ap (outcomeBytes zeros) (sym (dump-refused zeros 3 (λ z. omega arith) (part-broken zeros zeros-broken 1 largestKey))), refl)
+unset-same (Remove k) =
+    let a = remove-broken zeros zeros-broken k in (ap (λ r. replyLine (foundTold 7 (r .reply))) a, ap (λ r. r .words) a)
 unset-same Wrong = (refl, refl)
 
 -- a store that holds the register
@@ -124,6 +131,13 @@ countsIn (Rattle.index.specs.Calls.size a) = refused 0
 countsIn (Rattle.index.specs.Calls.one a) = refused 0
 countsIn (Rattle.index.specs.Calls.several a) = refused 0
 countsIn (Rattle.index.specs.Calls.totals a) = refused 0
+
+abbrev foundIn : Answer → Rattle.search.specs.Find.Reply
+foundIn (Rattle.index.specs.Calls.one a) = a
+foundIn (counts a) = record { number = 0; item = noItem }
+foundIn (Rattle.index.specs.Calls.size a) = record { number = 0; item = noItem }
+foundIn (Rattle.index.specs.Calls.several a) = record { number = 0; item = noItem }
+foundIn (Rattle.index.specs.Calls.totals a) = record { number = 0; item = noItem }
 
 range-lines : (s : List ℕ) (m : Model) (low high : ℕ) → Holding Plots 8192 m s → high < 2 ^ 32
     → outcomeBytes s (opened s low high) ≡ rangeLines (m .held) low high
@@ -143,18 +157,20 @@ dump-lines s m h =
     (h .sizes)
 
 holding-same : (s : List ℕ) (m : Model) → Holding Plots 8192 m s → (q : Request) → All (λ n. n < 2 ^ 32) (fieldsOf q) → Same s (holding m) q
-unfolding answered outcomeBytes reckoned width enterIn
+unfolding answered outcomeBytes reckoned width enterIn removeIn
 holding-same s m h (SetUp θ C N P) f =
     let a = set-up-same θ C N P s (holding m) h in (ap (λ r. replyLine (setUpTold r)) (a .0), a .1)
 holding-same s m h (Enter k p l d) f =
     let a = enter-step Plots 8192 (record { key = k; price = p; lease = l; last = d }) m s h in
     (ap (λ r. replyLine (enterTold (countsIn r))) (a .0), a .1)
-holding-same s m h (Find k) f = (ap (λ r. replyLine (findTold r)) (find-reads Plots s (m .held) (h .holds) k (f .0)), h)
-holding-same s m h (Next k) f = (ap (λ r. replyLine (nextTold r)) (next-reads Plots s (m .held) (h .holds) k (f .0)), h)
+holding-same s m h (Find k) f = (ap (λ r. replyLine (foundTold 2 r)) (find-reads Plots s (m .held) (h .holds) k (f .0)), h)
+holding-same s m h (Next k) f = (ap (λ r. replyLine (foundTold 3 r)) (next-reads Plots s (m .held) (h .holds) k (f .0)), h)
 holding-same s m h (Range low high) f = (range-lines s m low high h (f .1 .0), h)
 holding-same s m h (Summary low high today) f =
     (ap (λ r. replyLine (summaryTold r)) (summary-reads Plots s (m .held) (h .holds) low high today (f .1 .0)), h)
 holding-same s m h Dump f = (dump-lines s m h, h)
+holding-same s m h (Remove k) f =
+    let a = remove-step Plots 8192 k m s (f .0) h in (ap (λ r. replyLine (foundTold 7 (foundIn r))) (a .0), a .1)
 holding-same s m h Wrong f = (refl, h)
 
 same : (s : List ℕ) (r : Register) → Stands s r → (q : Request) → All (λ n. n < 2 ^ 32) (fieldsOf q) → Same s r q

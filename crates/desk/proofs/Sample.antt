@@ -36,7 +36,7 @@ use Rattle.lines.specs.Columns.{digit, skipped, plain, value, numberOf, isNumbe
 use Rattle.lines.specs.Request.{requestLine, fieldOf, unused, requestOf, wellFormed, parsed}
 use Rattle.lines.specs.Reply.{fourFields, summaryFields, replyLine}
 use Rattle.lines.specs.Checks.{bytes}
-use Rattle.desk.specs.Replies.{told, setUpTold, enterTold, findTold, summaryTold}
+use Rattle.desk.specs.Replies.{told, setUpTold, enterTold, foundTold, summaryTold}
 use Rattle.desk.specs.Transcript.{answered, outcomeBytes, ending, served, transcript}
 use Rattle.desk.specs.Sample.{request, response, Sampled}
 
@@ -52,5 +52,5 @@ unfolding bytes request response transcript served bit replaced part tab every g
     putBoth grown splitNode relink splitFirst newRoot climb round aimAt pageImage nodeImage nodeAt itemsIn ownItems ownPasses
     neighbourOk pathIn parted roundOf placed roundsFor planOf wayOf undamaged enteredWords done enterOf digit skipped plain value numberOf
     isNumber byteAt column requestLine fieldOf unused requestOf wellFormed parsed fourFields summaryFields replyLine told setUpTold
-    enterTold findTold summaryTold answered outcomeBytes ending
+    enterTold foundTold summaryTold answered outcomeBytes ending
 sampled = refl

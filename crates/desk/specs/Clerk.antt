@@ -18,7 +18,7 @@ use lib.Dec.{leb, ltb, eqb}
 use lib.ListN.{length}
 use Rattle.tree.specs.Book.{entered}
 use Rattle.lines.specs.declared.Request.{Request}
-use Rattle.lines.specs.declared.Request.the-variants.{SetUp, Enter, Find, Next, Range, Summary, Dump, Wrong}
+use Rattle.lines.specs.declared.Request.the-variants.{SetUp, Enter, Find, Next, Range, Summary, Dump, Remove, Wrong}
 use Rattle.lines.specs.declared.Reply.the-variants.{RangeEnd, Refused, SetUpLine, WrongLine}
 use Rattle.lines.specs.Request.{parsed}
 use Rattle.lines.specs.Reply.{lineFeed, replyLine}
@@ -29,8 +29,8 @@ use Rattle.page.specs.Schema.{schemaOf}
 use Rattle.represent.specs.Rep.{Holds}
 use Rattle.scan.specs.Range.{ranged}
 use Rattle.readings.specs.Listing.{within, findIn, nextIn, summaryIn}
-use Rattle.index.specs.Model.{Model, fresh, enterIn}
-use Rattle.desk.specs.Replies.{setUpTold, enterTold, findTold, nextTold, summaryTold, listedLines}
+use Rattle.index.specs.Model.{Model, fresh, enterIn, removeIn}
+use Rattle.desk.specs.Replies.{setUpTold, enterTold, foundTold, summaryTold, listedLines}
 use Rattle.desk.specs.Transcript.{opened, outcomeBytes, ending, transcript}
 
 pub data Register : Type 0 where
@@ -80,18 +80,21 @@ reckoned unset (Next k) = record { bytes = replyLine (Refused 3 3); register = u
 reckoned unset (Range low high) = record { bytes = replyLine (Refused 4 3); register = unset }
 reckoned unset (Summary low high today) = record { bytes = replyLine (Refused 5 3); register = unset }
 reckoned unset Dump = record { bytes = replyLine (Refused 6 3); register = unset }
+reckoned unset (Remove k) = record { bytes = replyLine (Refused 7 3); register = unset }
 reckoned (holding m) (Enter k p l d) =
     let it : Item = record { key = k; price = p; lease = l; last = d } in
     record {
       bytes = replyLine (enterTold (entered (schemaOf Plots) (m .sizes) (m .held) it .reply));
       register = holding (enterIn Plots it m .model);
     }
-reckoned (holding m) (Find k) = record { bytes = replyLine (findTold (findIn (m .held) k)); register = holding m }
-reckoned (holding m) (Next k) = record { bytes = replyLine (nextTold (nextIn (m .held) k)); register = holding m }
+reckoned (holding m) (Find k) = record { bytes = replyLine (foundTold 2 (findIn (m .held) k)); register = holding m }
+reckoned (holding m) (Next k) = record { bytes = replyLine (foundTold 3 (nextIn (m .held) k)); register = holding m }
 reckoned (holding m) (Range low high) = record { bytes = rangeLines (m .held) low high; register = holding m }
 reckoned (holding m) (Summary low high today) =
     record { bytes = replyLine (summaryTold (summaryIn (m .held) low high today)); register = holding m }
 reckoned (holding m) Dump = record { bytes = dumpLines m; register = holding m }
+reckoned (holding m) (Remove k) =
+    record { bytes = replyLine (foundTold 7 (findIn (m .held) k)); register = holding (removeIn k m .model) }
 reckoned r Wrong = record { bytes = replyLine WrongLine; register = r }
 
 unfoldable pub reckonings : Register → List ℕ → List ℕ → List ℕ

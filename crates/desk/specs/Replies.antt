@@ -1,13 +1,13 @@
 -- The reply line that an operation's answer gets. Document 01, "The counter program".
 --   told kind n r  == the reply r where the number n is 0, else the line of the number n alone
---   setUpTold, enterTold, findTold, nextTold, summaryTold == an operation's answer as a reply
+--   setUpTold, enterTold, summaryTold == an operation's answer as a reply; foundTold kind: that of find, next or remove
 --   listedTold dump it == a record in a listing of a range, or, if dump, of the register; listedLines dump its: a line for each
 use mathlib.Core.Bool.{Bool, true, false}
 use mathlib.Core.List.{List, [], _∷_, _++_}
 use Prim.Native.Nat.{ℕ}
 use lib.Dec.{eqb}
 use Rattle.lines.specs.declared.Reply.{Reply}
-use Rattle.lines.specs.declared.Reply.the-variants.{SetUpDone, Entered, Found, NextIs, Listed, Totals, Refused, EnterLine}
+use Rattle.lines.specs.declared.Reply.the-variants.{SetUpDone, Entered, Found, Listed, Totals, Refused, EnterLine}
 use Rattle.lines.specs.Reply.{replyLine}
 use Rattle.tree.specs.Book.{}
 use Rattle.store.specs.declared.Item.{Item}
@@ -27,12 +27,9 @@ setUpTold a = told 0 (a .number) (SetUpDone (a .size))
 unfoldable pub enterTold : Rattle.tree.specs.Book.Reply → Reply
 enterTold a = told 1 (a .number) (Entered (a .key) (a .levels) (a .nodes) (a .pages))
 
--- "Find and next give the record."
-unfoldable pub findTold : Rattle.search.specs.Find.Reply → Reply
-findTold a = told 2 (a .number) (Found (a .item .key) (a .item .price) (a .item .lease) (a .item .last))
-
-unfoldable pub nextTold : Rattle.search.specs.Find.Reply → Reply
-nextTold a = told 3 (a .number) (NextIs (a .item .key) (a .item .price) (a .item .lease) (a .item .last))
+-- "Find and next give the record."; M-106: "It gives the removed record, or answer 1 if absent"
+unfoldable pub foundTold : ℕ → Rattle.search.specs.Find.Reply → Reply
+foundTold kind a = told kind (a .number) (Found kind (a .item .key) (a .item .price) (a .item .lease) (a .item .last))
 
 -- "Summary gives count, total in 20 columns, earliest key."
 unfoldable pub summaryTold : SummaryReply → Reply

@@ -14,7 +14,7 @@ use Prim.Native.Nat.{ℕ}
 use lib.Dec.{eqb}
 use lib.ListN.{replicate}
 use Rattle.lines.specs.declared.Request.{Request}
-use Rattle.lines.specs.declared.Request.the-variants.{SetUp, Enter, Find, Next, Range, Summary, Dump, Wrong}
+use Rattle.lines.specs.declared.Request.the-variants.{SetUp, Enter, Find, Next, Range, Summary, Dump, Remove, Wrong}
 use Rattle.lines.specs.declared.Reply.the-variants.{Refused, SetUpLine, WrongLine}
 use Rattle.lines.specs.Request.{parsed}
 use Rattle.lines.specs.Reply.{lineFeed, replyLine}
@@ -25,10 +25,11 @@ use Rattle.search.specs.Find.{findReply}
 use Rattle.search.specs.Next.{nextReply}
 use Rattle.scan.specs.Summary.{summaryOf}
 use Rattle.insert.specs.Enter.{enterOf}
+use Rattle.remove.specs.Remove.{removeOf}
 use Rattle.desk.specs.declared.Listing.{Listing}
 use Rattle.desk.specs.declared.Outcome.{Outcome}
 use Rattle.desk.specs.declared.Outcome.the-variants.{Line, Parts, Register}
-use Rattle.desk.specs.Replies.{setUpTold, enterTold, findTold, nextTold, summaryTold}
+use Rattle.desk.specs.Replies.{setUpTold, enterTold, foundTold, summaryTold}
 use Rattle.desk.specs.Listing.{surveyed, carried}
 
 pub record Answered : Type 0 where
@@ -61,17 +62,18 @@ dumped s =
     ]
 
 -- "The kind selects: 0 set-up (θ, C, N, P), 1 enter, 2 find, 3 next, 4 range (low, high), 5 summary (low, high, today)"; M-101: "A new kind
--- 6"; "A wrong line replies kind 99, answer 2."
+-- 6"; M-106: "a remove call by key, kind 7 in the program"; "A wrong line replies kind 99, answer 2."
 unfoldable pub answered : List ℕ → Request → Answered
 answered s (SetUp θ C N P) = let a = setUp Plots θ C N P s in record { outcome = Line (setUpTold (a .reply)); words = a .words }
 answered s (Enter k p l d) =
     let a = enterOf Plots s (record { key = k; price = p; lease = l; last = d }) in
     record { outcome = Line (enterTold (a .reply)); words = a .words }
-answered s (Find k) = record { outcome = Line (findTold (findReply Plots s k)); words = s }
-answered s (Next k) = record { outcome = Line (nextTold (nextReply Plots s k)); words = s }
+answered s (Find k) = record { outcome = Line (foundTold 2 (findReply Plots s k)); words = s }
+answered s (Next k) = record { outcome = Line (foundTold 3 (nextReply Plots s k)); words = s }
 answered s (Range low high) = record { outcome = opened s low high; words = s }
 answered s (Summary low high today) = record { outcome = Line (summaryTold (summaryOf Plots s low high today)); words = s }
 answered s Dump = record { outcome = dumped s; words = s }
+answered s (Remove k) = let a = removeOf Plots s k in record { outcome = Line (foundTold 7 (a .reply)); words = a .words }
 answered s Wrong = record { outcome = Line WrongLine; words = s }
 
 unfoldable pub outcomeBytes : List ℕ → Outcome → List ℕ

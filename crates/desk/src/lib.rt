@@ -17,7 +17,7 @@ ghost use Rattle.store.specs.declared.Format.the-variants.{Plots};
 ghost use Rattle.store.specs.SetUp;
 ghost use Rattle.scan.specs.Range.{rangeRefused, rangeOf};
 ghost use Rattle.index.specs.Answers.{reply, enterReply, rangeReply, summaryReply};
-ghost use Rattle.desk.specs.Replies.{setUpTold, enterTold, findTold, nextTold, summaryTold, listedTold, listedLines};
+ghost use Rattle.desk.specs.Replies.{setUpTold, enterTold, foundTold, summaryTold, listedTold, listedLines};
 ghost use Rattle.desk.specs.Listing.{partBytes, pieceReply, partOf, itemFrom, itemsOf, surveyOf, surveyed, noListing};
 ghost use Rattle.desk.specs.Listing.{kindListed, lastLine, partLines, listingAfter};
 ghost use Rattle.desk.specs.Transcript.{opened, dumped, answered};
@@ -100,25 +100,15 @@ fn enter_told(a: EnterAnswer) -> Reply
     }
 }
 
-fn find_told(a: FindAnswer) -> Reply
-    ensures { λ r. ⌜ r ≡ findTold (reply a) ⌝ }
+// The answer of find, next or remove, under its kind.
+fn found_told(kind: u32, a: FindAnswer) -> Reply
+    ensures { λ r. ⌜ r ≡ foundTold kind (reply a) ⌝ }
 {
     match a {
-        FindAnswer::Found(r) => Reply::Found(r.key, r.price, r.lease, r.last),
-        FindAnswer::NotFound => Reply::Refused(2, 1),
-        FindAnswer::HeadBroken => Reply::Refused(2, 3),
-        FindAnswer::DamageMet => Reply::Refused(2, 9),
-    }
-}
-
-fn next_told(a: FindAnswer) -> Reply
-    ensures { λ r. ⌜ r ≡ nextTold (reply a) ⌝ }
-{
-    match a {
-        FindAnswer::Found(r) => Reply::NextIs(r.key, r.price, r.lease, r.last),
-        FindAnswer::NotFound => Reply::Refused(3, 1),
-        FindAnswer::HeadBroken => Reply::Refused(3, 3),
-        FindAnswer::DamageMet => Reply::Refused(3, 9),
+        FindAnswer::Found(r) => Reply::Found(kind, r.key, r.price, r.lease, r.last),
+        FindAnswer::NotFound => Reply::Refused(kind, 1),
+        FindAnswer::HeadBroken => Reply::Refused(kind, 3),
+        FindAnswer::DamageMet => Reply::Refused(kind, 9),
     }
 }
 
@@ -279,13 +269,14 @@ pub fn answer(store: &mut [u32], request: Request) -> Outcome
                 last,
             },
         ))),
-        Request::Find(key) => Outcome::Line(find_told(index::find(store, key))),
-        Request::Next(key) => Outcome::Line(next_told(index::next(store, key))),
+        Request::Find(key) => Outcome::Line(found_told(2, index::find(store, key))),
+        Request::Next(key) => Outcome::Line(found_told(3, index::next(store, key))),
         Request::Range(low, high) => open_range(store, low, high),
         Request::Summary(low, high, today) => {
             Outcome::Line(summary_told(index::summary(store, low, high, today)))
         }
         Request::Dump => open_dump(store),
+        Request::Remove(key) => Outcome::Line(found_told(7, index::remove(store, key))),
         Request::Wrong => Outcome::Line(Reply::WrongLine),
     }
 }

@@ -28,12 +28,12 @@ use Rattle.insert.specs.Enter.{itemsIn, ownItems}
 use Rattle.insert.proofs.PageWords.{page-image}
 use Rattle.insert.proofs.TestLaws.{items-null, items-some}
 use Rattle.joins.specs.Joins.{without}
-use Rattle.unput.specs.Added.{added}
+use Rattle.merge.specs.Added.{added}
 use Rattle.remove.specs.Remove.{Reach, Pages, onLeft, eitherPage, lostPage, bothPages, emptied}
 use Rattle.remove.proofs.PagePhase.{either-null, either-own, lost-left, lost-right, lost-one}
-use Rattle.removal_plan.specs.Pages.{quiet, pagesBy, recordsIn, Paged}
-use Rattle.removal_plan.specs.declared.PageJoins.{PageJoins}
-use Rattle.removal_plan.proofs.PageJoinLaws.{both-used, both-length, take-more}
+use Rattle.siblings.specs.Pages.{quiet, pagesBy, recordsIn, Paged}
+use Rattle.siblings.specs.declared.PageJoins.{PageJoins}
+use Rattle.siblings.proofs.PageJoinLaws.{both-used, both-length, take-more}
 use Rattle.gather.specs.declared.Gathered.{Gathered}
 use Rattle.gather.specs.Gather.{Holds, startOf, joinedBy}
 

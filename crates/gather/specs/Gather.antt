@@ -1,8 +1,8 @@
 -- The page of a stretch in hand, as a removal joins it.
 --   OwnPage f s h page i     == a taken page that keeps the page rule, with a record number i
 --   Holds f C g r items lost == what is in hand is the stretch g: its page's number, the image of its records, the released pages
---   startOf f s h k used page rs == the stretch of the key's page without the key
---   joinedBy f s h g left p  == the stretch g joined with the page p
+--   startOf f s h k used page rs == the stretch of the key's page without the key's record, before its joins; the nodes reached are left out
+--   joinedBy f s h g left p  == the stretch g joined with the page p, on its left or on its right
 use mathlib.Core.Path.{_≡_}
 use mathlib.Core.Bool.{Bool, true}
 use mathlib.Core.List.{List, []}
@@ -17,7 +17,7 @@ use Rattle.represent.specs.Image.{pageImage}
 use Rattle.insert.specs.Enter.{ownItems}
 use Rattle.joins.specs.Joins.{without}
 use Rattle.remove.specs.Remove.{Reach, Pages, bothPages, emptied}
-use Rattle.removal_plan.specs.Pages.{quiet}
+use Rattle.siblings.specs.Pages.{quiet}
 use Rattle.gather.specs.declared.Gathered.{Gathered}
 
 pub record OwnPage (f : Format) (s : List ℕ) (h : Head) (page i : ℕ) : Type 0 where

@@ -13,7 +13,7 @@ ghost use Rattle.page.specs.Schema.{keyOf};
 ghost use Rattle.insert.specs.Enter.{ownItems};
 ghost use Rattle.joins.specs.Joins.{without};
 ghost use Rattle.remove.specs.Remove.{Reach, Pages};
-ghost use Rattle.removal_plan.specs.Pages.{pagesBy, Joinable, recordsIn};
+ghost use Rattle.siblings.specs.Pages.{pagesBy, Joinable, recordsIn};
 ghost use Rattle.gather.specs.Gather.{OwnPage, Holds, startOf, joinedBy};
 
 // The page of a stretch after its joins: its number (0: null), and how many pages are released.
@@ -40,7 +40,7 @@ fn first_page(
         → Holds f (head .capacity) (startOf f (now (store .entry)) head k used page rs) r (now (items .exit)) (now (lost .exit))) ⌝ }
 {
     split::copy(items, store::page_at(store, f, head, page));
-    unput::take_out(items, f, head.capacity, i);
+    merge::take_out(items, f, head.capacity, i);
     if page::count_of(items) != 0 {
         return Gathered { page, lost: 0 };
     }
@@ -70,7 +70,7 @@ fn gather_turn(
     if p == 0 {
         return hand;
     }
-    unput::add_page(
+    merge::add_page(
         items,
         f,
         head.capacity,
@@ -81,9 +81,9 @@ fn gather_turn(
     if hand.page == 0 {
         return Gathered { page: p, lost: end };
     }
-    lost[end] = removal_plan::pick(left, hand.page, p);
+    lost[end] = siblings::pick(left, hand.page, p);
     Gathered {
-        page: removal_plan::pick(left, p, hand.page),
+        page: siblings::pick(left, p, hand.page),
         lost: end + 1,
     }
 }
@@ -118,7 +118,7 @@ pub fn gather_page(
     let mut j: usize = 0;
     let mut left = used;
     while j < n {
-        let side = removal_plan::on_left(f, key, left);
+        let side = siblings::on_left(f, key, left);
         hand = gather_turn(store, f, head, side, mates[j], hand, items, lost);
         left -= 1;
         j += 1;

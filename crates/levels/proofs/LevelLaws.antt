@@ -25,11 +25,11 @@ use Rattle.search.specs.Descent.{noStep}
 use Rattle.remove.specs.Remove.{Reach, Spot, noSpot, covered, spotAt, spotOver, nodeJoins, Levels, levelsFrom, firstSpot, firstUsed}
 use Rattle.remove.proofs.BlocksIn.{cover-fine}
 use Rattle.remove.proofs.LevelsPhase.{levels-lost, levels-stay, levels-go}
-use Rattle.removal_plan.specs.declared.NodeJoins.{NodeJoins}
-use Rattle.removal_plan.specs.Marks.{Tracks}
-use Rattle.removal_plan.specs.Nodes.{NodesR, spotIs, HandFine, Noded}
-use Rattle.removal_write.specs.Carried.{blockIn, LevelIs}
-use Rattle.removal_write.proofs.LoopLaws.{node-small}
+use Rattle.siblings.specs.declared.NodeJoins.{NodeJoins}
+use Rattle.siblings.specs.Marks.{Tracks}
+use Rattle.siblings.specs.Nodes.{NodesR, spotIs, HandFine, Noded}
+use Rattle.apply.specs.Carried.{blockIn, LevelIs}
+use Rattle.apply.proofs.LoopLaws.{node-small}
 use Rattle.levels.specs.declared.Rise.{Rise}
 use Rattle.levels.specs.declared.LevelJoins.{LevelJoins}
 use Rattle.levels.specs.Levels.{LevelsAre, StaysIn, levelNodes, Turned, Levelled}

@@ -1,9 +1,9 @@
 -- What is known of the steps of a path, on any words: the nodes differ, and each step's bits and local depth lead to the step below.
 use mathlib.Core.Path.{_≡_, refl, sym, ap, _∙_, subst}
-use mathlib.Core.Bool.{true, false, false≢true}
+use mathlib.Core.Bool.{true, false≢true}
 use mathlib.Core.List.{List, [], _∷_}
 use mathlib.Core.Logic.{inl, inr}
-use Prim.Native.Nat.{ℕ, zero, suc, _+_, _-_, _*_, _≤_, _<_}
+use Prim.Native.Nat.{ℕ, zero, suc, _+_, _*_, _≤_, _<_}
 use native.Mathlib.Decide.{ℕ-discrete}
 use native.Mathlib.Omega.{arith}
 use native.Mathlib.Numerals.{add-one}
@@ -26,17 +26,18 @@ use Rattle.node.proofs.EntryNumber.{entry-below}
 use Rattle.search.specs.declared.Step.{Step}
 use Rattle.search.specs.declared.Visit.{Visit}
 use Rattle.search.specs.declared.Descent.{Descent}
-use Rattle.search.specs.Descent.{noStep, noSteps, stepOf, lost, stepTaken, descend, descent, entryVisit, ownVisit}
-use Rattle.search.proofs.DescentLaws.{step-lost, step-on, step-entry}
+use Rattle.search.specs.Descent.{noStep, noSteps, soundNode, stepOf, lost, stepTaken, descend, descent, entryVisit, ownVisit}
+use Rattle.search.proofs.DescentLaws.{step-lost, step-on, step-entry, visited-sound}
 use Rattle.split.specs.Frame.{nodeOf}
 use Rattle.insert.proofs.InsideEnter.{StepIn, Down, descent-down}
 use Rattle.remove.specs.Remove.{pathReach}
 use Rattle.remove.proofs.InsideRemove.{Headed, head-facts}
 use Rattle.remove.proofs.BlocksIn.{visited-block}
-use Rattle.removal_plan.specs.Marks.{mark, Tracks}
-use Rattle.removal_plan.specs.Nodes.{HandFine}
-use Rattle.removal_plan.specs.Paths.{pathMarks}
-use Rattle.removal_plan.proofs.PathLaws.{Apart, path-tracks}
+use Rattle.siblings.specs.Marks.{mark, Tracks, Passed}
+use Rattle.siblings.specs.Nodes.{HandFine}
+use Rattle.siblings.specs.Paths.{pathMarks}
+use Rattle.siblings.proofs.PathLaws.{Apart, path-tracks, clear-passed, path-passed}
+use Rattle.siblings.proofs.MarkLaws.{own-level}
 
 -- the bits of what is below step i: of the step below it, or of the page
 abbrev pub below : ℕ → List Step → ℕ → ℕ
@@ -93,10 +94,15 @@ module _ (f : Format) (s : List ℕ) (h : Head) (k : ℕ) where
       linked (h .levels) (h .levels) (h .root) 0 noSteps (length-replicate 32 noStep) small (omega arith) (λ p. absurd (omega arith))
       (λ j p q. absurd (omega arith)) ok i e
 
+-- what holds of each of the first n steps holds of all
+pub all-steps : (P : Step → Type 0) (n : ℕ) (ts : List Step) → ((i : ℕ) → i < n → i < length ts → P (getD ts i noStep)) → All P (take n ts)
+all-steps P zero ts a = tt
+all-steps P (suc n) [] a = tt
+all-steps P (suc n) (t ∷ ts) a = (a 0 (omega arith) (omega arith), all-steps P n ts (λ i p q. a (suc i) (omega arith) (omega arith)))
+
 -- the steps of the path with the key k
 pub record StepFine (f : Format) (s : List ℕ) (h : Head) (b : ℕ) (t : Step) : Type 0 where
   pub node-in : InUse h (t .node)
-  pub low : t .node ≤ 4096
   pub within : t .used ≤ width f
   pub fine : (m : ℕ) → m ≤ b → HandFine f (h .theta) m (t .used) (nodeAt s h (t .node))
   pub room : nodeStart h (t .node) + nodeWords (h .theta) ≤ length s
@@ -139,7 +145,6 @@ module _ (f : Format) (s : List ℕ) (rule : headRule f s ≡ true) (k : ℕ) (o
       good-facts _ _ _ _ (node-facts h s at (suc i) (w .2) .runs) .rule _ (entry-below (width f) k (t .used) (depthWord s at)) .0 in
       record {
         node-in = record { positive = w .0; within = w .1 };
-        low = omega (arith, w .1, facts .counts .taken, facts .limits .nodes);
         within = omega (arith, w .3);
         fine = λ m l. record { shallow = v .0; reaches = omega (arith, H, local, w .4, e, l); left = v .1 };
         room = room;
@@ -179,25 +184,27 @@ module _ (f : Format) (s : List ℕ) (rule : headRule f s ≡ true) (k : ℕ) (o
         all-apart (suc j) n ts more,
       )
 
-  all-steps : (P : Step → Type 0) (n : ℕ) (ts : List Step) → ((i : ℕ) → i < n → i < length ts → P (getD ts i noStep)) → All P (take n ts)
-  all-steps P zero ts a = tt
-  all-steps P (suc n) [] a = tt
-  all-steps P (suc n) (t ∷ ts) a = (a 0 (omega arith) (omega arith), all-steps P n ts (λ i p q. a (suc i) (omega arith) (omega arith)))
-
   pub path-apart : Pairwise Apart (take (h .levels) (d .steps))
   path-apart =
       all-apart 0 (h .levels) (d .steps)
       (λ i p q. let g : i ≡ 0 + i = omega arith in subst (λ m. StepIn f s h k m (getD (d .steps) i noStep)) g (stepped i p))
 
-  pub path-low : All (λ t. t .node ≤ 4096) (take (h .levels) (d .steps))
-  path-low = all-steps (λ t. t .node ≤ 4096) (h .levels) (d .steps) (λ i p q. step-of i p .low)
-
   -- the path marked on clear marks is tracked
-  pub path-noted : (marks : List ℕ) → ((n : ℕ) → getD marks n 0 ≡ 0) → 4096 < length marks
+  pub path-noted : (marks : List ℕ) → ((n : ℕ) → getD marks n 0 ≡ 0) → h .nodesTaken < length marks
       → Tracks (width f) k (pathReach (width f) k (take (h .levels) (d .steps))) (pathMarks (take (h .levels) (d .steps)) marks)
   path-noted marks clear long =
       path-tracks (width f) k (take (h .levels) (d .steps)) marks clear path-apart
-      (all-steps (λ t. t .node < length marks) (h .levels) (d .steps) (λ i p q. omega (arith, step-of i p .low, long)))
+      (all-steps (λ t. t .node < length marks) (h .levels) (d .steps) (λ i p q. omega (arith, step-of i p .node-in .within, long)))
+
+  -- and its nodes are sound
+  pub path-sound : (marks : List ℕ) → ((n : ℕ) → getD marks n 0 ≡ 0) → h .nodesTaken < length marks
+      → Passed f s h (pathMarks (take (h .levels) (d .steps)) marks)
+  path-sound marks clear long =
+      path-passed f s h (take (h .levels) (d .steps)) marks (clear-passed f s h marks clear)
+      (all-steps (λ t. t .node < length marks) (h .levels) (d .steps) (λ i p q. omega (arith, step-of i p .node-in .within, long)))
+      (all-steps (λ t. soundNode f s h (levelWord s (nodeStart h (t .node))) (t .node) (t .used) ≡ true) (h .levels) (d .steps)
+      (λ i p q. let t : Step = getD (d .steps) i noStep in
+      own-level f s h (suc i) (t .node) (t .used) (visited-sound f s h k (suc i) (t .node) (t .used) (visited i t (stepped i p)))))
 
 -- over a head, steps and bits that are carried
 pub record PathFine (f : Format) (s : List ℕ) (h : Head) (steps : List Step) (used : ℕ) : Type 0 where
@@ -224,13 +231,13 @@ path-fine f s h k u ok e g = rw (e, g) (at u ok)
         })
 
 -- what `note_path` asks
-pub path-needs : (f : Format) (s : List ℕ) (h : Head) (steps : List Step) (used : ℕ) (marks : List ℕ) → PathFine f s h steps used → 4096 < length marks
+pub path-needs : (f : Format) (s : List ℕ) (h : Head) (steps : List Step) (used : ℕ) (marks : List ℕ) → PathFine f s h steps used → h .nodesTaken < length marks
     → (h .levels ≤ length steps) × (length steps ≡ 32)
     × ((i : ℕ) → i < h .levels → (getD steps i noStep .node < length marks) × (getD steps i noStep .used ≤ 64))
 path-needs f s h steps used marks y long = (
   omega (arith, y .few, y .long),
   y .long,
-  λ i l. (omega (arith, y .step i l .low, long), omega (arith, y .step i l .within, width-within f)),
+  λ i l. (omega (arith, y .step i l .node-in .within, long), omega (arith, y .step i l .within, width-within f)),
 )
 
 -- clear marks
@@ -241,17 +248,28 @@ clear-zeros (suc n) (suc i) = clear-zeros n i
 
 -- the path noted on clear marks is tracked: the start of every descent to a sibling
 pub noted-tracks : (f : Format) (s : List ℕ) (h : Head) (k : ℕ) {steps : List Step} (marks : List ℕ) {marks′ : List ℕ} → Under f s h → descent f s h k .ok ≡ true
-    → steps ≡ descent f s h k .steps → ((n : ℕ) → getD marks n 0 ≡ 0) → 4096 < length marks → marks′ ≡ pathMarks (take (h .levels) steps) marks
+    → steps ≡ descent f s h k .steps → ((n : ℕ) → getD marks n 0 ≡ 0) → h .nodesTaken < length marks → marks′ ≡ pathMarks (take (h .levels) steps) marks
     → Tracks (width f) k (pathReach (width f) k (take (h .levels) steps)) marks′
-noted-tracks f s h k marks u ok e clear long g = rw (g, e) (at u ok)
+noted-tracks f s h k marks u ok e clear long g = rw (g, e) (at u ok long)
   where
-    at : Under f s h → descent f s h k .ok ≡ true
+    at : Under f s h → descent f s h k .ok ≡ true → h .nodesTaken < length marks
         → Tracks (width f) k (pathReach (width f) k (take (h .levels) (descent f s h k .steps))) (pathMarks (take (h .levels) (descent f s h k .steps)) marks)
     at u =
         subst
-        (λ i. descent f s i k .ok ≡ true
+        (λ i. descent f s i k .ok ≡ true → i .nodesTaken < length marks
         → Tracks (width f) k (pathReach (width f) k (take (i .levels) (descent f s i k .steps))) (pathMarks (take (i .levels) (descent f s i k .steps)) marks))
-        (sym (u .head)) (λ ok. path-noted f s (u .rule) k ok marks clear long)
+        (sym (u .head)) (λ ok long. path-noted f s (u .rule) k ok marks clear long)
+
+-- and each node marked is sound
+pub noted-passed : (f : Format) (s : List ℕ) (h : Head) (k : ℕ) {steps : List Step} (marks : List ℕ) {marks′ : List ℕ} → Under f s h → descent f s h k .ok ≡ true
+    → steps ≡ descent f s h k .steps → ((n : ℕ) → getD marks n 0 ≡ 0) → h .nodesTaken < length marks → marks′ ≡ pathMarks (take (h .levels) steps) marks
+    → Passed f s h marks′
+noted-passed f s h k marks u ok e clear long g = rw (g, e) (at u ok long)
+  where
+    at : Under f s h → descent f s h k .ok ≡ true → h .nodesTaken < length marks → Passed f s h (pathMarks (take (h .levels) (descent f s h k .steps)) marks)
+    at u =
+        subst (λ i. descent f s i k .ok ≡ true → i .nodesTaken < length marks → Passed f s i (pathMarks (take (i .levels) (descent f s i k .steps)) marks))
+        (sym (u .head)) (λ ok long. path-sound f s (u .rule) k ok marks clear long)
 
 -- the loops over steps
 pub marks-turn : (steps : List Step) (levels i : ℕ) (marks X : List ℕ) → i < levels → levels ≤ length steps

@@ -14,8 +14,8 @@ use Rattle.store.proofs.Places.{part-word}
 use Rattle.node.specs.Node.{depthWord}
 use Rattle.split.specs.Frame.{nodeOf}
 use Rattle.remove.specs.Remove.{Spot, noSpot, keptOver, keptUpper, keptLevels, backwards}
-use Rattle.removal_write.specs.Carried.{blockIn, LevelIs}
-use Rattle.removal_write.proofs.LoopLaws.{node-small}
+use Rattle.apply.specs.Carried.{blockIn, LevelIs}
+use Rattle.apply.proofs.LoopLaws.{node-small}
 use Rattle.levels.specs.Levels.{NumbersAre, LevelsAre}
 
 -- the depth word of a level that is carried, and of one that stays

@@ -17,9 +17,9 @@ use Rattle.store.specs.Format.{width}
 use Rattle.store.specs.Head.{word, nodeWords, nodeStart}
 use Rattle.search.specs.declared.Step.{Step}
 use Rattle.remove.specs.Remove.{Reach, Spot, noSpot, spotOver, nodeJoins, Levels, firstSpot, firstUsed}
-use Rattle.removal_plan.specs.Marks.{Tracks}
-use Rattle.removal_plan.specs.Nodes.{NodesR}
-use Rattle.removal_write.specs.Carried.{blockIn, LevelIs}
+use Rattle.siblings.specs.Marks.{Tracks}
+use Rattle.siblings.specs.Nodes.{NodesR}
+use Rattle.apply.specs.Carried.{blockIn, LevelIs}
 use Rattle.levels.specs.declared.Rise.{Rise}
 use Rattle.levels.specs.declared.LevelJoins.{LevelJoins}
 

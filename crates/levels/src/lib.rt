@@ -1,6 +1,6 @@
 // The levels of a removal's plan: the nodes of the key's path, joined upward from the lowest as long as the level below joined.
-use removal_plan::NodeJoins;
 use search::Step;
+use siblings::NodeJoins;
 use store::Format;
 use store::Head;
 ghost use mathlib.Core.Path.{_≡_};
@@ -14,13 +14,13 @@ ghost use Rattle.store.specs.Head.{word, headOf, nodeWords, nodeAt, InUse, Unde
 ghost use Rattle.node.specs.Node.{depthWord};
 ghost use Rattle.search.specs.Descent.{noStep, descent};
 ghost use Rattle.remove.specs.Remove.{Reach, Spot, covered, levelsFrom, keptLevels, goneRoots};
-ghost use Rattle.removal_plan.specs.Marks.{Tracks};
-ghost use Rattle.removal_plan.specs.Nodes.{HandFine, Noded};
-ghost use Rattle.removal_plan.specs.Paths.{pathMarks};
-ghost use Rattle.removal_write.specs.Carried.{blockIn, LevelIs};
+ghost use Rattle.siblings.specs.Marks.{Tracks, Passed};
+ghost use Rattle.siblings.specs.Nodes.{HandFine, Noded};
+ghost use Rattle.siblings.specs.Paths.{pathMarks};
+ghost use Rattle.apply.specs.Carried.{blockIn, LevelIs};
 ghost use Rattle.levels.specs.Levels.{NumbersAre, LevelsAre, StaysIn, levelNodes, Turned, Levelled};
 
-// The way up: whether the level below joined, the bits of its stretch and the pointer to it, and the end of the released nodes.
+// Damage (not ok), or the way up: whether the level below joined, the bits of its stretch and the pointer to it, and the end of the released nodes.
 pub struct Rise {
     pub ok: bool,
     pub joins: bool,
@@ -29,7 +29,7 @@ pub struct Rise {
     pub end: usize,
 }
 
-// The levels after their joins: so many of them change, from the lowest on; whether level-1 nodes joined; and the end of the released nodes.
+// Damage (not ok), or the levels after their joins: so many of them change, from the lowest on; whether level-1 nodes joined; and the end of the released nodes.
 pub struct LevelJoins {
     pub ok: bool,
     pub changed: u32,
@@ -144,7 +144,7 @@ fn take_node(
 {
     let node = store::node_at(store, f, head, t.node);
     split::copy(hand, node);
-    removal_plan::cover_hand(hand, f, head.theta, key, t.used, m, q);
+    siblings::cover_hand(hand, f, head.theta, key, t.used, m, q);
 }
 
 // The node of a path over a stretch below of m bits with the pointer q, joined as long as it can if that one joined. The nodes released
@@ -166,12 +166,13 @@ fn join_level(
     at: usize,
 ) -> NodeJoins
     requires { ⌜ (Under f (now store) head) × (InUse head (t .node)) × (t .used ≤ width f) × (key < 2 ^ width f) × (1 ≤ level)
-        × (level ≤ head .levels) × (4096 < length (now marks)) × (length (now hand) ≡ nodeWords (head .theta))
+        × (level ≤ head .levels) × (head .nodesTaken < length (now marks)) × (length (now hand) ≡ nodeWords (head .theta))
         × (length (now spare) ≡ nodeWords (head .theta)) × HandFine f (head .theta) m (t .used) (nodeAt (now store) head (t .node))
-        × (at + t .used ≤ length (now gone)) × (length (now gone) < 2 ^ 32) ⌝ }
+        × (at + t .used ≤ length (now gone)) × (length (now gone) < 2 ^ 32) × Passed f (now store) head (now marks) ⌝ }
     ensures { λ r. ⌜ ((rs : List Reach) → Tracks (width f) key rs (now (marks .entry))
         → Noded f key (levelNodes f (now (store .entry)) head key level t m q joins rs) r (now (hand .exit)) (now (gone .entry)) at
-        (now (gone .exit)) (now (marks .exit))) × (r .ok ≡ true → r .end + r .used ≡ at + t .used) ⌝ }
+        (now (gone .exit)) (now (marks .exit))) × (r .ok ≡ true → r .end + r .used ≡ at + t .used)
+        × Passed f (now (store .entry)) head (now (marks .exit)) ⌝ }
 {
     take_node(store, f, head, key, t, m, q, hand);
     if !joins {
@@ -183,7 +184,7 @@ fn join_level(
             end: at,
         };
     }
-    removal_plan::join_nodes(
+    siblings::join_nodes(
         store,
         f,
         head,
@@ -211,7 +212,7 @@ fn joined(r: NodeJoins, used: u32) -> bool
     r.used < used
 }
 
-// The way up before its first level, over a page stretch of m bits with the pointer q. The pages joined if it had more bits.
+// The way up before its first level, over a page stretch of m bits with the pointer q. It had `used` bits: if these are more, pages joined.
 fn lowest(used: u32, m: u32, q: u32) -> Rise
     ensures { λ r. ⌜ r ≡ record { ok = true; joins = ltb m used; bits = m; pointer = q; end = 0 } ⌝ }
 {
@@ -241,15 +242,16 @@ fn level_turn(
 ) -> Rise
     requires { ⌜ (Under f (now store) head) × (InUse head (t .node)) × (t .used ≤ width f) × (key < 2 ^ width f) × (l < head .levels)
         × (l < length (now numbers)) × (132 * l + 132 ≤ length (now blocks)) × (length (now spare) ≡ nodeWords (head .theta))
-        × (4096 < length (now marks)) × HandFine f (head .theta) (w .bits) (t .used) (nodeAt (now store) head (t .node))
-        × (w .end + t .used ≤ length (now gone)) × (length (now gone) < 2 ^ 32) ⌝ }
+        × (head .nodesTaken < length (now marks)) × HandFine f (head .theta) (w .bits) (t .used) (nodeAt (now store) head (t .node))
+        × (w .end + t .used ≤ length (now gone)) × (length (now gone) < 2 ^ 32) × Passed f (now store) head (now marks) ⌝ }
     ensures { λ r. ⌜ ((rs : List Reach) → Tracks (width f) key rs (now (marks .entry))
         → Turned f key (head .theta) l (levelNodes f (now (store .entry)) head key (l + 1) t (w .bits) (w .pointer) (w .joins) rs) w r
         (now (blocks .exit)) (now (gone .entry)) (now (gone .exit)) (now (marks .exit)))
         × (r .ok ≡ false → r .joins ≡ false) × (r .ok ≡ true → r .joins ≡ ltb (r .bits) (t .used))
         × (r .ok ≡ true → r .end + r .bits ≡ w .end + t .used)
         × (now (numbers .exit) ≡ set (now (numbers .entry)) l (r .pointer))
-        × ((j : ℕ) → (j ≡ l → ⊥) → blockIn (head .theta) (now (blocks .exit)) j ≡ blockIn (head .theta) (now (blocks .entry)) j) ⌝ }
+        × ((j : ℕ) → (j ≡ l → ⊥) → blockIn (head .theta) (now (blocks .exit)) j ≡ blockIn (head .theta) (now (blocks .entry)) j)
+        × Passed f (now (store .entry)) head (now (marks .exit)) ⌝ }
 {
     let from = 132 * l;
     let to = from + store::node_words(head.theta);
@@ -301,8 +303,8 @@ pub fn join_levels(
     requires { ⌜ (Under f (now store) head) × (key < 2 ^ width f) × (descent f (now store) head key .ok ≡ true)
         × (steps ≡ descent f (now store) head key .steps) × (used ≡ descent f (now store) head key .used) × (m ≤ used)
         × (head .levels ≤ length (now numbers)) × (132 * head .levels ≤ length (now blocks))
-        × (length (now spare) ≡ nodeWords (head .theta)) × (4096 < length (now marks)) × (width f * head .levels ≤ length (now gone))
-        × (length (now gone) < 2 ^ 32) ⌝ }
+        × (length (now spare) ≡ nodeWords (head .theta)) × (head .nodesTaken < length (now marks)) × (width f * head .levels ≤ length (now gone))
+        × (length (now gone) < 2 ^ 32) × Passed f (now store) head (now marks) ⌝ }
     ensures { λ r. ⌜ ((rs : List Reach) → Tracks (width f) key rs (now (marks .entry))
         → Levelled (now (store .entry)) head (take (head .levels) steps)
         (levelsFrom f (now (store .entry)) head key 1 (take (head .levels) steps) m q (ltb m used) rs) r (now (numbers .exit))

@@ -4,7 +4,7 @@ use Prim.Native.Nat.{ℕ, _≤_}
 use native.Mathlib.Omega.{arith}
 use lib.ListN.{length, length-append}
 use Rattle.lines.specs.declared.Reply.{Reply}
-use Rattle.lines.specs.declared.Reply.the-variants.{SetUpDone, Entered, Found, NextIs, Listed, RangeEnd, Totals, Refused, WrongLine}
+use Rattle.lines.specs.declared.Reply.the-variants.{SetUpDone, Entered, Found, Listed, RangeEnd, Totals, Refused, WrongLine}
 use Rattle.lines.specs.declared.Reply.the-variants.{SetUpLine, EnterLine}
 use Rattle.lines.specs.Reply.{fourFields, summaryFields, requestFields, replyLine, lineSize}
 use Rattle.lines.proofs.ColumnLaws.{length-column}
@@ -25,8 +25,7 @@ pub length-reply : (r : Reply) → length (replyLine r) ≡ lineSize r
 unfolding replyLine
 length-reply (SetUpDone size) = length-fields 0 0 size 0 0 0
 length-reply (Entered key levels nodes pages) = length-fields 1 0 key levels nodes pages
-length-reply (Found key price lease last) = length-fields 2 0 key price lease last
-length-reply (NextIs key price lease last) = length-fields 3 0 key price lease last
+length-reply (Found kind key price lease last) = length-fields kind 0 key price lease last
 length-reply (Listed key price lease last) = length-fields 4 0 key price lease last
 length-reply (RangeEnd count) = length-fields 4 1 count 0 0 0
 length-reply (Totals count total key) = length-summary count total key
@@ -39,8 +38,7 @@ length-reply WrongLine = length-fields 99 2 0 0 0 0
 pub size-most : (r : Reply) → lineSize r ≤ 45
 size-most (SetUpDone size) = omega arith
 size-most (Entered key levels nodes pages) = omega arith
-size-most (Found key price lease last) = omega arith
-size-most (NextIs key price lease last) = omega arith
+size-most (Found kind key price lease last) = omega arith
 size-most (Listed key price lease last) = omega arith
 size-most (RangeEnd count) = omega arith
 size-most (Totals count total key) = omega arith

@@ -13,7 +13,7 @@ use Rattle.lists.proofs.AppendLaws.{all-append}
 use Rattle.lists.proofs.Tests.{and-true, and-three, untrue, all-tab}
 use Rattle.lists.proofs.Parts.{part-front, part-past, part-next, length-part}
 use Rattle.lines.specs.declared.Request.{Request}
-use Rattle.lines.specs.declared.Request.the-variants.{SetUp, Enter, Find, Next, Range, Summary, Dump, Wrong}
+use Rattle.lines.specs.declared.Request.the-variants.{SetUp, Enter, Find, Next, Range, Summary, Dump, Remove, Wrong}
 use Rattle.lines.specs.Columns.{plain, skipped, numberOf, isNumber, byteAt, column}
 use Rattle.lines.specs.Request.{kindOf, fieldsOf, columns, requestLine, fieldOf, unused, requestOf, wellFormed, parsed}
 use Rattle.lines.specs.Reply.{lineFeed}
@@ -128,17 +128,18 @@ line-of bs f =
     (next 32 10 42 [] refl (omega arith) (f .fourth) (drop-of-length-le bs {i = 42} (omega arith))))))
 
 pub wrong-kind :
-    (k a b c d : ℕ) → (k ≡ 0 → ⊥) → (k ≡ 1 → ⊥) → (k ≡ 2 → ⊥) → (k ≡ 3 → ⊥) → (k ≡ 4 → ⊥) → (k ≡ 5 → ⊥) → (k ≡ 6 → ⊥)
+    (k a b c d : ℕ) → (k ≡ 0 → ⊥) → (k ≡ 1 → ⊥) → (k ≡ 2 → ⊥) → (k ≡ 3 → ⊥) → (k ≡ 4 → ⊥) → (k ≡ 5 → ⊥) → (k ≡ 6 → ⊥) → (k ≡ 7 → ⊥)
     → requestOf k a b c d ≡ Wrong
 unfolding requestOf
-wrong-kind zero a b c d h₀ h₁ h₂ h₃ h₄ h₅ h₆ = absurd (h₀ refl)
-wrong-kind (suc zero) a b c d h₀ h₁ h₂ h₃ h₄ h₅ h₆ = absurd (h₁ refl)
-wrong-kind (suc (suc zero)) a b c d h₀ h₁ h₂ h₃ h₄ h₅ h₆ = absurd (h₂ refl)
-wrong-kind (suc (suc (suc zero))) a b c d h₀ h₁ h₂ h₃ h₄ h₅ h₆ = absurd (h₃ refl)
-wrong-kind (suc (suc (suc (suc zero)))) a b c d h₀ h₁ h₂ h₃ h₄ h₅ h₆ = absurd (h₄ refl)
-wrong-kind (suc (suc (suc (suc (suc zero))))) a b c d h₀ h₁ h₂ h₃ h₄ h₅ h₆ = absurd (h₅ refl)
-wrong-kind (suc (suc (suc (suc (suc (suc zero)))))) a b c d h₀ h₁ h₂ h₃ h₄ h₅ h₆ = absurd (h₆ refl)
-wrong-kind (suc (suc (suc (suc (suc (suc (suc k))))))) a b c d h₀ h₁ h₂ h₃ h₄ h₅ h₆ = refl
+wrong-kind zero a b c d h₀ h₁ h₂ h₃ h₄ h₅ h₆ h₇ = absurd (h₀ refl)
+wrong-kind (suc zero) a b c d h₀ h₁ h₂ h₃ h₄ h₅ h₆ h₇ = absurd (h₁ refl)
+wrong-kind (suc (suc zero)) a b c d h₀ h₁ h₂ h₃ h₄ h₅ h₆ h₇ = absurd (h₂ refl)
+wrong-kind (suc (suc (suc zero))) a b c d h₀ h₁ h₂ h₃ h₄ h₅ h₆ h₇ = absurd (h₃ refl)
+wrong-kind (suc (suc (suc (suc zero)))) a b c d h₀ h₁ h₂ h₃ h₄ h₅ h₆ h₇ = absurd (h₄ refl)
+wrong-kind (suc (suc (suc (suc (suc zero))))) a b c d h₀ h₁ h₂ h₃ h₄ h₅ h₆ h₇ = absurd (h₅ refl)
+wrong-kind (suc (suc (suc (suc (suc (suc zero)))))) a b c d h₀ h₁ h₂ h₃ h₄ h₅ h₆ h₇ = absurd (h₆ refl)
+wrong-kind (suc (suc (suc (suc (suc (suc (suc zero))))))) a b c d h₀ h₁ h₂ h₃ h₄ h₅ h₆ h₇ = absurd (h₇ refl)
+wrong-kind (suc (suc (suc (suc (suc (suc (suc (suc k)))))))) a b c d h₀ h₁ h₂ h₃ h₄ h₅ h₆ h₇ = refl
 
 -- What a request keeps of the kind and the fields that made it.
 unused-kept : (r : Request) (t : Bool) → (unused r t ≡ Wrong → ⊥) → (t ≡ true) × (unused r t ≡ r)
@@ -179,7 +180,11 @@ request-kept (suc (suc (suc (suc (suc (suc zero)))))) a b c d h =
     let t = and-true (eqb a 0 && eqb b 0 && eqb c 0) (eqb d 0) (u .0) in
     let z = zero-fields a b c (t .0) in
     rw (u .1) (refl, rw (z .0, z .1, z .2, eqb-true d 0 (t .1)))
-request-kept (suc (suc (suc (suc (suc (suc (suc k))))))) a b c d h = absurd (h refl)
+request-kept (suc (suc (suc (suc (suc (suc (suc zero))))))) a b c d h =
+    let u = unused-kept (Remove a) (eqb b 0 && eqb c 0 && eqb d 0) h in
+    let z = zero-fields b c d (u .0) in
+    rw (u .1) (refl, rw (z .0, z .1, z .2))
+request-kept (suc (suc (suc (suc (suc (suc (suc (suc k)))))))) a b c d h = absurd (h refl)
 
 pub line-kept : (bs : List ℕ) → (parsed bs ≡ Wrong → ⊥) → requestLine (parsed bs) ≡ bs
 unfolding requestLine
@@ -207,6 +212,7 @@ line-parsed (Next a) h = parsed-line 3 a 0 0 0 (omega arith) (h .0) (h .1 .0) (h
 line-parsed (Range a b) h = parsed-line 4 a b 0 0 (omega arith) (h .0) (h .1 .0) (h .1 .1 .0) (h .1 .1 .1 .0)
 line-parsed (Summary a b c) h = parsed-line 5 a b c 0 (omega arith) (h .0) (h .1 .0) (h .1 .1 .0) (h .1 .1 .1 .0)
 line-parsed Dump h = parsed-line 6 0 0 0 0 (omega arith) (h .0) (h .1 .0) (h .1 .1 .0) (h .1 .1 .1 .0)
+line-parsed (Remove a) h = parsed-line 7 a 0 0 0 (omega arith) (h .0) (h .1 .0) (h .1 .1 .0) (h .1 .1 .1 .0)
 line-parsed Wrong h = parsed-line 99 0 0 0 0 (omega arith) (h .0) (h .1 .0) (h .1 .1 .0) (h .1 .1 .1 .0)
 
 -- the fields are 32-bit numbers
@@ -234,7 +240,8 @@ request-small (suc (suc (suc zero))) a b c d p q r s = unused-small (Next a) _ (
 request-small (suc (suc (suc (suc zero)))) a b c d p q r s = unused-small (Range a b) _ (p, (q, (none, (none, tt))))
 request-small (suc (suc (suc (suc (suc zero))))) a b c d p q r s = unused-small (Summary a b c) _ (p, (q, (r, (none, tt))))
 request-small (suc (suc (suc (suc (suc (suc zero)))))) a b c d p q r s = unused-small Dump _ (none, (none, (none, (none, tt))))
-request-small (suc (suc (suc (suc (suc (suc (suc k))))))) a b c d p q r s = (none, (none, (none, (none, tt))))
+request-small (suc (suc (suc (suc (suc (suc (suc zero))))))) a b c d p q r s = unused-small (Remove a) _ (p, (none, (none, (none, tt))))
+request-small (suc (suc (suc (suc (suc (suc (suc (suc k)))))))) a b c d p q r s = (none, (none, (none, (none, tt))))
 
 pub fields-small : (bs : List ℕ) → Small (parsed bs)
 unfolding parsed

@@ -1,4 +1,4 @@
--- The sample of document 01, "The counter program", and lines of M-101, as rows of one table. `proofs/Checks.antt` proves that all hold.
+-- The sample of document 01, "The counter program", and lines of M-101 and M-106, as rows of one table. `proofs/Checks.antt` proves that all hold.
 --   Check          == a row: a request line as it stands there with its request, or a reply with its line
 --   bytes text     == the bytes of a text
 --   same xs ys     == the two lists are equal
@@ -13,7 +13,7 @@ use Prim.Native.String.{String}
 use Prim.Native.String as text
 use lib.Dec.{eqb}
 use Rattle.lines.specs.declared.Request.{Request}
-use Rattle.lines.specs.declared.Request.the-variants.{SetUp, Enter, Find, Summary, Dump}
+use Rattle.lines.specs.declared.Request.the-variants.{SetUp, Enter, Find, Summary, Dump, Remove}
 use Rattle.lines.specs.declared.Reply.{Reply}
 use Rattle.lines.specs.declared.Reply.the-variants.{SetUpDone, Entered, Found, Totals, SetUpLine, EnterLine}
 use Rattle.lines.specs.Request.{kindOf, fieldsOf, requestLine, parsed}
@@ -54,10 +54,13 @@ table =
     ∷ reply (Entered 2147483648 1 1 1) " 1 02147483648         1         1         1\n"
     ∷ reply (Entered 3221225472 2 3 2) " 1 03221225472         2         3         2\n"
     ∷ reply (Entered 1073741824 2 3 3) " 1 01073741824         2         3         3\n"
-    ∷ reply (Found 3221225472 90000 0 0) " 2 03221225472     90000         0         0\n"
+    ∷ reply (Found 2 3221225472 90000 0 0) " 2 03221225472     90000         0         0\n"
     ∷ reply (Totals 3 684496 1073741824) " 5 0         3              6844961073741824\n"
     -- M-101
     ∷ request " 6         0         0         0         0" Dump
     ∷ reply (SetUpLine 1 1 4 4) " 0         1         1         4         4\n"
     ∷ reply (EnterLine 2147483648 1250000 36525 66000) " 12147483648   1250000     36525     66000\n"
+    -- M-106
+    ∷ request " 73221225472         0         0         0" (Remove 3221225472)
+    ∷ reply (Found 7 3221225472 90000 0 0) " 7 03221225472     90000         0         0\n"
     ∷ []

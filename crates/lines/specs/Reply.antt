@@ -11,7 +11,7 @@ use Prim.Native.Nat.{ℕ}
 use lib.Dec.{leb}
 use lib.ListN.{length, drop}
 use Rattle.lines.specs.declared.Reply.{Reply}
-use Rattle.lines.specs.declared.Reply.the-variants.{SetUpDone, Entered, Found, NextIs, Listed, RangeEnd, Totals, Refused, WrongLine}
+use Rattle.lines.specs.declared.Reply.the-variants.{SetUpDone, Entered, Found, Listed, RangeEnd, Totals, Refused, WrongLine}
 use Rattle.lines.specs.declared.Reply.the-variants.{SetUpLine, EnterLine}
 use Rattle.lines.specs.Columns.{column}
 use Rattle.lines.specs.Request.{columns}
@@ -36,8 +36,7 @@ requestFields kind a b c d = column 2 kind ++ columns (a ∷ b ∷ c ∷ d ∷ [
 unfoldable pub replyLine : Reply → List ℕ
 replyLine (SetUpDone size) = fourFields 0 0 size 0 0 0
 replyLine (Entered key levels nodes pages) = fourFields 1 0 key levels nodes pages
-replyLine (Found key price lease last) = fourFields 2 0 key price lease last
-replyLine (NextIs key price lease last) = fourFields 3 0 key price lease last
+replyLine (Found kind key price lease last) = fourFields kind 0 key price lease last
 replyLine (Listed key price lease last) = fourFields 4 0 key price lease last
 replyLine (RangeEnd count) = fourFields 4 1 count 0 0 0
 replyLine (Totals count total key) = summaryFields count total key
@@ -53,8 +52,7 @@ pub record After : Type 0 where
 abbrev pub lineSize : Reply → ℕ
 lineSize (SetUpDone size) = 45
 lineSize (Entered key levels nodes pages) = 45
-lineSize (Found key price lease last) = 45
-lineSize (NextIs key price lease last) = 45
+lineSize (Found kind key price lease last) = 45
 lineSize (Listed key price lease last) = 45
 lineSize (RangeEnd count) = 45
 lineSize (Totals count total key) = 45

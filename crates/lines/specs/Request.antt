@@ -12,11 +12,12 @@ use lib.Dec.{eqb}
 use lib.ListN.{length}
 use Rattle.lists.specs.Lists.{part}
 use Rattle.lines.specs.declared.Request.{Request}
-use Rattle.lines.specs.declared.Request.the-variants.{SetUp, Enter, Find, Next, Range, Summary, Dump, Wrong}
+use Rattle.lines.specs.declared.Request.the-variants.{SetUp, Enter, Find, Next, Range, Summary, Dump, Remove, Wrong}
 use Rattle.lines.specs.Columns.{numberOf, isNumber, column}
 
 -- "The kind selects: 0 set-up (θ, C, N, P), 1 enter, 2 find, 3 next, 4 range (low, high), 5 summary (low, high, today)". M-101: "A new kind
--- 6, all fields 0, prints the store as input lines"; "Wrong lines are kinds 7 to 99."
+-- 6, all fields 0, prints the store as input lines". M-106: "a remove call by key, kind 7 in the
+-- program"; "Wrong lines are kinds 8 to 99."
 abbrev pub kindOf : Request → ℕ
 kindOf (SetUp a b c d) = 0
 kindOf (Enter a b c d) = 1
@@ -25,6 +26,7 @@ kindOf (Next a) = 3
 kindOf (Range a b) = 4
 kindOf (Summary a b c) = 5
 kindOf Dump = 6
+kindOf (Remove a) = 7
 kindOf Wrong = 99
 
 -- "Unused fields are 0."
@@ -36,6 +38,7 @@ fieldsOf (Next a) = a ∷ 0 ∷ 0 ∷ 0 ∷ []
 fieldsOf (Range a b) = a ∷ b ∷ 0 ∷ 0 ∷ []
 fieldsOf (Summary a b c) = a ∷ b ∷ c ∷ 0 ∷ []
 fieldsOf Dump = 0 ∷ 0 ∷ 0 ∷ 0 ∷ []
+fieldsOf (Remove a) = a ∷ 0 ∷ 0 ∷ 0 ∷ []
 fieldsOf Wrong = 0 ∷ 0 ∷ 0 ∷ 0 ∷ []
 
 abbrev pub columns : List ℕ → List ℕ
@@ -62,7 +65,8 @@ requestOf (suc (suc (suc zero))) a b c d = unused (Next a) (eqb b 0 && eqb c 0 &
 requestOf (suc (suc (suc (suc zero)))) a b c d = unused (Range a b) (eqb c 0 && eqb d 0)
 requestOf (suc (suc (suc (suc (suc zero))))) a b c d = unused (Summary a b c) (eqb d 0)
 requestOf (suc (suc (suc (suc (suc (suc zero)))))) a b c d = unused Dump (eqb a 0 && eqb b 0 && eqb c 0 && eqb d 0)
-requestOf (suc (suc (suc (suc (suc (suc (suc kind))))))) a b c d = Wrong
+requestOf (suc (suc (suc (suc (suc (suc (suc zero))))))) a b c d = unused (Remove a) (eqb b 0 && eqb c 0 && eqb d 0)
+requestOf (suc (suc (suc (suc (suc (suc (suc (suc kind)))))))) a b c d = Wrong
 
 -- the kind and the four fields are all numbers
 unfoldable pub wellFormed : List ℕ → Bool

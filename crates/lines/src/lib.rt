@@ -20,15 +20,16 @@ pub enum Request {
     Range(u32, u32),
     Summary(u32, u32, u32),
     Dump,
+    Remove(u32),
     Wrong,
 }
 
-// What is replied. SetUpLine and EnterLine are lines of a register written out: requests, with no answer.
+// What is replied. Found has the kind of its request before the record: find, next or remove. SetUpLine and EnterLine are lines of a
+// register written out: requests, with no answer.
 pub enum Reply {
     SetUpDone(u32),
     Entered(u32, u32, u32, u32),
-    Found(u32, u32, u32, u32),
-    NextIs(u32, u32, u32, u32),
+    Found(u32, u32, u32, u32, u32),
     Listed(u32, u32, u32, u32),
     RangeEnd(u32),
     Totals(u32, u64, u32),
@@ -143,7 +144,8 @@ fn request_of(kind: u32, a: u32, b: u32, c: u32, d: u32) -> Request
         4 => unless_used(Request::Range(a, b), zeros(0, c, d)),
         5 => unless_used(Request::Summary(a, b, c), zeros(0, 0, d)),
         6 => unless_used(Request::Dump, zeros(a, b, c) & (d == 0)),
-        7..=99 => Request::Wrong,
+        7 => unless_used(Request::Remove(a), zeros(b, c, d)),
+        8..=99 => Request::Wrong,
         _ => Request::Wrong,
     }
 }
@@ -273,8 +275,15 @@ pub fn write(out: &mut [u8], reply: Reply) -> usize
             nodes,
             pages,
         ),
-        Reply::Found(key, price, lease, last) => put_fields(out, 2, 0, key, price, lease, last),
-        Reply::NextIs(key, price, lease, last) => put_fields(out, 3, 0, key, price, lease, last),
+        Reply::Found(kind, key, price, lease, last) => put_fields(
+            out,
+            kind,
+            0,
+            key,
+            price,
+            lease,
+            last,
+        ),
         Reply::Listed(key, price, lease, last) => put_fields(out, 4, 0, key, price, lease, last),
         Reply::RangeEnd(count) => put_fields(out, 4, 1, count, 0, 0, 0),
         Reply::Totals(count, total, key) => put_summary(out, count, total, key),

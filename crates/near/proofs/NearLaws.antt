@@ -1,13 +1,13 @@
--- What the code says of the page and the stretch beside it, and of the removal.
+-- The joins of the key's page with the page beside it, the end of the key's way, and the plan of a removal after which nothing joins.
 use mathlib.Core.Path.{_≡_, refl, sym, ap, ap₂, _∙_, subst}
-use mathlib.Core.Bool.{Bool, true, false, _||_, not, true≢false, false≢true}
+use mathlib.Core.Bool.{Bool, true, false, _||_}
 use mathlib.Core.List.{List, [], _∷_, map}
 use Prim.Native.Nat.{ℕ, suc, _+_, _-_, _^_, _≤_, _<_}
 use native.Mathlib.Omega.{arith}
-use lib.Dec.{eqb, ltb}
+use lib.Dec.{eqb}
 use lib.ListN.{length, getD, take, drop, length-replicate}
 use lib.Seq.{length-take-le, getD-take, drop-cons}
-use borrow.Author.Tests.{le-leb, lt-leb, eq-eqb, ne-eqb, ltb-true}
+use borrow.Author.Tests.{le-leb, lt-leb}
 use Rattle.lists.specs.Bits.{bits, index}
 use Rattle.lists.specs.Lists.{All}
 use Rattle.lists.proofs.BitLaws.{drop-bits}
@@ -16,11 +16,10 @@ use Rattle.store.specs.declared.Format.{Format}
 use Rattle.store.specs.declared.Head.{Head}
 use Rattle.store.specs.declared.Item.{Item}
 use Rattle.store.specs.Format.{width}
-use Rattle.store.specs.Head.{word, nodeStart, nodeAt, pageAt, InUse, Under}
+use Rattle.store.specs.Head.{nodeStart, nodeAt, pageAt, InUse, Under}
 use Rattle.store.proofs.Places.{under-counts}
 use Rattle.node.specs.Node.{depthWord, entryNumber}
 use Rattle.node.proofs.EntryNumber.{entry-index}
-use Rattle.page.specs.Page.{count}
 use Rattle.page.specs.Schema.{keyOf}
 use Rattle.search.specs.declared.Step.{Step}
 use Rattle.search.specs.declared.Visit.{Visit}
@@ -29,8 +28,7 @@ use Rattle.search.specs.declared.End.{End}
 use Rattle.search.specs.Descent.{noStep, noSteps, soundNode, stepOf, lost, descend, descent, endOf, terminal, ownVisit}
 use Rattle.search.specs.Find.{soundPage}
 use Rattle.search.proofs.BlockLaws.{under-levels, root-in-use, block-long, block-rule, block-depth, own-read}
-use Rattle.search.proofs.DescentLaws.{step-entry, node-deep}
-use Rattle.search.proofs.FindLaws.{sound-rule}
+use Rattle.search.proofs.DescentLaws.{step-entry, node-deep, seen-bits}
 use Rattle.search.proofs.TerminalLaws.{Ended, terminal-ok, terminal-ended, lost-is}
 use Rattle.split.specs.Frame.{nodeOf}
 use Rattle.split.specs.Insertion.{putItems}
@@ -38,36 +36,37 @@ use Rattle.insert.specs.Enter.{ownItems}
 use Rattle.insert.proofs.InsideEnter.{StepIn, Down, descent-down}
 use Rattle.joins.specs.Joins.{without}
 use Rattle.fuse.specs.Join.{cover}
-use Rattle.gather.specs.Gather.{OwnPage}
 use Rattle.remove.specs.Remove.{Reach, Pages, siblingKey, covered, pathReach, Plan, spotAt, keptLevels, topOf, stuckPages, noPages, pageJoins, planOf, writtenBy}
 use Rattle.remove.proofs.PagePhase.{turn-damaged, turn-none, turn-full}
 use Rattle.remove.proofs.InsideRemove.{head-facts}
-use Rattle.near.specs.declared.Near.{Near}
-use Rattle.near.specs.Near.{begun, rootStays, PairApart, PageAlone}
+use Rattle.levels.proofs.PathFacts.{all-steps}
+use Rattle.near.specs.Near.{rootStays}
+use Rattle.near.specs.Promises.{begun}
 use Rattle.near.proofs.CoverOwn.{cover-own}
-use Rattle.near.proofs.SiblingNear.{found-ok, at, step-here, all-taken, Beside, sibling-near}
-use Rattle.near.proofs.StayPlan.{some-left, all-kept, top-node, stayed, plan-lost, plan-stays}
+use Rattle.near.proofs.SiblingNear.{found-ok, at, step-here, Beside, sibling-near}
+use Rattle.near.proofs.StayPlan.{all-kept, top-node, stayed, plan-stays}
 use Rattle.near.proofs.StayWrites.{writes-page}
+use Rattle.near.proofs.Told.{root-deep}
 
 -- one turn of the joins of pages
 module _ (f : Format) (s : List ℕ) (h : Head) (k m page : ℕ) (its : List Item) (rs : List Reach) (n b : ℕ) (v : Visit) (y : Beside f s h k m rs n b v)
     (some : 1 ≤ m) where
-  abbrev start : Pages
+  abbrev pub start : Pages
   start = record { ok = true; used = m; page = page; items = its; released = []; reached = rs }
 
-  abbrev test : Bool
+  abbrev pub test : Bool
   test = eqb (v .pointer) 0 || soundPage f h (pageAt f s h (v .pointer)) (siblingKey (width f) k m) m
 
   turns : pageJoins f s h k m start ≡ pageJoins f s h k (suc (m - 1)) start
   turns = ap (λ x. pageJoins f s h k x start) (let e : m ≡ suc (m - 1) = omega arith in e)
 
-  joins-none : m < b + v .depth → pageJoins f s h k m start ≡ stuckPages start (y .reached)
+  pub joins-none : m < b + v .depth → pageJoins f s h k m start ≡ stuckPages start (y .reached)
   joins-none l = turns ∙ turn-none f s h k (m - 1) start _ (sym (y .none l)) refl refl
 
-  joins-lost : b + v .depth ≤ m → test ≡ false → pageJoins f s h k m start ≡ noPages
+  pub joins-lost : b + v .depth ≤ m → test ≡ false → pageJoins f s h k m start ≡ noPages
   joins-lost l t = turns ∙ turn-damaged f s h k (m - 1) start _ (sym (y .some l)) refl refl t
 
-  joins-full : b + v .depth ≤ m → test ≡ true → h .capacity < length its + length (ownItems f s h (v .pointer))
+  pub joins-full : b + v .depth ≤ m → test ≡ true → h .capacity < length its + length (ownItems f s h (v .pointer))
       → pageJoins f s h k m start ≡ stuckPages start (y .reached)
   joins-full l t q = turns ∙ turn-full f s h k (m - 1) start _ (sym (y .some l)) refl refl t (lt-leb _ _ q)
 
@@ -91,7 +90,7 @@ module _ {f : Format} {s : List ℕ} {h : Head} (k : ℕ) (u : Under f s h) (ok 
   end-sound : soundNode f s h 1 (at d 0 .node) (at d 0 .used) ≡ true
   end-sound = rw (first .2, le-leb (at d 0 .used + depthWord s (nodeStart h (at d 0 .node))) (width f) (first .3))
 
-  used-within : d .used ≤ width f
+  pub used-within : d .used ≤ width f
   used-within = down .used-in
 
   ended : Ended f s h k d (at d 0 .node) (at d 0 .used)
@@ -101,10 +100,10 @@ module _ {f : Format} {s : List ℕ} {h : Head} (k : ℕ) (u : Under f s h) (ok 
       let b : terminal f s h k .used ≡ at d 0 .used = sym (ap (λ (x : Step). x .used) (t .step)) in
       subst (λ x. Ended f s h k d (at d 0 .node) x) b (subst (λ x. Ended f s h k d x (terminal f s h k .used)) n t)
 
-  beside : (m : ℕ) → at d 0 .used < m → m ≤ width f
+  pub found-beside : (m : ℕ) → at d 0 .used < m → m ≤ width f
       → Beside f s h k m (pathReach (width f) k (take (h .levels) (d .steps))) (at d 0 .node) (at d 0 .used)
       (stepOf f s h (siblingKey (width f) k m) 1 (at d 0 .node) (at d 0 .used))
-  beside = sibling-near f s h k (under-levels u .0) (under-levels u .1) ok (λ j l. stepped j l .2) end-sound
+  found-beside = sibling-near f s h k (under-levels u .0) (under-levels u .1) ok (λ j l. stepped j l .2) end-sound
 
   -- its node has the page's run as it is
   own-covered : k < 2 ^ width f
@@ -147,7 +146,7 @@ module _ {f : Format} {s : List ℕ} {h : Head} (k : ℕ) (u : Under f s h) (ok 
 
   path-in : All (λ (t : Step). (1 ≤ t .node) × (t .node ≤ h .nodeBlocks)) (take (h .levels) (d .steps))
   path-in =
-      all-taken (λ t. (1 ≤ t .node) × (t .node ≤ h .nodeBlocks)) (h .levels) (d .steps)
+      all-steps (λ t. (1 ≤ t .node) × (t .node ≤ h .nodeBlocks)) (h .levels) (d .steps)
       (λ i p q. let w = stepped i p in (w .0, omega (arith, w .1, under-counts u .taken)))
 
 -- the same over the head that is carried
@@ -160,20 +159,6 @@ writes-under {f} {s} {h} u page its ts =
     → All (λ (t : Step). (1 ≤ t .node) × (t .node ≤ i .nodeBlocks)) ts → topOf (map (spotAt s) ts) ≡ i .root
     → length ts ≡ i .levels → putItems f (i .capacity) s page its ≡ writtenBy f s i (stayed s page its ts))
     (sym (u .head)) (writes-page f s page its ts (head-facts f s (u .rule) .room))
-
--- the root's test
-module _ (s : List ℕ) (h : Head) where
-  pub one-level : h .levels ≡ 1 → true ≡ rootStays s h
-  unfolding rootStays
-  one-level e = sym (rw (eq-eqb (h .levels) 1 e, rootStays) refl)
-
-  pub root-told : (h .levels ≡ 1 → ⊥) → {a x : ℕ} → a ≡ nodeStart h (h .root) → x ≡ getD s a 0 → not (eqb x 0) ≡ rootStays s h
-  unfolding rootStays
-  root-told n ea ex = sym (rw (ne-eqb (h .levels) 1 n, rootStays) (ap (λ y. not (eqb y 0)) (sym (ex ∙ ap (word s) ea))))
-
-  root-deep : rootStays s h ≡ true → (h .levels ≡ 1 → ⊥) → depthWord s (nodeStart h (h .root)) ≡ 0 → ⊥
-  unfolding rootStays
-  root-deep t n z = false≢true (sym (rw (ne-eqb (h .levels) 1 n, eq-eqb (depthWord s (nodeStart h (h .root))) 0 z, rootStays) refl) ∙ t)
 
 -- the removal that is done
 pub near-done : {f : Format} {s : List ℕ} {h : Head} (k : ℕ) → Under f s h → descent f s h k .ok ≡ true → k < 2 ^ width f
@@ -214,18 +199,6 @@ end-ok f s h k q some =
     by-cases (descent f s h k .ok) (λ t. t)
     (λ t. absurd (omega (arith, some, ap (λ (x : End). x .page) q, ap (λ (x : Descent). x .page) (lost-is f s h k t))))
 
--- what find tests is what is asked of the key's page
-pub own-asked : {f : Format} {s : List ℕ} {h : Head} (k : ℕ) → Under f s h → {e : End} → e ≡ endOf (descent f s h k) → (e .page ≡ 0 → ⊥)
-    → soundPage f h (pageAt f s h (e .page)) k (e .used) ≡ true → {i : ℕ} → i < count (pageAt f s h (e .page)) → OwnPage f s h (e .page) i
-own-asked {f} {s} {h} k u {e} q some sound {i} inside =
-    let low : 1 ≤ e .page = omega (arith, some) in
-    record {
-      some = low;
-      taken = omega (arith, ap (λ (x : End). x .page) q, down k u (end-ok f s h k q low) .page-in);
-      rule = sound-rule f h (pageAt f s h (e .page)) k (e .used) sound;
-      inside = inside;
-    }
-
 -- the end of a way, as the code has it
 module _ {f : Format} {s : List ℕ} {h : Head} (k : ℕ) (u : Under f s h) {e : End} (q : e ≡ endOf (descent f s h k)) (o : e .ok ≡ true) where
   abbrev way : Descent
@@ -261,106 +234,5 @@ module _ {f : Format} {s : List ℕ} {h : Head} (k : ℕ) (u : Under f s h) {e :
       ∙ found-ok f s h sk n b
       (sym (step-entry f s h sk 1 n b (end-sound k u way-ok)))
 
-  module _ {left : ℕ} (el : left ≡ length (without keyOf k (ownItems f s h (e .page)))) (one : 1 ≤ left) (above : e .before < e .used) {other : ℕ}
-      (eo : other ≡ siblingKey (width f) k (e .used)) {v : Visit} (ev : v ≡ stepOf f s h other 1 (e .node) (e .before)) where
-    abbrev its : List Item
-    its = without keyOf k (ownItems f s h (way .page))
-
-    abbrev own : Visit
-    own = stepOf f s h (siblingKey (width f) k (way .used)) 1 n b
-
-    abbrev reaches : List Reach
-    reaches = pathReach (width f) k (take (h .levels) (way .steps))
-
-    own-is : v ≡ own
-    own-is =
-        ev ∙ ap₂ (λ x y. stepOf f s h other 1 x y) node-is before-is
-        ∙ ap (λ x. stepOf f s h x 1 n b) (eo ∙ ap (siblingKey (width f) k) used-is)
-
-    left-is : length its ≡ left
-    left-is = ap (λ p. length (without keyOf k (ownItems f s h p))) (sym (ap (λ (x : End). x .page) q)) ∙ sym el
-
-    besides : Beside f s h k (way .used) reaches n b own
-    besides = beside k u way-ok (way .used) (omega (arith, above, before-is, used-is)) (used-within k u way-ok)
-
-    begins : begun f s h k way ≡ record { ok = true; used = way .used; page = way .page; items = its; released = []; reached = reaches }
-    begins = some-left (way .used) (way .page) its reaches (omega (arith, one, left-is))
-
-    some : 1 ≤ way .used
-    some = omega (arith, above, used-is)
-
-    abbrev began : Pages
-    began = start f s h k (way .used) (way .page) its reaches n b own besides some
-
-    joins : pageJoins f s h k (way .used) (begun f s h k way)
-        ≡ pageJoins f s h k (way .used) began
-    joins = ap (pageJoins f s h k (way .used)) begins
-
-    deep-is : e .before + v .depth ≡ b + own .depth
-    deep-is = ap₂ (λ x y. x + y) before-is (ap (λ (x : Visit). x .depth) own-is)
-
-    pub apart-none : e .used < e .before + v .depth → PairApart f s h k (record { ok = true; done = true })
-    apart-none l =
-        record {
-          lost = λ z. absurd (true≢false z);
-          apart = λ z. (
-            besides .reached,
-            joins
-                ∙ joins-none f s h k (way .used) (way .page) its reaches n b own besides some (omega (arith, l, deep-is, used-is))
-                ∙ ap (λ g. stuckPages g (besides .reached)) (sym begins),
-          );
-        }
-
-    module _ (near : e .before + v .depth ≤ e .used) {t : Bool}
-        (et : t ≡ (eqb (v .pointer) 0 || soundPage f h (pageAt f s h (v .pointer)) other (e .used))) where
-      test-is : (eqb (own .pointer) 0 || soundPage f h (pageAt f s h (own .pointer)) (siblingKey (width f) k (way .used)) (way .used)) ≡ t
-      test-is =
-          sym (et
-          ∙ ap (λ p. eqb p 0 || soundPage f h (pageAt f s h p) other (e .used)) (ap (λ (x : Visit). x .pointer) own-is)
-          ∙ ap₂ (λ x y. eqb (own .pointer) 0 || soundPage f h (pageAt f s h (own .pointer)) x y) (eo ∙ ap (siblingKey (width f) k) used-is) used-is)
-
-      pub apart-lost : t ≡ false → PairApart f s h k (record { ok = false; done = false })
-      apart-lost z =
-          record {
-            lost = λ _.
-                joins
-                ∙ joins-lost f s h k (way .used) (way .page) its reaches n b own besides some (omega (arith, near, deep-is, used-is)) (test-is ∙ z);
-            apart = λ y. absurd (false≢true y);
-          }
-
-      pub apart-told : t ≡ true → {c : ℕ} → c ≡ length (ownItems f s h (v .pointer)) → {x : ℕ} → x ≡ h .capacity
-          → PairApart f s h k (record { ok = true; done = ltb x (left + c) })
-      apart-told z {c} ec {x} ex =
-          record {
-            lost = λ y. absurd (true≢false y);
-            apart = λ y. (
-              besides .reached,
-              joins
-                  ∙ joins-full f s h k (way .used) (way .page) its reaches n b own besides some (omega (arith, near, deep-is, used-is)) (test-is ∙ z)
-                  (omega (arith, ltb-true x (left + c) y, ex, left-is, ec, ap (λ (x : Visit). length (ownItems f s h (x .pointer))) own-is))
-                  ∙ ap (λ g. stuckPages g (besides .reached)) (sym begins),
-            );
-          }
-
-pub undecided : (f : Format) (s : List ℕ) (h : Head) (k : ℕ) → PairApart f s h k (record { ok = true; done = false })
-undecided f s h k = record { lost = λ z. absurd (true≢false z); apart = λ z. absurd (false≢true z) }
-
--- what is said of the removal
-pub alone-undecided : (f : Format) (s : List ℕ) (h : Head) (k page : ℕ) → PageAlone f s h k page (record { ok = true; done = false })
-alone-undecided f s h k page = record { lost = λ z. absurd (true≢false z); alone = λ z. absurd (false≢true z) }
-
-pub alone-told : {f : Format} {s : List ℕ} {h : Head} (k : ℕ) → Under f s h → k < 2 ^ width f → {e : End} → e ≡ endOf (descent f s h k) → 1 ≤ e .page
-    → {left : ℕ} → left ≡ length (without keyOf k (ownItems f s h (e .page))) → 1 ≤ left → left ≤ h .capacity → rootStays s h ≡ true
-    → {r : Near} → PairApart f s h k r → PageAlone f s h k (e .page) r
-alone-told {f} {s} {h} k u low {e} q some {left} el one fits root {r} y =
-    let way : Descent = descent f s h k in
-    let page-is : e .page ≡ way .page = ap (λ (x : End). x .page) q in
-    let many : length (without keyOf k (ownItems f s h (way .page))) ≡ left =
-    ap (λ p. length (without keyOf k (ownItems f s h p))) (sym page-is) ∙ sym el in
-    subst (λ p. PageAlone f s h k p r) (sym page-is)
-    (record {
-      lost = λ z. plan-lost f s h k way (y .lost z);
-      alone = λ z.
-          let w = y .apart z in
-          near-done k u (end-ok f s h k q some) low (omega (arith, some, page-is)) (omega (arith, one, many)) (omega (arith, fits, many)) root (w .0) (w .1);
-    })
+  pub end-run : (sk : ℕ) {v : Visit} → v ≡ stepOf f s h sk 1 (e .node) (e .before) → e .before + v .depth ≤ width f
+  end-run sk ev = seen-bits f s h sk 1 (e .node) (e .before) ev (ap (λ (x : Visit). x .ok) ev ∙ end-visited sk)

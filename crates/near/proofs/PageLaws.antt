@@ -22,9 +22,10 @@ use Rattle.represent.proofs.PageImage.{page-key}
 use Rattle.split.specs.Insertion.{SameSizes, putItems}
 use Rattle.insert.specs.Enter.{ownItems}
 use Rattle.joins.specs.Joins.{without}
-use Rattle.unput.proofs.Laws.{without-at}
-use Rattle.removal_write.proofs.LoopLaws.{page-back}
+use Rattle.merge.proofs.Laws.{without-at}
+use Rattle.apply.proofs.LoopLaws.{page-back}
 use Rattle.gather.specs.Gather.{OwnPage}
+use Rattle.near.specs.Near.{leftIn}
 use Rattle.gather.proofs.GatherLaws.{page-long, own-image, own-lawful, own-sorted, own-count, own-fits}
 
 module _ {f : Format} {s : List ℕ} {h : Head} (u : Under f s h) {p i : ℕ} (y : OwnPage f s h p i) where
@@ -83,12 +84,16 @@ module _ {f : Format} {s : List ℕ} {h : Head} (u : Under f s h) {p i : ℕ} (y
     pub record-out : {ws : List ℕ}
         → ((rs : List Item) → take (a + w - a) (drop a s) ≡ pageImage f (h .capacity) rs → All (λ it. lawfulItem f it ≡ true) rs → Sorted keyOf rs
         → ws ≡ pageImage f (h .capacity) (without keyOf (keyAt f (take (a + w - a) (drop a s)) i) rs))
-        → (k : ℕ) → keyAt f pg i ≡ k
-        → take a s ++ (ws ++ drop (a + w - a) (drop a s)) ≡ putItems f (h .capacity) s p (without keyOf k its)
-    record-out {ws} t k e =
-        page-back s h sizes f p a w ws (pageImage f (h .capacity) (without keyOf k its)) ea ew
+        → take a s ++ (ws ++ drop (a + w - a) (drop a s)) ≡ putItems f (h .capacity) s p (leftIn f s h (keyAt f pg i) p)
+    record-out {ws} t =
+        page-back s h sizes f p a w ws (pageImage f (h .capacity) (leftIn f s h (keyAt f pg i) p)) ea ew
         (t its (lent ∙ image) (own-lawful u (y .some) (y .taken) (y .rule)) (own-sorted u (y .some) (y .taken) (y .rule))
-        ∙ ap (λ x. pageImage f (h .capacity) (without keyOf x its)) (ap (λ x. keyAt f x i) lent ∙ e))
+        ∙ ap (λ x. pageImage f (h .capacity) (without keyOf (keyAt f x i) its)) lent)
       where
         sizes : SameSizes (headOf s) h
         sizes = subst (SameSizes (headOf s)) (sym (u .head)) (record { theta = refl; capacity = refl; nodes = refl; pages = refl })
+
+-- the record taken out is the key's
+pub record-key : (f : Format) (s : List ℕ) (h : Head) (p : ℕ) {x k : ℕ} → x ≡ k → {t : List ℕ} → t ≡ putItems f (h .capacity) s p (leftIn f s h x p)
+    → t ≡ putItems f (h .capacity) s p (leftIn f s h k p)
+record-key f s h p e g = g ∙ ap (λ y. putItems f (h .capacity) s p (leftIn f s h y p)) e

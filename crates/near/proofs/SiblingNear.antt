@@ -11,7 +11,7 @@ use native.Mathlib.Omega.{arith}
 use lib.Dec.{eqb}
 use lib.ListN.{length, getD, set, take, length-set, length-replicate}
 use lib.Seq.{getD-set-same, getD-set-other}
-use borrow.Author.Tests.{lt-ltb, le-ltb, eqb-true, eq-eqb}
+use borrow.Author.Tests.{eqb-true, eq-eqb}
 use Rattle.lists.specs.Lists.{All}
 use Rattle.lists.proofs.Cases.{bool-cases}
 use Rattle.store.specs.declared.Format.{Format}
@@ -28,22 +28,12 @@ use Rattle.search.proofs.DescentLaws.{step-lost, step-on, step-entry, visited-s
 use Rattle.search.proofs.TerminalLaws.{fewer, node-same}
 use Rattle.remove.specs.Remove.{Reach, once, siblingKey, reachAt, seek, sibling, pathReach}
 use Rattle.remove.proofs.SiblingKeys.{sibling-other, other-div}
+use Rattle.remove.proofs.SiblingLaws.{turn-near, turn-far}
+use Rattle.levels.proofs.PathFacts.{all-steps}
 
--- one turn of the descent to a sibling
-module _ (f : Format) (s : List ℕ) (h : Head) (k m j n used : ℕ) (rs : List Reach) (v : Visit) (e : v ≡ stepOf f s h k (suc j) n used) (ok : v .ok ≡ true)
-    (o : once (reachAt (width f) k n used) rs ≡ true) where
-  there : v ≡ stepOf f s h k (suc j + 0) n used
-  there = e ∙ ap (λ l. stepOf f s h k l n used) (let z : suc j ≡ suc j + 0 = omega arith in z)
-
-  seek-far : m < used + v .depth
-      → seek f s h k m 0 (suc j) n used rs ≡ record { ok = true; found = false; pointer = 0; reached = reachAt (width f) k n used ∷ rs }
-  unfolding seek
-  seek-far l = rw (rw there at ok, o, lt-ltb m (used + stepOf f s h k (suc j + 0) n used .depth) (rw there at l), seek)
-
-  seek-near : used + v .depth ≤ m
-      → seek f s h k m 0 (suc j) n used rs ≡ seek f s h k m 0 j (v .pointer) (used + v .depth) (reachAt (width f) k n used ∷ rs)
-  unfolding seek
-  seek-near l = rw (there, rw there at ok, o, le-ltb m (used + stepOf f s h k (suc j + 0) n used .depth) (rw there at l), seek)
+-- a level over the pages
+over-pages : (f : Format) (s : List ℕ) (h : Head) (k j n used : ℕ) → stepOf f s h k (suc j) n used ≡ stepOf f s h k (suc j + 0) n used
+over-pages f s h k j n used = ap (λ l. stepOf f s h k l n used) (let z : suc j ≡ suc j + 0 = omega arith in z)
 
 -- an entry that is read
 pub found-ok : (f : Format) (s : List ℕ) (h : Head) (k n used : ℕ) {v : Visit} → v ≡ ownVisit f s h k n used → v .ok ≡ true
@@ -192,18 +182,13 @@ module _ (f : Format) (s : List ℕ) (h : Head) (k k′ m : ℕ) (d : Descent) (
         reached = i .reached;
         on-path = i .on-path;
         left =
-            seek-near f s h k′ m (suc l) n used rs v′ refl (found-ok f s h k′ n used own′) (ap (λ x. once x rs) r ∙ once-path (suc l) p rs a)
+            turn-near f s h k′ m 0 (suc l) n used rs v′ (over-pages f s h k′ (suc l) n used) (found-ok f s h k′ n used own′) (ap (λ x. once x rs) r ∙ once-path (suc l) p rs a)
             (omega (arith, depth-is, grown, low))
             ∙ ap₂ (λ x y. seek f s h k′ m 0 (suc l) x (used + y) (reachAt (width f) k′ n used ∷ rs)) pointer-is depth-is
             ∙ i .left;
       }
 
--- what holds of each step holds of all, and of their reaches
-pub all-taken : (P : Step → Type 0) (n : ℕ) (ts : List Step) → ((i : ℕ) → i < n → i < length ts → P (getD ts i noStep)) → All P (take n ts)
-all-taken P zero ts a = tt
-all-taken P (suc n) [] a = tt
-all-taken P (suc n) (t ∷ ts) a = (a 0 (omega arith) (omega arith), all-taken P n ts (λ i p q. a (suc i) (omega arith) (omega arith)))
-
+-- what holds of the reach of each step holds of all
 all-reach : (P : Reach → Type 0) (g : Step → Reach) (ts : List Step) → All (λ t. P (g t)) ts → All P (map g ts)
 all-reach P g [] a = tt
 all-reach P g (t ∷ ts) a = (a .0, all-reach P g ts (a .1))
@@ -239,7 +224,7 @@ module _ (f : Format) (s : List ℕ) (h : Head) (k : ℕ) (levels : 1 ≤ h .lev
       let rs : List Reach = pathReach W k ts in
       let on : All (OnPath f s h k k′ m d ok (h .levels) rules agree (omega arith)) rs =
       all-reach (OnPath f s h k k′ m d ok (h .levels) rules agree (omega arith)) (λ t. reachAt W k (t .node) (t .used)) ts
-      (all-taken (λ t. OnPath f s h k k′ m d ok (h .levels) rules agree (omega arith) (reachAt W k (t .node) (t .used))) (h .levels) (d .steps)
+      (all-steps (λ t. OnPath f s h k k′ m d ok (h .levels) rules agree (omega arith) (reachAt W k (t .node) (t .used))) (h .levels) (d .steps)
       (λ i p q. (i, p, refl))) in
       let c = came f s h k k′ m d ok (h .levels) rules agree (omega arith) (h .levels - 1) (h .root) 0 noSteps rs (omega arith)
       (omega (arith, length-replicate 32 noStep)) (ap (λ l. descend f s h k l (h .root) 0 noSteps) up) on in
@@ -251,6 +236,6 @@ module _ (f : Format) (s : List ℕ) (h : Head) (k : ℕ) (levels : 1 ≤ h .lev
       ap (λ x. once x (c .reached)) r ∙ once-path f s h k k′ m d ok (h .levels) rules agree (omega arith) 0 (omega arith) (c .reached) (c .on-path) in
       record {
         reached = reachAt W k′ n u ∷ c .reached;
-        none = λ l. whole ∙ seek-far f s h k′ m 0 n u (c .reached) v refl (found-ok f s h k′ n u own) o l;
-        some = λ l. whole ∙ seek-near f s h k′ m 0 n u (c .reached) v refl (found-ok f s h k′ n u own) o l;
+        none = λ l. whole ∙ turn-far f s h k′ m 0 0 n u (c .reached) v (over-pages f s h k′ 0 n u) (found-ok f s h k′ n u own) o l;
+        some = λ l. whole ∙ turn-near f s h k′ m 0 0 n u (c .reached) v (over-pages f s h k′ 0 n u) (found-ok f s h k′ n u own) o l;
       }

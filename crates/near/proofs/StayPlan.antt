@@ -24,7 +24,7 @@ use Rattle.insert.specs.Enter.{ownItems}
 use Rattle.joins.specs.Joins.{without}
 use Rattle.remove.specs.Remove.{Reach, Spot, Levels, Plan, noSpot, covered, spotAt, levelsFrom, keptLevels, goneRoots, backwards, topOf, pathReach, firstUsed, firstSpot, stuckPages, noPages, pageJoins, emptied, planOver, planOf}
 use Rattle.remove.proofs.LevelsPhase.{startOf, levels-stay}
-use Rattle.near.specs.Near.{begun}
+use Rattle.near.specs.Promises.{begun}
 use Rattle.levels.proofs.RootLaws.{keeps-start, keeps-top, keeps-last, kept-prefix}
 
 -- a page that keeps a record

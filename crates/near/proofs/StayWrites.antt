@@ -12,10 +12,10 @@ use Rattle.store.specs.declared.Item.{Item}
 use Rattle.store.specs.Head.{word, headOf}
 use Rattle.represent.specs.Rep.{sizeOf}
 use Rattle.search.specs.declared.Step.{Step}
-use Rattle.split.specs.Frame.{nodeOf, putNode}
+use Rattle.split.specs.Frame.{nodeOf, putNode, putHead}
 use Rattle.split.specs.Insertion.{putItems}
+use Rattle.split.proofs.Kept.{size-same}
 use Rattle.remove.specs.Remove.{spotAt, topOf, putSpots, putOwn, relinked, writtenBy}
-use Rattle.remove.proofs.Framed.{size-same}
 use Rattle.remove.proofs.Writes.{own-some, own-framed, put-own}
 use Rattle.near.proofs.StayPlan.{stayed}
 
@@ -38,12 +38,12 @@ pub writes-page : (f : Format) (s : List ℕ) (page : ℕ) (its : List Item) (ts
     → All (λ u. (1 ≤ u .node) × (u .node ≤ headOf s .nodeBlocks)) ts
     → topOf (map (spotAt s) ts) ≡ headOf s .root → length ts ≡ headOf s .levels
     → putItems f (headOf s .capacity) s page its ≡ writtenBy f s (headOf s) (stayed s page its ts)
-unfolding writtenBy relinked headOf
+unfolding writtenBy relinked putHead headOf
 writes-page f s page its ts room low high fits nodes top long =
     let t : List ℕ = putOwn f (headOf s .capacity) s page its in
     let w = own-framed f s room page its (inr (low, high, fits)) in
-    let room′ : sizeOf f t ≤ length t = omega (arith, room, w .kept .long, size-same f s t (w .kept .sizes)) in
-    let blocks : headOf t .nodeBlocks ≡ headOf s .nodeBlocks = w .kept .sizes .nodes in
+    let room′ : sizeOf f t ≤ length t = omega (arith, room, w .kept .within .long, size-same f s t (w .kept .within .sizes-same)) in
+    let blocks : headOf t .nodeBlocks ≡ headOf s .nodeBlocks = w .kept .within .sizes-same .nodes in
     let spots : putSpots t (map (spotAt s) ts) ≡ t =
     spots-own f s t room′ (λ n p q. w .node n p (omega (arith, q, blocks)) (λ z. z)) ts
     (subst (λ b. All (λ u. (1 ≤ u .node) × (u .node ≤ b)) ts) (sym blocks) nodes) in

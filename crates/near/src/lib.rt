@@ -4,22 +4,18 @@ use search::End;
 use store::Format;
 use store::Head;
 ghost use mathlib.Core.Path.{_≡_};
-ghost use mathlib.Core.Bool.{true, false};
-ghost use Prim.Native.Nat.{ℕ, _^_, _≤_, _<_};
+ghost use mathlib.Core.Bool.{true};
+ghost use Prim.Native.Nat.{_^_, _≤_, _<_};
 ghost use lib.ListN.{length};
 ghost use Rattle.store.specs.Format.{width};
 ghost use Rattle.store.specs.Head.{pageAt, Under};
 ghost use Rattle.page.specs.Page.{keyAt};
-ghost use Rattle.page.specs.Schema.{keyOf};
 ghost use Rattle.search.specs.Descent.{descent, endOf};
 ghost use Rattle.split.specs.Insertion.{putItems};
-ghost use Rattle.insert.specs.Enter.{ownItems};
-ghost use Rattle.joins.specs.Joins.{without};
 ghost use Rattle.gather.specs.Gather.{OwnPage};
-ghost use Rattle.remove.specs.Remove.{planOf, writtenBy};
-ghost use Rattle.near.specs.Near.{rootStays, PairApart, PageAlone};
+ghost use Rattle.near.specs.Near.{leftIn, rootStays, beside, nearOf, nearWords};
 
-// Whether no damage was met, and whether the removal is done. Neither: it is not decided here.
+// Damage (not ok), or whether the removal is done. If not, it is not decided here.
 pub struct Near {
     pub ok: bool,
     pub done: bool,
@@ -36,16 +32,15 @@ fn root_stays(store: &[u32], head: Head) -> bool
     store::word(store, store::node_start(head, head.root)) != 0
 }
 
-// Whether the page at the end of a key's way, with so many records left in it, stays apart from the stretch beside it, which stands in the
-// same terminal node.
+// Damage, or whether the page at the end of a key's way, with so many records left in it, stays apart from its sibling. The sibling's entry is
+// in the same terminal node.
 fn stays_apart(store: &[u32], f: Format, head: Head, key: u64, e: End, left: usize) -> Near
     requires { ⌜ (Under f (now store) head) × (key < 2 ^ width f) × (e ≡ endOf (descent f (now store) head key)) × (e .ok ≡ true)
-        × (e .before < e .used) × (left ≡ length (without keyOf key (ownItems f (now store) head (e .page)))) × (1 ≤ left)
-        × (left ≤ head .capacity) ⌝ }
-    ensures { λ r. ⌜ PairApart f (now (store .entry)) head key r ⌝ }
+        × (e .before < e .used) × (left ≤ head .capacity) ⌝ }
+    ensures { λ r. ⌜ r ≡ beside f (now (store .entry)) head key e left ⌝ }
 {
     let m = e.used;
-    let other = removal_plan::sibling_key(f, key, m);
+    let other = siblings::sibling_key(f, key, m);
     let v = search::visit_node(store, f, head, other, 1, e.node, e.before, false);
     if e.before + v.depth > m {
         return Near {
@@ -77,8 +72,8 @@ fn stays_apart(store: &[u32], f: Format, head: Head, key: u64, e: End, left: usi
 // node.
 fn nothing_joins(store: &[u32], f: Format, head: Head, key: u64, e: End, left: usize) -> Near
     requires { ⌜ (Under f (now store) head) × (key < 2 ^ width f) × (e ≡ endOf (descent f (now store) head key)) × (1 ≤ e .page)
-        × (left ≡ length (without keyOf key (ownItems f (now store) head (e .page)))) × (left ≤ head .capacity) ⌝ }
-    ensures { λ r. ⌜ PageAlone f (now (store .entry)) head key (e .page) r ⌝ }
+        × (left ≤ head .capacity) ⌝ }
+    ensures { λ r. ⌜ r ≡ nearOf f (now (store .entry)) head key e left ⌝ }
 {
     let none = Near {
         ok: true,
@@ -99,13 +94,13 @@ fn nothing_joins(store: &[u32], f: Format, head: Head, key: u64, e: End, left: u
 // Takes record i out of page p.
 fn take_record(store: &mut [u32], f: Format, head: Head, p: u32, i: usize)
     requires { ⌜ (Under f (now store) head) × OwnPage f (now store) head p i ⌝ }
-    ensures { λ _. ⌜ ((k : ℕ) → keyAt f (pageAt f (now (store .entry)) head p) i ≡ k
-        → now (store .exit) ≡ putItems f (head .capacity) (now (store .entry)) p (without keyOf k (ownItems f (now (store .entry)) head p))) ⌝ }
+    ensures { λ _. ⌜ now (store .exit) ≡ putItems f (head .capacity) (now (store .entry)) p
+        (leftIn f (now (store .entry)) head (keyAt f (pageAt f (now (store .entry)) head p) i) p) ⌝ }
 {
     let capacity = head.capacity;
     let at = store::page_start(f, head, p);
     let end = at + store::page_words(f, capacity);
-    unput::take_out(&mut store[at..end], f, capacity, i);
+    merge::take_out(&mut store[at..end], f, capacity, i);
 }
 
 // Takes record i, with the key, out of the page at the end of the key's way, if the removal joins nothing and that is seen from the page's
@@ -113,11 +108,8 @@ fn take_record(store: &mut [u32], f: Format, head: Head, p: u32, i: usize)
 pub fn take_near(store: &mut [u32], f: Format, head: Head, key: u64, e: End, i: usize) -> Near
     requires { ⌜ (Under f (now store) head) × (key < 2 ^ width f) × (e ≡ endOf (descent f (now store) head key))
         × OwnPage f (now store) head (e .page) i × (keyAt f (pageAt f (now store) head (e .page)) i ≡ key) ⌝ }
-    ensures { λ r. ⌜
-        (r .ok ≡ false → planOf f (now (store .entry)) head key (descent f (now (store .entry)) head key) .ok ≡ false)
-        × (r .done ≡ true → (planOf f (now (store .entry)) head key (descent f (now (store .entry)) head key) .ok ≡ true)
-        × (now (store .exit) ≡ writtenBy f (now (store .entry)) head (planOf f (now (store .entry)) head key (descent f (now (store .entry)) head key))))
-        × (r .done ≡ false → now (store .exit) ≡ now (store .entry)) ⌝ }
+    ensures { λ r. ⌜ (r ≡ nearOf f (now (store .entry)) head key e (length (leftIn f (now (store .entry)) head key (e .page))))
+        × (now (store .exit) ≡ nearWords f (now (store .entry)) head key e) ⌝ }
 {
     let count = page::count_of(store::page_at(store, f, head, e.page));
     let r = nothing_joins(store, f, head, key, e, count - 1);

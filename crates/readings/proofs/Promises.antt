@@ -44,14 +44,14 @@ module _ (f : Format) (s : List ℕ) (S : List Item) where
   bounded : Holds f s S → Bounded keyOf (2 ^ width f) S
   bounded h = lawful-bounded f S (h .lawful)
 
-  list-is : (h : Holds f s S) → records (h .b0) ≡ S
+  pub list-is : (h : Holds f s S) → records (h .b0) ≡ S
   list-is h = records-are (headOf s .capacity) (width f) (h .b0) S (h .tree) (h .sorted) (bounded h)
 
   replies : (a : Sought) → Holds f s S → checked f s a ≡ soughtReply a
   unfolding checked
   replies a h = rw (head-passes f s S h, checked)
 
-  find-holds : (h : Holds f s S) (k : ℕ) → k < 2 ^ width f → findOf f s (headOf s) k ≡ firstWhere (λ it. eqb (it .key) k) S
+  pub find-holds : (h : Holds f s S) (k : ℕ) → k < 2 ^ width f → findOf f s (headOf s) k ≡ firstWhere (λ it. eqb (it .key) k) S
   find-holds h k low = go (h .bs) (h .rep) ∙ ap (firstWhere (λ it. eqb (it .key) k)) (list-is h)
     where
       go : (bs : List (Trie ℕ)) → Rep f s (h .b0) bs → findOf f s (headOf s) k ≡ firstWhere (λ it. eqb (it .key) k) (records (h .b0))

@@ -28,22 +28,22 @@ use Rattle.search.proofs.FindLaws.{sound-rule}
 use Rattle.insert.specs.Enter.{ownItems}
 use Rattle.insert.proofs.InsideEnter.{descent-down}
 use Rattle.joins.specs.Joins.{without}
-use Rattle.unput.proofs.Laws.{without-at}
+use Rattle.merge.proofs.Laws.{without-at}
 use Rattle.remove.specs.Remove.{Reach, Pages, Levels, onLeft, bothPages, pageJoins, emptied, Spot, levelsFrom, keptLevels, goneRoots, pathReach, firstSpot, firstUsed, Plan, noPlan, planOver, planOf, writtenBy}
 use Rattle.remove.specs.Doable.{Doable}
 use Rattle.remove.proofs.InsideRemove.{head-facts}
 use Rattle.remove.proofs.RemoveInside.{FoundIn, found-in, doable}
 use Rattle.remove.proofs.Plans.{plan-is}
-use Rattle.removal_plan.specs.declared.PageJoins.{PageJoins}
-use Rattle.removal_plan.specs.Marks.{Tracks}
-use Rattle.removal_plan.specs.Pages.{pagesBy, Paged}
-use Rattle.removal_plan.proofs.PageJoinLaws.{both-used}
+use Rattle.siblings.specs.declared.PageJoins.{PageJoins}
+use Rattle.siblings.specs.Marks.{Tracks}
+use Rattle.siblings.specs.Pages.{pagesBy, Paged}
+use Rattle.siblings.proofs.PageJoinLaws.{both-used}
 use Rattle.gather.specs.declared.Gathered.{Gathered}
 use Rattle.gather.specs.Gather.{OwnPage, Holds, startOf}
 use Rattle.gather.proofs.GatherLaws.{own-image, own-lawful, own-sorted, own-count, start-used, plan-holds}
-use Rattle.removal_write.specs.declared.Outline.{Outline}
-use Rattle.removal_write.specs.Carried.{Carried, Ready}
-use Rattle.removal_write.proofs.ReadyLaws.{ready}
+use Rattle.apply.specs.declared.Outline.{Outline}
+use Rattle.apply.specs.Carried.{Carried, Ready}
+use Rattle.apply.proofs.ReadyLaws.{ready}
 use Rattle.levels.specs.declared.LevelJoins.{LevelJoins}
 use Rattle.levels.specs.Levels.{NumbersAre, LevelsAre, Levelled}
 use Rattle.levels.proofs.RootLaws.{numbers-of, kept-carried}

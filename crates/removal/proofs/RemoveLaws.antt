@@ -3,6 +3,7 @@ use mathlib.Core.Path.{_≡_, refl, sym, ap, _∙_, subst}
 use mathlib.Core.Bool.{Bool, true, false, false≢true}
 use mathlib.Core.List.{List}
 use Prim.Native.Nat.{ℕ, _^_, _≤_, _<_}
+use lib.ListN.{length}
 use borrow.Author.Tests.{lt-ltb, le-ltb, eq-eqb, ne-eqb}
 use Rattle.store.specs.declared.Format.{Format}
 use Rattle.store.specs.declared.Head.{Head}
@@ -18,6 +19,11 @@ use Rattle.search.specs.Find.{noItem, soundPage, findOf}
 use Rattle.search.proofs.FindLaws.{Led, find-sound, in-page-is}
 use Rattle.remove.specs.Remove.{After, same, carriedOut, foundOf, removeOf, Plan, planOf, writtenBy}
 use Rattle.gather.specs.Gather.{OwnPage}
+use Rattle.near.specs.declared.Near.{Near}
+use Rattle.near.specs.Near.{leftIn, nearOf, nearWords}
+use Rattle.near.specs.Promises.{PageSaid}
+use Rattle.near.proofs.Told.{words-written, words-kept}
+use Rattle.near.proofs.Promises.{page-alone}
 use Rattle.removal.specs.declared.Seat.{Seat}
 use Rattle.removal.specs.Removal.{Located, Seated, Executed}
 use Rattle.removal.proofs.PlanLaws.{located-at}
@@ -126,8 +132,24 @@ module _ {f : Format} {s : List ℕ} {h : Head} {k : ℕ} where
       let at = subst (λ (x : End). OwnPage f s h (x .page) i × (keyAt f (pageAt f s h (x .page)) i ≡ k)) (sym g) (located-at y refl) in
       (y .under, y .low, g, at .0, at .1)
 
-  pub near-done : {t : List ℕ} → (planOf f s h k (descent f s h k) .ok ≡ true) × (t ≡ writtenBy f s h (planOf f s h k (descent f s h k))) → Executed f s h k true t
-  near-done e = record { ok-is = sym (e .0); done = λ z. e .1; stays = λ z. absurd (false≢true (sym z)) }
+  -- where it is done, where damage is met, and where it is not decided
+  module _ {i : ℕ} {e : End} (y : Located f s h k i) (g : e ≡ endOf (descent f s h k)) {r : Near}
+      (q : r ≡ nearOf f s h k e (length (leftIn f s h k (e .page)))) {t : List ℕ} (w : t ≡ nearWords f s h k e) where
+    alone : PageSaid f s h k (e .page) (nearOf f s h k e (length (leftIn f s h k (e .page))))
+    alone = let a = near-asks y g in page-alone f s h k e i (a .0) (a .1) (a .2) (a .3) (a .4)
 
-  pub near-lost : {t : List ℕ} → planOf f s h k (descent f s h k) .ok ≡ false → t ≡ s → Executed f s h k false t
-  near-lost e g = record { ok-is = sym e; done = λ z. absurd (false≢true z); stays = λ z. g }
+    pub near-done : r .done ≡ true → Executed f s h k true t
+    near-done d =
+        let a = alone .alone (sym (ap (λ (x : Near). x .done) q) ∙ d) in
+        record { ok-is = sym (a .0); done = λ z. w ∙ sym (words-written f s h k e q d) ∙ a .1; stays = λ z. absurd (false≢true (sym z)) }
+
+    pub near-same : r .done ≡ false → t ≡ s
+    near-same d = w ∙ sym (words-kept f s h k e q d)
+
+    pub near-lost : r .ok ≡ false → r .done ≡ false → Executed f s h k false t
+    near-lost o d =
+        record {
+          ok-is = sym (alone .lost (sym (ap (λ (x : Near). x .ok) q) ∙ o));
+          done = λ z. absurd (false≢true z);
+          stays = λ z. near-same d;
+        }

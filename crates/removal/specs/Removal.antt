@@ -23,8 +23,8 @@ use Rattle.search.specs.declared.Sought.the-variants.{Record, Nothing, Damaged}
 use Rattle.search.specs.Descent.{descent}
 use Rattle.search.specs.Find.{findOf}
 use Rattle.remove.specs.Remove.{Pages, Levels, noSpot, firstSpot, firstUsed, keptLevels, goneRoots, planOf, writtenBy}
-use Rattle.removal_plan.specs.Marks.{Tracks}
-use Rattle.removal_write.specs.Carried.{LevelIs}
+use Rattle.siblings.specs.Marks.{Tracks}
+use Rattle.apply.specs.Carried.{LevelIs}
 use Rattle.removal.specs.declared.Seat.{Seat}
 use Rattle.removal.specs.declared.PagePart.{PagePart}
 use Rattle.removal.specs.declared.Draft.{Draft}

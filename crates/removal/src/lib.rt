@@ -1,6 +1,6 @@
 // Remove on the words of a store. It tests first and plans all that it changes, and writes then: nothing can be refused after the first
 // write.
-use removal_write::Outline;
+use apply::Outline;
 use search::End;
 use search::FindAnswer;
 use search::Step;
@@ -10,9 +10,9 @@ use store::Item;
 ghost use mathlib.Core.Path.{_≡_};
 ghost use mathlib.Core.Bool.{true, false};
 ghost use mathlib.Core.List.{List};
-ghost use Prim.Native.Nat.{_+_, _-_, _*_, _^_, _≤_, _<_, min};
+ghost use Prim.Native.Nat.{ℕ, _+_, _-_, _*_, _^_, _≤_, _<_, min};
 ghost use lib.Dec.{ltb};
-ghost use lib.ListN.{length, take};
+ghost use lib.ListN.{length, getD, take};
 ghost use Rattle.store.specs.Format.{width};
 ghost use Rattle.store.specs.Head.{pageWords, pageAt, Under};
 ghost use Rattle.page.specs.Page.{keyAt};
@@ -22,9 +22,9 @@ ghost use Rattle.search.specs.Find.{reply};
 ghost use Rattle.insert.specs.Enter.{ownItems};
 ghost use Rattle.joins.specs.Joins.{without};
 ghost use Rattle.remove.specs.Remove.{Reach, pageJoins, emptied, levelsFrom, planOf, removeOf};
-ghost use Rattle.removal_plan.specs.Marks.{Tracks};
+ghost use Rattle.siblings.specs.Marks.{Tracks, Passed};
 ghost use Rattle.gather.specs.Gather.{OwnPage};
-ghost use Rattle.removal_write.specs.Carried.{Carried};
+ghost use Rattle.apply.specs.Carried.{Carried};
 ghost use Rattle.removal.specs.Removal.{Located, Seated, PagesDone, LevelsDone, DraftFits, Executed};
 
 // What find says of a key: damage (not ok), or whether its record is held, its number in its page and the record.
@@ -91,17 +91,18 @@ fn plan_page(
     pages: &mut [u32],
 ) -> PagePart
     requires { ⌜ (Under f (now store) head) × (key < 2 ^ width f) × (used ≤ width f) × OwnPage f (now store) head page i
-        × (keyAt f (pageAt f (now store) head page) i ≡ key) × (4096 < length (now marks))
-        × (length (now items) ≡ pageWords f (head .capacity)) × (65 ≤ length (now pages)) × (length (now pages) < 2 ^ 32) ⌝ }
+        × (keyAt f (pageAt f (now store) head page) i ≡ key) × (head .nodesTaken < length (now marks))
+        × (length (now items) ≡ pageWords f (head .capacity)) × (65 ≤ length (now pages)) × (length (now pages) < 2 ^ 32)
+        × Passed f (now store) head (now marks) ⌝ }
     ensures { λ r. ⌜ (r .ok ≡ true → (r .bits ≤ used) × (r .pages ≤ 65))
         × ((rs : List Reach) → Tracks (width f) key rs (now (marks .entry))
         → PagesDone f (head .capacity) key (pageJoins f (now (store .entry)) head key used
         (emptied used page (without keyOf key (ownItems f (now (store .entry)) head page)) rs)) r (now (items .exit)) (now (pages .exit))
-        (now (marks .exit))) ⌝ }
+        (now (marks .exit))) × Passed f (now (store .entry)) head (now (marks .exit)) ⌝ }
 {
     let count = page::count_of(store::page_at(store, f, head, page)) - 1;
     let mut mates = [0u32; 64];
-    let joins = removal_plan::join_pages(store, f, head, key, used, count, marks, &mut mates);
+    let joins = siblings::join_pages(store, f, head, key, used, count, marks, &mut mates);
     if !joins.ok {
         return PagePart {
             ok: false,
@@ -136,8 +137,8 @@ fn plan_levels(
 ) -> Draft
     requires { ⌜ (Under f (now store) head) × (key < 2 ^ width f) × (descent f (now store) head key .ok ≡ true)
         × (steps ≡ descent f (now store) head key .steps) × (used ≡ descent f (now store) head key .used) × (p .bits ≤ used)
-        × (4096 < length (now marks)) × (head .levels ≤ length (now numbers)) × (132 * head .levels ≤ length (now blocks))
-        × (width f * head .levels + head .levels ≤ length (now gone)) × (length (now gone) < 2 ^ 32) ⌝ }
+        × (head .nodesTaken < length (now marks)) × (head .levels ≤ length (now numbers)) × (132 * head .levels ≤ length (now blocks))
+        × (width f * head .levels + head .levels ≤ length (now gone)) × (length (now gone) < 2 ^ 32) × Passed f (now store) head (now marks) ⌝ }
     ensures { λ r. ⌜ (r .ok ≡ true → DraftFits f head p r)
         × ((rs : List Reach) → Tracks (width f) key rs (now (marks .entry))
         → LevelsDone (now (store .entry)) head (take (head .levels) steps)
@@ -179,7 +180,65 @@ fn plan_levels(
     }
 }
 
-// The plan of the removal of a key, whose record is number i of its page. Only the slices are written.
+// The plan of the removal of a key, whose record is number i of its page, over clear marks. Only the slices are written.
+fn draw_over(
+    store: &[u32],
+    f: Format,
+    head: Head,
+    key: u64,
+    i: usize,
+    marks: &mut [u8],
+    items: &mut [u32],
+    numbers: &mut [u32],
+    blocks: &mut [u32],
+    pages: &mut [u32],
+    gone: &mut [u32],
+) -> Draft
+    requires { ⌜ Located f (now store) head key i × (length (now items) ≡ pageWords f (head .capacity))
+        × (head .levels ≤ length (now numbers)) × (132 * head .levels ≤ length (now blocks)) × (65 ≤ length (now pages))
+        × (length (now pages) < 2 ^ 32) × (width f * head .levels + head .levels ≤ length (now gone)) × (length (now gone) < 2 ^ 32)
+        × (head .nodesTaken < length (now marks)) × ((n : ℕ) → getD (now marks) n 0 ≡ 0) ⌝ }
+    ensures { λ r. ⌜ (r .ok ≡ planOf f (now (store .entry)) head key (descent f (now (store .entry)) head key) .ok)
+        × (r .ok ≡ true → Carried f (now (store .entry)) head (r .outline) (now (items .exit)) (now (numbers .exit)) (now (blocks .exit))
+        (now (pages .exit)) (now (gone .exit)) (planOf f (now (store .entry)) head key (descent f (now (store .entry)) head key)))
+        × (r .ok ≡ true → (1 ≤ r .outline .levels) × (r .outline .levels ≤ head .levels) × (1 ≤ r .outline .changed)
+        × (r .outline .changed ≤ r .outline .levels) × (r .outline .pages ≤ 65)
+        × (r .outline .nodes ≤ width f * head .levels + head .levels)) ⌝ }
+{
+    let down = search::descend(store, f, head, key, false);
+    let steps = down.steps;
+    levels::note_path(steps, head.levels, marks);
+    let p = plan_page(
+        store,
+        f,
+        head,
+        key,
+        down.used,
+        down.page,
+        i,
+        marks,
+        items,
+        pages,
+    );
+    if !p.ok {
+        return no_draft();
+    }
+    plan_levels(
+        store,
+        f,
+        head,
+        key,
+        steps,
+        down.used,
+        p,
+        marks,
+        numbers,
+        blocks,
+        gone,
+    )
+}
+
+// The same over marks for the nodes in use: few nodes need few marks.
 fn draw_plan(
     store: &[u32],
     f: Format,
@@ -202,36 +261,34 @@ fn draw_plan(
         × (r .outline .changed ≤ r .outline .levels) × (r .outline .pages ≤ 65)
         × (r .outline .nodes ≤ width f * head .levels + head .levels)) ⌝ }
 {
-    let down = search::descend(store, f, head, key, false);
-    let steps = down.steps;
+    if head.nodesTaken <= 1024 {
+        let mut marks = [0u8; 1025];
+        return draw_over(
+            store,
+            f,
+            head,
+            key,
+            i,
+            &mut marks,
+            items,
+            numbers,
+            blocks,
+            pages,
+            gone,
+        );
+    }
     let mut marks = [0u8; 4097];
-    levels::note_path(steps, head.levels, &mut marks);
-    let p = plan_page(
+    draw_over(
         store,
         f,
         head,
         key,
-        down.used,
-        down.page,
         i,
         &mut marks,
         items,
-        pages,
-    );
-    if !p.ok {
-        return no_draft();
-    }
-    plan_levels(
-        store,
-        f,
-        head,
-        key,
-        steps,
-        down.used,
-        p,
-        &mut marks,
         numbers,
         blocks,
+        pages,
         gone,
     )
 }
@@ -269,7 +326,7 @@ fn follow_plan(
     if !d.ok {
         return false;
     }
-    removal_write::carry_out(
+    apply::carry_out(
         store,
         f,
         head,
@@ -311,6 +368,11 @@ fn remove_far(store: &mut [u32], f: Format, head: Head, key: u64, i: usize) -> b
     if head.levels <= 4 {
         let mut blocks = [0u32; 528];
         let mut gone = [0u32; 260];
+        return plan_out(store, f, head, key, i, &mut blocks, &mut gone);
+    }
+    if head.levels <= 8 {
+        let mut blocks = [0u32; 1056];
+        let mut gone = [0u32; 520];
         return plan_out(store, f, head, key, i, &mut blocks, &mut gone);
     }
     let mut blocks = [0u32; 4224];

@@ -1,7 +1,7 @@
--- Blocks in hand, on any words: what the functions of crate fuse ask of them holds at every turn. A block in hand has no local depth above its depth,
--- the run that is covered is no longer than the node is deep, and the key has bits left for it.
-use mathlib.Core.Path.{_≡_, refl, sym, ap, ap₂, _∙_, subst}
-use mathlib.Core.Bool.{Bool, true, false, _&&_, _||_, not, false≢true}
+-- Blocks in hand, on any words: what the functions of crate fuse ask of them holds at every turn. A block in hand has no local depth above
+-- its depth, the run that is covered is no longer than the node is deep, and the key has bits left for it.
+use mathlib.Core.Path.{_≡_, refl, sym, ap, _∙_, subst}
+use mathlib.Core.Bool.{Bool, true, false, _||_, not, false≢true}
 use mathlib.Core.List.{List}
 use mathlib.Core.Logic.{inl, inr}
 use Prim.Native.Nat.{ℕ, zero, suc, _+_, _-_, _*_, _/_, _%_, _^_, _≤_, _<_, max}
@@ -12,7 +12,7 @@ use lib.Dec.{leb, eqb}
 use lib.Pow.{pow-mono, pow-pos, shl-lt, shr-lt}
 use lib.ListN.{length}
 use borrow.Author.Tests.{leb-true, lt-ltb, le-ltb}
-use Rattle.lists.specs.Bits.{bits, index}
+use Rattle.lists.specs.Bits.{bits}
 use Rattle.lists.specs.Lists.{greatest}
 use Rattle.lists.proofs.Cases.{bool-cases}
 use Rattle.lists.proofs.BitLaws.{index-lt}
@@ -24,7 +24,7 @@ use Rattle.store.specs.declared.Head.{Head}
 use Rattle.store.specs.Format.{width}
 use Rattle.store.specs.Head.{word, headOf, nodeStart, nodeAt, nodeWords}
 use Rattle.store.proofs.Places.{node-end, nodes-end, part-word}
-use Rattle.node.specs.Node.{depthWord, entryDepth, entryOf, nodeRule}
+use Rattle.node.specs.Node.{depthWord, entryDepth, entryOf}
 use Rattle.node.proofs.NodeLaws.{node-facts}
 use Rattle.node.proofs.RunWalk.{good-facts}
 use Rattle.search.specs.Descent.{stepOf}
@@ -34,7 +34,7 @@ use Rattle.split.specs.Value.{Shallow}
 use Rattle.split.specs.Frame.{nodeOf}
 use Rattle.split.proofs.EntryLaws.{block-entry, over-in, over-below, over-above}
 use Rattle.split.proofs.GrowLaws.{run-room}
-use Rattle.fuse.specs.Join.{shrunk, cover, lifted, halfOf, bothHalves, deeper, joined}
+use Rattle.fuse.specs.Join.{shrunk, cover, halfOf, bothHalves, deeper, joined}
 use Rattle.remove.specs.Remove.{Reach, Sought, sibling, siblingKey, onLeft, Spot, linksOk, bothNodes, siblingOk, nodeJoins}
 use Rattle.remove.proofs.InsideRemove.{Headed, InNode, sibling-in}
 use Rattle.remove.proofs.LevelPhase.{rs, node-lost, node-damaged, node-unlinked, turn-none, turn-tall, turn-on}
@@ -44,7 +44,8 @@ block-depth : (θ H level back forward : ℕ) (e : ℕ → Entry ℕ) → depthW
 unfolding block
 block-depth θ H level back forward e = refl
 
-block-shallow : (θ H level back forward : ℕ) (e : ℕ → Entry ℕ) → H ≤ θ → ((j : ℕ) → j < 2 ^ H → e j .0 ≤ H) → Shallow θ (block θ H level back forward e)
+block-shallow : (θ H level back forward : ℕ) (e : ℕ → Entry ℕ) → H ≤ θ → ((j : ℕ) → j < 2 ^ H → e j .0 ≤ H)
+    → Shallow θ (block θ H level back forward e)
 block-shallow θ H level back forward e low g =
     let d = block-depth θ H level back forward e in
     record {
@@ -107,7 +108,8 @@ module _ (θ : ℕ) (ws : List ℕ) (k : Key) (d q : ℕ) (sh : Shallow θ ws) (
   unfolding cover shrunk
   cover-fine = (
     block-shallow θ G _ _ _ (λ j. e (j * 2 ^ (H - G))) (omega (arith, G-low, sh .low))
-        (λ j l. greatest-at (2 ^ H) (λ j. e j .0) (j * 2 ^ (H - G)) (subst (λ x. j * 2 ^ (H - G) < 2 ^ x) (add-sub-of-le G-low) (shl-lt G (H - G) l))),
+        (λ j l. greatest-at (2 ^ H) (λ j. e j .0) (j * 2 ^ (H - G))
+        (subst (λ x. j * 2 ^ (H - G) < 2 ^ x) (add-sub-of-le G-low) (shl-lt G (H - G) l))),
     omega (arith, cover-depth, G-high),
     omega (arith, cover-depth, G-low),
   )
@@ -136,7 +138,11 @@ joined-fine θ ws ws′ a b fits =
           (λ j l.
           elim (decLt j (2 ^ d)) [
             | yes h ↦ omega (arith, ap (λ x. x .0) (both-low d ws ws′ j h), half-low θ ws d j a (omega arith) h)
-            | no h ↦ omega (arith, ap (λ x. x .0) (both-high d ws ws′ j (omega arith)), half-low θ ws′ d (j - 2 ^ d) b (omega arith) (omega (arith, l)))
+            | no h ↦ omega (
+              arith,
+              ap (λ x. x .0) (both-high d ws ws′ j (omega arith)),
+              half-low θ ws′ d (j - 2 ^ d) b (omega arith) (omega (arith, l)),
+            )
           ]),
       block-depth θ (suc d) _ _ _ _,
     )
@@ -155,7 +161,8 @@ module _ (f : Format) (s : List ℕ) (Hd : Headed f s) where
       let facts = node-facts h s at level (a .0) in
       let room : at + nodeWords (h .theta) ≤ length s =
       omega (arith, node-end h n (i .0) (omega (arith, i .1, Hd .counts .taken)), nodes-end h f, Hd .room) in
-      let word-at : (j : ℕ) → j < nodeWords (h .theta) → word (nodeOf s n) j ≡ word s (at + j) = λ j l. part-word s at (nodeWords (h .theta)) j room l in
+      let word-at : (j : ℕ) → j < nodeWords (h .theta)
+      → word (nodeOf s n) j ≡ word s (at + j) = λ j l. part-word s at (nodeWords (h .theta)) j room l in
       let d : depthWord (nodeOf s n) 0 ≡ depthWord s at = word-at 0 (omega arith) ∙ ap (word s) (let z : at + 0 ≡ at = omega arith in z) in
       let small : 2 ^ depthWord s at ≤ 2 ^ h .theta = pow-mono {i = depthWord s at} {j = h .theta} (facts .depth) in (
         record {
@@ -163,7 +170,8 @@ module _ (f : Format) (s : List ℕ) (Hd : Headed f s) where
           all = λ j l.
               let l′ : j < 2 ^ depthWord s at = subst (λ x. j < 2 ^ x) d l in
               let e : entryDepth (nodeOf s n) 0 j ≡ entryDepth s at j =
-              word-at (0 + 4 + 2 * j) (omega (arith, l′, small)) ∙ ap (word s) (let z : at + (0 + 4 + 2 * j) ≡ at + 4 + 2 * j = omega arith in z) in
+              word-at (0 + 4 + 2 * j) (omega (arith, l′, small))
+              ∙ ap (word s) (let z : at + (0 + 4 + 2 * j) ≡ at + 4 + 2 * j = omega arith in z) in
               omega (arith, d, e, good-facts _ _ _ _ (facts .runs) .rule j l′ .0);
         },
         omega (arith, d, a .1),
@@ -182,22 +190,32 @@ module _ (f : Format) (s : List ℕ) (Hd : Headed f s) where
 
   pub both-fine : (k m q e : ℕ) (g : NodesR) (bt : Bool) (p : ℕ) (reached : List Reach) → g .spot .used ≡ suc e → BlockFine m (g .spot)
       → Shallow (h .theta) (nodeOf s p) → suc e + depthWord (nodeOf s p) 0 ≤ width f
-      → suc (max (depthWord (g .spot .block) 0) (depthWord (nodeOf s p) 0)) ≤ h .theta → BlockFine m (bothNodes f s h k m q g bt p reached .spot)
+      → suc (max (depthWord (g .spot .block) 0) (depthWord (nodeOf s p) 0)) ≤ h .theta
+      → BlockFine m (bothNodes f s h k m q g bt p reached .spot)
   unfolding bothNodes
   both-fine k m q e g true p reached u i a b fits =
       let j = joined-fine (h .theta) (nodeOf s p) (g .spot .block) a (i .shallow) (omega (arith, fits)) in
-      let c = cover-fine (h .theta) (joined (h .theta) (nodeOf s p) (g .spot .block)) (bits (width f - (g .spot .used - 1)) k) (m - (g .spot .used - 1)) q (j .0)
+      let c = cover-fine (h .theta) (joined (h .theta) (nodeOf s p) (g .spot .block)) (bits (width f - (g .spot .used - 1)) k)
+      (m - (g .spot .used - 1)) q (j .0)
       (omega (arith, j .1, i .reaches, u)) in
       record { shallow = c .0; reaches = c .1; left = omega (arith, c .2, j .1, u, i .left, b) }
   both-fine k m q e g false p reached u i a b fits =
       let j = joined-fine (h .theta) (g .spot .block) (nodeOf s p) (i .shallow) a fits in
-      let c = cover-fine (h .theta) (joined (h .theta) (g .spot .block) (nodeOf s p)) (bits (width f - (g .spot .used - 1)) k) (m - (g .spot .used - 1)) q (j .0)
+      let c = cover-fine (h .theta) (joined (h .theta) (g .spot .block) (nodeOf s p)) (bits (width f - (g .spot .used - 1)) k)
+      (m - (g .spot .used - 1)) q (j .0)
       (omega (arith, j .1, i .reaches, u)) in
       record { shallow = c .0; reaches = c .1; left = omega (arith, c .2, j .1, u, i .left, b) }
 
   -- a node of the path over the stretch below
-  pub start-fine : (k m q n used : ℕ) → Shallow (h .theta) (nodeOf s n) → used + depthWord (nodeOf s n) 0 ≤ width f → m - used ≤ depthWord (nodeOf s n) 0
-      → BlockFine m (record { number = n; used = used; last = n; block = cover (h .theta) (nodeOf s n) (bits (width f - used) k) (m - used) q })
+  pub start-fine : (k m q n used : ℕ) → Shallow (h .theta) (nodeOf s n) → used + depthWord (nodeOf s n) 0 ≤ width f
+      → m - used ≤ depthWord (nodeOf s n) 0
+      → BlockFine m (record {
+        number = n;
+        used = used;
+        last = n;
+        block =
+            cover (h .theta) (nodeOf s n) (bits (width f - used) k) (m - used) q;
+      })
   start-fine k m q n used a b c =
       let w = cover-fine (h .theta) (nodeOf s n) (bits (width f - used) k) (m - used) q a c in
       record { shallow = w .0; reaches = w .1; left = omega (arith, w .2, b) }
@@ -224,7 +242,8 @@ module _ (f : Format) (s : List ℕ) (Hd : Headed f s) where
                           | inr v ↦ subst (λ (w : NodesR). BlockFine m (w .spot)) (sym (turn-tall f s h k level m q n g z refl x y t v)) i
                           | inl v ↦
                               elim (bool-cases (not (eqb level 1) || linksOk s h (g .spot) p (onLeft (width f) k (g .spot .used)))) [
-                                | inr l ↦ absurd (false≢true (ap (λ (y : NodesR). y .ok) (sym (node-unlinked f s h k level m q n g z refl x y t v l)) ∙ a))
+                                | inr l ↦ absurd (false≢true
+                                    (ap (λ (y : NodesR). y .ok) (sym (node-unlinked f s h k level m q n g z refl x y t v l)) ∙ a))
                                 | inl l ↦
                                     let bt : Bool = onLeft (width f) k (g .spot .used) in
                                     let on : NodesR = bothNodes f s h k m q g bt p (rs f s h k level m q n g z refl x) in
@@ -232,8 +251,10 @@ module _ (f : Format) (s : List ℕ) (Hd : Headed f s) where
                                     let b = sibling-block k (g .spot .used) level p (z .reached) t e in
                                     subst (λ (w : NodesR). BlockFine m (w .spot)) (sym eq)
                                     (joins-fine k level m q some n on
-                                    (Rattle.remove.proofs.LevelPhase.next-used f s h k m q g p (rs f s h k level m q n g z refl x) bt ∙ omega (arith, u))
-                                    (both-fine k m q n g bt p (rs f s h k level m q n g z refl x) u i (b .0) (omega (arith, b .1, u)) (leb-true _ _ v))
+                                    (Rattle.remove.proofs.LevelPhase.next-used f s h k m q g p
+                                    (rs f s h k level m q n g z refl x) bt ∙ omega (arith, u))
+                                    (both-fine k m q n g bt p (rs f s h k level m q n g z refl x) u i (b .0) (omega (arith, b .1, u))
+                                    (leb-true _ _ v))
                                     (ap (λ (y : NodesR). y .ok) (sym eq) ∙ a))
                               ]
                         ]
@@ -241,6 +262,7 @@ module _ (f : Format) (s : List ℕ) (Hd : Headed f s) where
             ]
       ]
     where
-      enters-node : (l : ℕ) → 1 ≤ l → (p : ℕ) → Rattle.insert.proofs.InsideEnter.Enters f s h (siblingKey (width f) k (g .spot .used)) l p → InNode f s Hd p
+      enters-node : (l : ℕ) → 1 ≤ l → (p : ℕ) → Rattle.insert.proofs.InsideEnter.Enters f s h (siblingKey (width f) k (g .spot .used)) l p
+          → InNode f s Hd p
       enters-node zero e p w = absurd (omega (arith, e))
       enters-node (suc l) e p w = w

@@ -1,14 +1,14 @@
--- Remove on any words: what it writes are blocks of the store and words 6 to 11 of the head. Every number that it writes at is that of a taken block:
--- it is the root, or the pointer of a visited node, which keeps the node rule.
-use mathlib.Core.Path.{_≡_, refl, sym, ap, ap₂, _∙_, subst}
+-- Remove on any words: what it writes are blocks of the store and words 6 to 11 of the head. Every number that it writes at is that of a
+-- taken block: it is the root, or the pointer of a visited node, which keeps the node rule.
+use mathlib.Core.Path.{_≡_, refl, sym, ap, _∙_, subst}
 use mathlib.Core.Bool.{Bool, true, false, _&&_, _||_, not, false≢true}
 use mathlib.Core.List.{List, [], _∷_, _++_, map}
-use mathlib.Core.Logic.{_⊎_, inl, inr}
-use Prim.Native.Nat.{ℕ, zero, suc, _+_, _-_, _*_, _^_, _≤_, _<_, max}
-use native.Mathlib.Decide.{decLe, ℕ-discrete}
+use mathlib.Core.Logic.{inl, inr}
+use Prim.Native.Nat.{ℕ, zero, suc, _+_, _-_, _*_, _^_, _≤_, max}
+use native.Mathlib.Decide.{ℕ-discrete}
 use native.Mathlib.Omega.{arith}
 use lib.Dec.{leb, ltb, eqb}
-use lib.ListN.{length, length-append, getD, take, drop}
+use lib.ListN.{length, length-append}
 use borrow.Author.Tests.{leb-true, eqb-true}
 use Rattle.lists.specs.Lists.{All, tab}
 use Rattle.lists.proofs.Cases.{bool-cases}
@@ -19,28 +19,27 @@ use Rattle.store.specs.declared.Format.{Format}
 use Rattle.store.specs.declared.Head.{Head}
 use Rattle.store.specs.declared.Item.{Item}
 use Rattle.store.specs.Format.{width}
-use Rattle.store.specs.Head.{word, headOf, nodeWords, nodeStart, nodeAt, pageAt}
-use Rattle.store.proofs.HeadLaws.{Limits, sizes-limits, Counts, counts-facts, levels-within}
+use Rattle.store.specs.Head.{headOf, nodeWords, nodeStart, nodeAt, pageAt}
+use Rattle.store.proofs.HeadLaws.{Limits, sizes-limits, Counts, counts-facts}
 use Rattle.store.proofs.Places.{node-end, nodes-end, part-word}
-use Rattle.node.specs.Node.{backWord, forwardWord, levelWord, nodeRule}
+use Rattle.node.specs.Node.{backWord, forwardWord, nodeRule}
 use Rattle.node.proofs.NodeLaws.{link-1, link-above, node-facts}
-use Rattle.page.specs.Page.{count, pageRule}
-use Rattle.page.specs.Schema.{keyOf}
 use Rattle.represent.specs.Image.{entryWords}
 use Rattle.represent.specs.Rep.{sizeOf}
 use Rattle.search.specs.declared.Step.{Step}
 use Rattle.search.specs.declared.Visit.{Visit}
-use Rattle.search.specs.declared.Descent.{Descent}
-use Rattle.search.specs.Descent.{stepOf, descent, noStep}
+use Rattle.search.specs.Descent.{stepOf}
 use Rattle.search.specs.Find.{soundPage}
 use Rattle.search.proofs.DescentLaws.{sound-facts, visited-sound}
-use Rattle.split.specs.Block.{block, like}
+use Rattle.split.specs.Block.{block}
 use Rattle.split.specs.Frame.{nodeOf}
 use Rattle.lists.proofs.Parts.{length-part}
-use Rattle.insert.proofs.InsideEnter.{Enters, points, Down, StepIn, descent-down}
+use Rattle.insert.proofs.InsideEnter.{Enters, points}
 use Rattle.store.specs.Head.{headRule}
 use Rattle.fuse.specs.Join.{shrunk, cover, joined}
-use Rattle.remove.specs.Remove.{Reach, Sought, damagedWay, seek, sibling, siblingKey, onLeft, Spot, noSpot, bothNodes, siblingOk, nodeJoins, Levels, noLevels, spotAt, spotOver, levelsFrom, linksOk, Pages, stuckPages, eitherPage, lostPage, bothPages, pageJoins, emptied}
+use Rattle.remove.specs.Remove.{Reach, Sought, damagedWay, seek, sibling, siblingKey, onLeft, Spot, bothNodes, siblingOk, nodeJoins}
+use Rattle.remove.specs.Remove.{Levels, spotAt, levelsFrom, linksOk, Pages, stuckPages, eitherPage, lostPage, bothPages, pageJoins}
+use Rattle.remove.specs.Remove.{emptied}
 use Rattle.insert.specs.Enter.{ownItems}
 use Rattle.remove.specs.Doable.{In}
 use Rattle.remove.proofs.PagePhase.{turn-lost, turn-damaged, turn-full, either-null, either-own, lost-left, lost-right, lost-one}
@@ -72,7 +71,8 @@ length-words (e ∷ es) = omega (arith, length-words es)
 
 pub block-long : (θ H level back forward : ℕ) (e : ℕ → Entry ℕ) → length (block θ H level back forward e) ≡ nodeWords θ
 unfolding block nodeWords
-block-long θ H level back forward e = omega (arith, length-words (tab (2 ^ θ) (Rattle.split.specs.Block.kept H e)), length-tab (2 ^ θ) (Rattle.split.specs.Block.kept H e))
+block-long θ H level back forward e =
+    omega (arith, length-words (tab (2 ^ θ) (Rattle.split.specs.Block.kept H e)), length-tab (2 ^ θ) (Rattle.split.specs.Block.kept H e))
 
 block-forward : (θ H level back forward : ℕ) (e : ℕ → Entry ℕ) → forwardWord (block θ H level back forward e) 0 ≡ forward
 unfolding block
@@ -153,7 +153,8 @@ module _ (f : Format) (s : List ℕ) (H : Headed f s) where
                   let ok : stepOf f s h k (suc (j + target)) n used .ok ≡ true =
                   ap (λ l. stepOf f s h k l n used .ok) (sym level) ∙ and-true (v .ok) _ x .0 in
                   let p : Enters f s h k (j + target) (v .pointer) =
-                  subst (λ l. Enters f s h k (j + target) (stepOf f s h k l n used .pointer)) (sym level) (points f s h k (j + target) n used ok) in
+                  subst (λ l. Enters f s h k (j + target) (stepOf f s h k l n used .pointer)) (sym level)
+                  (points f s h k (j + target) n used ok) in
                   rw (x, y, seek)
                   (seek-in k m target j (v .pointer) (used + v .depth) (r ∷ reached) p (rw (x, y, seek) at a) (rw (x, y, seek) at b))
             ]
@@ -163,7 +164,8 @@ module _ (f : Format) (s : List ℕ) (H : Headed f s) where
   root-enters k zero e = absurd (omega (arith, e))
   root-enters k (suc l) e = (H .counts .root-low, H .counts .root)
 
-  pub sibling-in : (k m target : ℕ) (reached : List Reach) → sibling f s h k m target reached .ok ≡ true → sibling f s h k m target reached .found ≡ true
+  pub sibling-in : (k m target : ℕ) (reached : List Reach) → sibling f s h k m target reached .ok ≡ true
+      → sibling f s h k m target reached .found ≡ true
       → Enters f s h (siblingKey (width f) k m) target (sibling f s h k m target reached .pointer)
   sibling-in k m target reached a b =
       seek-in (siblingKey (width f) k m) m target (h .levels - target) (h .root) 0 reached
@@ -178,7 +180,8 @@ module _ (f : Format) (s : List ℕ) (H : Headed f s) where
   in-append m [] ys a b = b
   in-append m (x ∷ xs) ys a b = (a .0, in-append m xs ys (a .1) b)
 
-  both-in : (k m q : ℕ) (g : NodesR) (bt : Bool) (p : ℕ) (reached : List Reach) → NodesIn g → InNode p → forwardWord (nodeOf s p) 0 ≤ h .nodesTaken
+  both-in : (k m q : ℕ) (g : NodesR) (bt : Bool) (p : ℕ) (reached : List Reach) → NodesIn g → InNode p
+      → forwardWord (nodeOf s p) 0 ≤ h .nodesTaken
       → NodesIn (bothNodes f s h k m q g bt p reached)
   unfolding bothNodes
   both-in k m q g true p reached i n b =
@@ -212,7 +215,8 @@ module _ (f : Format) (s : List ℕ) (H : Headed f s) where
         released-in = in-append (h .nodesTaken) (g .released) (p ∷ []) (i .released-in) (n, tt);
       }
 
-  sibling-forward : (k m level p : ℕ) (reached : List Reach) → siblingOk f s h k m level p reached ≡ true → InNode p → forwardWord (nodeOf s p) 0 ≤ h .nodesTaken
+  sibling-forward : (k m level p : ℕ) (reached : List Reach) → siblingOk f s h k m level p reached ≡ true → InNode p
+      → forwardWord (nodeOf s p) 0 ≤ h .nodesTaken
   unfolding siblingOk
   sibling-forward k m level p reached t e = visited-forward (siblingKey (width f) k m) level p m e (and-true _ _ t .0)
 
@@ -226,24 +230,31 @@ module _ (f : Format) (s : List ℕ) (H : Headed f s) where
         | inr x ↦ absurd (false≢true (ap (λ (y : NodesR). y .ok) (sym (node-lost f s h k level m q n g x)) ∙ a))
         | inl x ↦
             elim (bool-cases (z .found)) [
-              | inr y ↦ subst NodesIn (sym (turn-none f s h k level m q n g z refl x y)) (record { spot-in = i .spot-in; released-in = i .released-in })
+              | inr y ↦ subst NodesIn (sym (turn-none f s h k level m q n g z refl x y))
+                  (record { spot-in = i .spot-in; released-in = i .released-in })
               | inl y ↦
                   let p : ℕ = z .pointer in
                   let e = enters-node level some p (sibling-in k (g .spot .used) level (g .reached) x y) in
                   elim (bool-cases (siblingOk f s h k (g .spot .used) level p (z .reached))) [
                     | inr t ↦ absurd (false≢true (ap (λ (y : NodesR). y .ok) (sym (node-damaged f s h k level m q n g z refl x y t)) ∙ a))
                     | inl t ↦
-                        elim (bool-cases (leb (suc (max (Rattle.node.specs.Node.depthWord (g .spot .block) 0) (Rattle.node.specs.Node.depthWord (nodeOf s p) 0))) (h .theta))) [
-                          | inr u ↦ subst NodesIn (sym (turn-tall f s h k level m q n g z refl x y t u)) (record { spot-in = i .spot-in; released-in = i .released-in })
+                        elim (bool-cases (leb (suc
+                        (max (Rattle.node.specs.Node.depthWord (g .spot .block) 0) (Rattle.node.specs.Node.depthWord (nodeOf s p) 0)))
+                        (h .theta))) [
+                          | inr u ↦ subst NodesIn (sym (turn-tall f s h k level m q n g z refl x y t u))
+                              (record { spot-in = i .spot-in; released-in = i .released-in })
                           | inl u ↦
                               elim (bool-cases (not (eqb level 1) || linksOk s h (g .spot) p (onLeft (width f) k (g .spot .used)))) [
-                                | inr w ↦ absurd (false≢true (ap (λ (y : NodesR). y .ok) (sym (node-unlinked f s h k level m q n g z refl x y t u w)) ∙ a))
+                                | inr w ↦ absurd (false≢true
+                                    (ap (λ (y : NodesR). y .ok) (sym (node-unlinked f s h k level m q n g z refl x y t u w)) ∙ a))
                                 | inl w ↦
-                                    let on : NodesR = bothNodes f s h k m q g (onLeft (width f) k (g .spot .used)) p (rs f s h k level m q n g z refl x) in
+                                    let on : NodesR = bothNodes f s h k m q g (onLeft (width f) k (g .spot .used)) p
+                                    (rs f s h k level m q n g z refl x) in
                                     let eq = turn-on f s h k level m q n g z refl x y t u w in
                                     subst NodesIn (sym eq)
                                     (joins-in k level m q some n on
-                                    (both-in k m q g (onLeft (width f) k (g .spot .used)) p (rs f s h k level m q n g z refl x) i e (sibling-forward k (g .spot .used) level p (z .reached) t e))
+                                    (both-in k m q g (onLeft (width f) k (g .spot .used)) p (rs f s h k level m q n g z refl x) i e
+                                    (sibling-forward k (g .spot .used) level p (z .reached) t e))
                                     (ap (λ (y : NodesR). y .ok) (sym eq) ∙ a))
                               ]
                         ]
@@ -286,9 +297,14 @@ module _ (f : Format) (s : List ℕ) (H : Headed f s) where
                   let up : Levels = levelsFrom f s h k (suc level) ts (g .spot .used) (g .spot .number) true (g .reached) in
                   let eq = levels-go f s h k level t ts m q reached joins g refl x y up refl in
                   let j : LevelsIn up =
-                  levels-in k (suc level) ts (g .spot .used) (g .spot .number) true (g .reached) (omega arith) (a .1) (ap (λ (l : Levels). l .ok) (sym eq) ∙ ok) in
+                  levels-in k (suc level) ts (g .spot .used) (g .spot .number) true (g .reached) (omega arith) (a .1)
+                  (ap (λ (l : Levels). l .ok) (sym eq) ∙ ok) in
                   subst LevelsIn (sym eq)
-                  (record { spots-in = (i .spot-in, j .spots-in); released-in = in-append (h .nodesTaken) (g .released) (up .released) (i .released-in) (j .released-in) })
+                  (record {
+                    spots-in = (i .spot-in, j .spots-in);
+                    released-in =
+                        in-append (h .nodesTaken) (g .released) (up .released) (i .released-in) (j .released-in);
+                  })
             ]
       ]
     where
@@ -307,7 +323,8 @@ module _ (f : Format) (s : List ℕ) (H : Headed f s) where
             released-in = tt;
           }
 
-      level-in : (joins : Bool) → levelOf f s h k level t ts m q reached joins .ok ≡ true → NodesIn (levelOf f s h k level t ts m q reached joins)
+      level-in : (joins : Bool) → levelOf f s h k level t ts m q reached joins .ok ≡ true
+          → NodesIn (levelOf f s h k level t ts m q reached joins)
       level-in true ok = joins-in k level m q some (t .used) (startOf f s h k level t ts m q reached) start-in ok
       level-in false ok = start-in
 
@@ -360,7 +377,8 @@ module _ (f : Format) (s : List ℕ) (H : Headed f s) where
         | inr x ↦ absurd (false≢true (ap (λ (y : Pages). y .ok) (sym (turn-lost f s h k n g x)) ∙ a))
         | inl x ↦
             elim (bool-cases (z .found)) [
-              | inr y ↦ subst PagesIn (sym (Rattle.remove.proofs.PagePhase.turn-none f s h k n g z refl x y)) (stuck-in g i (z .reached))
+              | inr y ↦ subst PagesIn (sym (Rattle.remove.proofs.PagePhase.turn-none f s h k n g z refl x y))
+                  (stuck-in g i (z .reached))
               | inl y ↦
                   let p : ℕ = z .pointer in
                   let e : p ≤ h .pagesTaken = sibling-in k (g .used) 0 (g .reached) x y in
@@ -380,7 +398,8 @@ module _ (f : Format) (s : List ℕ) (H : Headed f s) where
             ]
       ]
 
-  pub emptied-in : (used p : ℕ) (its : List Item) (reached : List Reach) → 1 ≤ p → p ≤ h .pagesTaken → length its ≤ h .capacity → PagesIn (emptied used p its reached)
+  pub emptied-in : (used p : ℕ) (its : List Item) (reached : List Reach) → 1 ≤ p → p ≤ h .pagesTaken → length its ≤ h .capacity
+      → PagesIn (emptied used p its reached)
   unfolding emptied
   emptied-in used p [] reached a b c = record { page-in = omega arith; fits = c; released-in = ((a, b), tt) }
   emptied-in used p (x ∷ xs) reached a b c = record { page-in = b; fits = c; released-in = tt }

@@ -1,15 +1,15 @@
--- M-113's sentences on a store that holds a list, from the steps of enter and remove.
-use mathlib.Core.Path.{_≡_, refl, sym, ap, ap₂, _∙_, subst}
-use mathlib.Core.Bool.{Bool, true, false, true≢false, false≢true}
-use mathlib.Core.Logic.{_⊎_, inl, inr}
-use mathlib.Core.List.{List, [], _∷_, map}
-use Prim.Native.Nat.{ℕ, _+_, _^_, _≤_, _<_}
+-- Entries and removals mixed, on a store that holds a list: from the steps of enter and remove.
+use mathlib.Core.Path.{_≡_, sym, ap, ap₂, _∙_, subst}
+use mathlib.Core.Bool.{true, false}
+use mathlib.Core.Logic.{inl, inr}
+use mathlib.Core.List.{List, map}
+use Prim.Native.Nat.{ℕ, _+_, _≤_}
 use native.Mathlib.Decide.{decLe}
 use native.Mathlib.Omega.{arith}
-use Rattle.lists.specs.Keyed.{Lacks, contains, insert}
+use Rattle.lists.specs.Keyed.{contains, insert}
 use Rattle.lists.proofs.Cases.{bool-cases}
 use Rattle.lists.proofs.KeyedLaws.{contains-false}
-use Rattle.tree.specs.Trie.{Trie, shape}
+use Rattle.tree.specs.Trie.{shape}
 use Rattle.tree.specs.Tower.{tower}
 use Rattle.tree.specs.Build.{build}
 use Rattle.tree.specs.Book.{Sizes, entered, fits}
@@ -19,28 +19,24 @@ use Rattle.store.specs.declared.Item.{Item}
 use Rattle.store.specs.Format.{width}
 use Rattle.store.specs.Head.{headOf}
 use Rattle.page.specs.Page.{lawfulItem}
-use Rattle.represent.specs.Labelled.{occ, occs, OneForOne}
+use Rattle.represent.specs.Labelled.{occ, occs, OneForOne, count}
 use Rattle.page.specs.Schema.{keyOf}
-use Rattle.represent.specs.Rep.{numbers, contents}
+use Rattle.represent.specs.Rep.{numbers, Holds}
 use Rattle.page.proofs.Laws.{lawful-key}
 use Rattle.tree.proofs.TrieLaws.{shape-relabel}
 use Rattle.page.specs.Schema.{unlawful}
 use Rattle.insert.specs.Promises.{sizesIn}
 use Rattle.page.specs.Schema.{schemaOf}
-use Rattle.joins.specs.Joins.{without}
 use Rattle.joins.proofs.ListLaws.{without-insert}
 use Rattle.insert.specs.Enter.{enterOf}
 use Rattle.remove.specs.Remove.{removeOf}
-use Rattle.remove.specs.Holding.{count}
-use Rattle.represent.specs.Rep.{Holds}
 use Rattle.store.specs.Released.{releasedNodes, releasedPages}
 use Rattle.insert.proofs.StepLaws.{enter-steps}
-use Rattle.remove.proofs.Bridge.{list-step}
-use Rattle.remove.specs.Mixture.{Undone, BlocksOnce}
+use Rattle.remove.proofs.RemoveSteps.{remove-steps}
+use Rattle.remove.specs.Mixture.{Partition, Undone, BlocksOnce}
 
 -- each taken number is counted once
-parts : (used : ℕ → ℕ) (ns : List ℕ) (taken n : ℕ) → OneForOne taken (λ x. used x + count x ns) → 1 ≤ n
-    → ((used n ≡ 1) × (count n ns ≡ 0) × (n ≤ taken)) ⊎ (((used n ≡ 0) × (count n ns ≡ 1) × (n ≤ taken)) ⊎ ((used n ≡ 0) × (count n ns ≡ 0) × (taken < n)))
+parts : (used : ℕ → ℕ) (ns : List ℕ) (taken n : ℕ) → OneForOne taken (λ x. used x + count x ns) → 1 ≤ n → Partition used ns taken n
 parts used ns taken n o h =
     elim (decLe n taken) [
       | yes l ↦
@@ -89,7 +85,8 @@ module _ (f : Format) where
       ten : _≡_ {A = ℕ} 10 0 → ⊥
       ten q = omega (arith, q)
 
-  shapes : (s : List ℕ) (S : List Item) (h : Holds f s S) → map shape (h .bs) ≡ tower (headOf s .theta) (shape (build keyOf (headOf s .capacity) (width f) S))
+  shapes : (s : List ℕ) (S : List Item) (h : Holds f s S)
+      → map shape (h .bs) ≡ tower (headOf s .theta) (shape (build keyOf (headOf s .capacity) (width f) S))
   shapes s S h =
       h .rep .directory .levels-are
       ∙ ap (tower (headOf s .theta)) (shape-relabel (λ x. x .0) (h .b0) ∙ sym (shape-relabel (λ x. x .1) (h .b0)) ∙ ap shape (h .tree))
@@ -100,11 +97,11 @@ module _ (f : Format) where
       let a : Accepted (sizesIn s) S it = accepted (sizesIn s) S it u (ap (λ r. r .number) (sym (t .reply)) ∙ e) in
       let s′ : List ℕ = enterOf f s it .words in
       let h′ : Holds f s′ (insert keyOf it S) = subst (Holds f s′) (a .held) (t .holds) in
-      let r = list-step f s′ (insert keyOf it S) h′ (it .key) (lawful-key f it (a .lawful) .1) in
+      let r = remove-steps f s′ (insert keyOf it S) h′ (it .key) (lawful-key f it (a .lawful) .1) in
       let s″ : List ℕ = removeOf f s′ (it .key) .words in
       let g : Holds f s″ S = subst (Holds f s″) (without-insert keyOf it S (contains-false keyOf (it .key) S (a .new))) (r .holds) in
-      let C : headOf s″ .capacity ≡ headOf s .capacity = r .within .sizes-same .capacity ∙ t .sizes-same .capacity in
-      let θ : headOf s″ .theta ≡ headOf s .theta = r .within .sizes-same .theta ∙ t .sizes-same .theta in (
+      let C : headOf s″ .capacity ≡ headOf s .capacity = r .kept .within .sizes-same .capacity ∙ t .sizes-same .capacity in
+      let θ : headOf s″ .theta ≡ headOf s .theta = r .kept .within .sizes-same .theta ∙ t .sizes-same .theta in (
         g,
         g .tree ∙ ap (λ c. build keyOf c (width f) S) C ∙ sym (h .tree),
         shapes s″ S g ∙ ap₂ (λ n c. tower n (shape (build keyOf c (width f) S))) θ C ∙ sym (shapes s S h),

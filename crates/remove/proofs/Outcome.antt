@@ -2,53 +2,53 @@
 use mathlib.Core.Path.{_≡_, refl, sym, ap, ap₂, _∙_, subst}
 use mathlib.Core.Bool.{Bool, true, false}
 use mathlib.Core.List.{List, [], _∷_, _++_, map}
-use mathlib.Core.Logic.{_⊎_, inl, inr}
-use Prim.Native.Nat.{ℕ, zero, suc, _+_, _-_, _^_, _≤_, _<_}
+use mathlib.Core.Logic.{inl, inr}
+use Prim.Native.Nat.{ℕ, zero, suc, _+_, _^_, _≤_, _<_}
 use native.Mathlib.Decide.{decLe, ℕ-discrete}
 use native.Mathlib.Omega.{arith}
-use lib.Dec.{ltb, eqb}
+use lib.Dec.{ltb}
 use lib.ListN.{length, length-map, take, drop}
-use borrow.Author.Tests.{ltb-true, ltb-false}
+use borrow.Author.Tests.{ltb-false}
 use Rattle.lists.specs.Bits.{bits}
 use Rattle.lists.specs.Lists.{All}
 use Rattle.lists.proofs.Cases.{bool-cases}
-use Rattle.tree.specs.Trie.{Trie, leaf, fork, Shape, Key, shape, height, labels, leafAt, depth}
+use Rattle.tree.specs.Trie.{Trie, leaf, fork, Shape, Key, shape, labels, depth}
 use Rattle.tree.specs.Tower.{tower}
 use Rattle.store.specs.declared.Format.{Format}
 use Rattle.store.specs.declared.Head.{Head}
-use Rattle.store.specs.declared.Item.{Item}
 use Rattle.store.specs.Format.{width}
-use Rattle.store.specs.Head.{headOf, nodeAt, nodeWords}
+use Rattle.store.specs.Head.{headOf, nodeAt}
 use Rattle.store.proofs.HeadLaws.{sizes-limits}
 use Rattle.node.specs.Node.{backWord, forwardWord}
-use Rattle.represent.specs.Labelled.{ind, occ, occs, OneForOne, Over, Linked, first}
+use Rattle.represent.specs.Labelled.{ind, occ, occs, Linked, first, count}
 use Rattle.represent.specs.Image.{nodeImage, NodeIs}
-use Rattle.represent.specs.Rep.{Stretch, numbers, Nodes, Links, Unlinked, backOf, forwardOf}
-use Rattle.represent.proofs.LabelLaws.{ind-self, ind-eq, ind-other}
-use Rattle.represent.proofs.Chain.{count-labels, first-in}
+use Rattle.represent.specs.Rep.{Stretch, numbers, Nodes, Unlinked, backOf, forwardOf, Directory, Rep}
+use Rattle.represent.proofs.LabelLaws.{one-numbered, ind-self, ind-eq, ind-other}
+use Rattle.represent.proofs.Chain.{count-labels, first-in, count-append}
 use Rattle.split.specs.Block.{linked}
 use Rattle.split.specs.Frame.{nodeOf}
 use Rattle.split.proofs.Lengths.{length-nodeImage}
 use Rattle.split.proofs.BlockLaws.{node-ops-are}
-use Rattle.joins.specs.Joins.{collapse, sub, trimmed}
+use Rattle.joins.specs.Joins.{sub, trimmed}
 use Rattle.joins.proofs.NodeJoins.{cuts, tower-cuts}
-use Rattle.remove.specs.Holding.{count, Directory, Rep}
-use Rattle.remove.specs.Remove.{Pages, Spot, keptUpper, keptLevels, backwards, goneRoots, topOf, firstSpot, Plan}
-use Rattle.remove.specs.Promises.{collapsed}
-use Rattle.remove.proofs.Base.{rep-low, rep-high, rep-apart, level-1}
+use Rattle.remove.specs.Remove.{Spot, keptUpper, backwards, goneRoots, topOf, firstSpot, Plan}
+use Rattle.represent.proofs.Links.{level-1}
+use Rattle.represent.proofs.Passes.{taken}
+use Rattle.represent.proofs.Counting.{released-node}
+use Rattle.store.specs.Released.{releasedNodes}
 use Rattle.remove.proofs.JoinLaws.{height-collapsed}
 use Rattle.remove.proofs.Collapses.{final, Cut, cut-at, joined-linked, linked-drop, Stays, Behind}
 use Rattle.remove.proofs.LinkRow.{joint-forward, final-in}
 use Rattle.remove.proofs.LevelPhase.{image-back, image-forward}
 use Rattle.remove.proofs.LevelsPhase.{newLevels, Spotted, Standing}
-use Rattle.remove.proofs.Parts.{count-append, occ-sub, sub-own, shape-collapsed}
+use Rattle.remove.proofs.Parts.{collapsed, occ-sub, sub-own, shape-collapsed}
 use Rattle.remove.specs.Frame.{numbersOf}
 use Rattle.remove.proofs.Trims.{lastNumber, top-is, count-backwards, collapsed-flat, upperLevels, Trimmed, trims, top-flat}
 use Rattle.remove.proofs.NewNodes.{is-image, inside, inside-le, new-cuts, inside-is, level-over, upper-nodes}
-use Rattle.remove.specs.Frame.{Framed, Kept}
+use Rattle.remove.specs.Frame.{Framed}
 use Rattle.remove.specs.Doable.{In, Writable, Doable}
 use Rattle.remove.specs.Frame.{behind, NodeWritten, PageWritten, HeadWritten}
-use Rattle.remove.proofs.Writes.{t₆, written-framed, root-written, levels-written, spots-written, behind-written}
+use Rattle.remove.proofs.Writes.{t₆, written-framed, spots-written, behind-written}
 
 ind-collapsed : (n d q : ℕ) (t : Trie ℕ) (k : Key) → ind n q ≤ occ n (collapsed d q t k)
 ind-collapsed n zero q t k = omega arith
@@ -81,7 +81,8 @@ all-of P [] g = tt
 all-of P (x ∷ xs) g = (g x (omega (arith, ind-self x)), all-of P xs (λ n o. g n (omega arith)))
 
 -- what holds of the number of each of some nodes
-pick : (P : Spot → Type 0) (Q : ℕ → Type 0) (zs : List Spot) (n : ℕ) → ((z : Spot) → P z → Q (z .number)) → All P zs → 1 ≤ count n (numbersOf zs) → Q n
+pick : (P : Spot → Type 0) (Q : ℕ → Type 0) (zs : List Spot) (n : ℕ) → ((z : Spot) → P z → Q (z .number)) → All P zs
+    → 1 ≤ count n (numbersOf zs) → Q n
 pick P Q [] n g a o = absurd (omega (arith, o))
 pick P Q (z ∷ zs) n g a o =
     elim (ℕ-discrete n (z .number)) [
@@ -97,7 +98,7 @@ tails : List ℕ → List ℕ
 tails [] = []
 tails (x ∷ xs) = xs
 
-first-spot : (x : Spot) (xs : List Spot) → firstSpot (x ∷ xs) ≡ x
+pub first-spot : (x : Spot) (xs : List Spot) → firstSpot (x ∷ xs) ≡ x
 unfolding firstSpot
 first-spot x xs = refl
 
@@ -106,7 +107,7 @@ linked-shows θ level p q ws v low is =
     ap (λ ys. linked ys p q) (is .image) ∙ node-ops-are θ low .linked-is level (backWord ws 0) (forwardWord ws 0) p q v (is .low)
 
 -- all but the pages, and the level-1 node apart: b is the first level, x its node in hand
-module _ (f : Format) (s : List ℕ) (b0 : Trie Stretch) (b : Trie ℕ) (cs : List (Trie ℕ)) {ns ps : List ℕ} (r : Rep f s b0 (b ∷ cs) ns ps) (k : ℕ)
+module _ (f : Format) (s : List ℕ) (b0 : Trie Stretch) (b : Trie ℕ) (cs : List (Trie ℕ)) (r : Rep f s b0 (b ∷ cs)) (k : ℕ)
     (low : k < 2 ^ width f) (m q : ℕ) (x : Spot) (xs : List Spot) (released : List ℕ) where
   abbrev h : Head
   h = headOf s
@@ -119,6 +120,9 @@ module _ (f : Format) (s : List ℕ) (b0 : Trie Stretch) (b : Trie ℕ) (cs : Li
 
   abbrev node : ℕ → List ℕ
   node = nodeAt s h
+
+  abbrev ns : List ℕ
+  ns = releasedNodes s
 
   abbrev u : Trie ℕ
   u = numbers b0
@@ -158,10 +162,12 @@ module _ (f : Format) (s : List ℕ) (b0 : Trie Stretch) (b : Trie ℕ) (cs : Li
     θ-low = sizes-limits _ _ _ _ (r .sized .sizes) .theta-low
 
     once : (n : ℕ) → occs n all + count n ns ≤ 1
-    once = rep-apart f s b0 all r
+    once n =
+        let d = r .directory in
+        one-numbered (h .nodesTaken) ns all (d .oneForOne) (d .positive) (d .spare-positive) .once n
 
     in-use : (n : ℕ) → 1 ≤ occs n all → (1 ≤ n) × (n ≤ h .nodeBlocks)
-    in-use n o = (rep-low f s b0 all r n (omega (arith, o)), omega (arith, rep-high f s b0 all r n (omega (arith, o)), r .nodes-fit))
+    in-use n o = let i = taken f s b0 all r n o in (i .0, omega (arith, i .1, r .nodes-fit))
 
     -- nodes beside the prefixes are neither in hand nor released
     outside : (n : ℕ) → inside key all (x ∷ xs) n < occs n all → (count n (numbersOf (x ∷ xs)) ≡ 0) × (count n gone ≡ 0)
@@ -178,7 +184,11 @@ module _ (f : Format) (s : List ℕ) (b0 : Trie Stretch) (b : Trie ℕ) (cs : Li
     numbers-in l u w (c ∷ ds) [] st n i = absurd st
     numbers-in l u w (c ∷ ds) (y ∷ ys) st n zero = omega arith
     numbers-in l u w (c ∷ ds) (y ∷ ys) st n (suc i) =
-        omega (arith, ind-collapsed n (y .used) (y .number) c key, numbers-in (suc l) c (collapsed (y .used) (y .number) c key) ds ys (st .1) n i)
+        omega (
+          arith,
+          ind-collapsed n (y .used) (y .number) c key,
+          numbers-in (suc l) c (collapsed (y .used) (y .number) c key) ds ys (st .1) n i,
+        )
 
     kept-in : (n : ℕ) → count n (numbersOf (x ∷ keptUpper xs)) ≤ occs n (b′ ∷ upper)
     kept-in n =
@@ -190,17 +200,23 @@ module _ (f : Format) (s : List ℕ) (b0 : Trie Stretch) (b : Trie ℕ) (cs : Li
         )
 
     -- a number in hand is a label of its level
-    row-in : (l : ℕ) (u w c : Trie ℕ) (y : Spot) (v : Spotted f s b0 all r k low l u w c y) (n : ℕ) → 1 ≤ count n (y .number ∷ v .others) → 1 ≤ occ n (sub (y .used) c key)
+    row-in : (l : ℕ) (u w c : Trie ℕ) (y : Spot) (v : Spotted f s b0 all r k low l u w c y) (n : ℕ) → 1 ≤ count n (y .number ∷ v .others)
+        → 1 ≤ occ n (sub (y .used) c key)
     row-in l u w c y v n o = omega (arith, o, ap (count n) (v .row), count-labels n (sub (y .used) c key))
 
     number-in : (l : ℕ) (u w c : Trie ℕ) (y : Spot) → Spotted f s b0 all r k low l u w c y → (1 ≤ occ (y .number) c) × (1 ≤ occ (y .last) c)
     number-in l u w c y v = (
       omega (arith, row-in l u w c y v (y .number) (omega (arith, ind-self (y .number))), occ-sub (y .number) (y .used) c key),
       subst (λ n. 1 ≤ occ n c) (sym (v .last-is))
-          (omega (arith, row-in l u w c y v (final (y .number) (v .others)) (final-in (y .number) (v .others)), occ-sub (final (y .number) (v .others)) (y .used) c key)),
+          (omega (
+            arith,
+            row-in l u w c y v (final (y .number) (v .others)) (final-in (y .number) (v .others)),
+            occ-sub (final (y .number) (v .others)) (y .used) c key,
+          )),
     )
 
-    writable : (l : ℕ) (u w : Trie ℕ) (ds : List (Trie ℕ)) (ys : List Spot) → Standing f s b0 all r k low l u w ds ys → ((n : ℕ) → occs n ds ≤ occs n all)
+    writable : (l : ℕ) (u w : Trie ℕ) (ds : List (Trie ℕ)) (ys : List Spot) → Standing f s b0 all r k low l u w ds ys
+        → ((n : ℕ) → occs n ds ≤ occs n all)
         → Writable s ys
     writable l u w [] [] st part = tt
     writable l u w [] (y ∷ ys) st part = absurd st
@@ -261,11 +277,12 @@ module _ (f : Format) (s : List ℕ) (b0 : Trie Stretch) (b : Trie ℕ) (cs : Li
           | yes e ↦ omega (arith, forward-is, e)
           | no e ↦
               let o = first-in (around .right) e in
-              omega (arith, forward-is, rep-high f s b0 all r (first (around .right)) (omega (arith, counted (first (around .right)), o)))
+              omega (arith, forward-is, taken f s b0 all r (first (around .right)) (omega (arith, counted (first (around .right)), o)) .1)
         ]
 
     -- in the store t, in which the plan p is written
-    module _ (p : Plan) (spots-are : p .spots ≡ x ∷ keptUpper xs) (nodes-are : p .nodes ≡ gone) (linked-is : p .linked ≡ ltb (x .used) (depth b key))
+    module _ (p : Plan) (spots-are : p .spots ≡ x ∷ keptUpper xs) (nodes-are : p .nodes ≡ gone)
+        (linked-is : p .linked ≡ ltb (x .used) (depth b key))
         (D : Doable f s p) where
       abbrev t : List ℕ
       t = t₆ f s p
@@ -277,7 +294,8 @@ module _ (f : Format) (s : List ℕ) (b0 : Trie Stretch) (b : Trie ℕ) (cs : Li
       y = behind p
 
       y-is : y ≡ first (around .right)
-      y-is = ap (λ (zs : List Spot). forwardWord (firstSpot zs .block) 0) spots-are ∙ ap (λ (z : Spot). forwardWord (z .block) 0) (first-spot x (keptUpper xs)) ∙ forward-is
+      y-is = ap (λ (zs : List Spot). forwardWord (firstSpot zs .block) 0) spots-are
+          ∙ ap (λ (z : Spot). forwardWord (z .block) 0) (first-spot x (keptUpper xs)) ∙ forward-is
 
       own-is : firstSpot (p .spots) .number ≡ x .number
       own-is = ap (λ (zs : List Spot). firstSpot zs .number) spots-are ∙ ap (λ (z : Spot). z .number) (first-spot x (keptUpper xs))
@@ -351,7 +369,8 @@ module _ (f : Format) (s : List ℕ) (b0 : Trie Stretch) (b : Trie ℕ) (cs : Li
                     let i = in-use n (omega (arith, o, kept-in n, total n)) in
                     omega (arith, i .0, e, y-is, z)
                 | no z ↦
-                    let c : 1 ≤ count n (around .right) = subst (λ i. 1 ≤ count i (around .right)) (sym (e ∙ y-is)) (first-in (around .right) z) in
+                    let c : 1 ≤ count n (around .right) =
+                    subst (λ i. 1 ≤ count i (around .right)) (sym (e ∙ y-is)) (first-in (around .right) z) in
                     omega (arith, o, kept-le n, outside n (beside-right n c) .0)
               ]
 
@@ -359,9 +378,12 @@ module _ (f : Format) (s : List ℕ) (b0 : Trie Stretch) (b : Trie ℕ) (cs : Li
       new-nodes =
           subst (λ (zs : List Spot). Nodes θ node′ (topOf zs) (length zs) 0 w (b′ ∷ upper)) (sym spots-are)
           (subst (λ n. Nodes θ node′ n (suc (length (keptUpper xs))) 0 w (b′ ∷ upper)) (sym (top-is x (keptUpper xs))) (
-            level-over f s b0 all r k low node′ 0 u w b x v (r .directory .nodes .0) (written .0) (λ n t o. carry n 1 t (omega (arith, o, inside-le key cs xs n))),
-            subst (λ n. Nodes θ node′ (lastNumber (x .number) (keptUpper xs)) n 1 b′ upper) (let z : 1 + length (keptUpper xs) ≡ suc (length (keptUpper xs)) = omega arith in z)
-                (upper-nodes f s b0 all r k low node′ 1 b b′ cs xs (st .1) (r .directory .nodes .1) trim (x .number) (collapsed-flat (x .used) (x .number) b key)
+            level-over f s b0 all r k low node′ 0 u w b x v (r .directory .nodes .0) (written .0)
+                (λ n t o. carry n 1 t (omega (arith, o, inside-le key cs xs n))),
+            subst (λ n. Nodes θ node′ (lastNumber (x .number) (keptUpper xs)) n 1 b′ upper)
+                (let z : 1 + length (keptUpper xs) ≡ suc (length (keptUpper xs)) = omega arith in z)
+                (upper-nodes f s b0 all r k low node′ 1 b b′ cs xs (st .1) (r .directory .nodes .1) trim (x .number)
+                (collapsed-flat (x .used) (x .number) b key)
                 (written .1) (λ n level t o. carry n level t (omega (arith, o, occ-sub n (x .used) b key)))),
           ))
 
@@ -369,7 +391,8 @@ module _ (f : Format) (s : List ℕ) (b0 : Trie Stretch) (b : Trie ℕ) (cs : Li
       new-shapes =
           ap (λ (ds : List Shape). shape b′ ∷ ds) (trim .shapes)
           ∙ ap trimmed (new-cuts f s b0 all r k low 0 u w all (x ∷ xs) st)
-          ∙ ap₂ (λ (n : ℕ) (c : Shape). trimmed (cuts n θ c)) (sym (length-map all shape) ∙ ap length (r .directory .levels-are)) (shape-collapsed m q u key)
+          ∙ ap₂ (λ (n : ℕ) (c : Shape). trimmed (cuts n θ c)) (sym (length-map all shape) ∙ ap length (r .directory .levels-are))
+          (shape-collapsed m q u key)
           ∙ sym (tower-cuts θ m (shape u) key (sizes-limits _ _ _ _ (r .sized .sizes) .theta-low))
           ∙ ap (tower θ) (sym (shape-collapsed m q u key))
 
@@ -390,7 +413,8 @@ module _ (f : Format) (s : List ℕ) (b0 : Trie Stretch) (b : Trie ℕ) (cs : Li
               elim (ℕ-discrete (first (around .right)) 0) [
                 | yes z ↦ omega (arith, in-use n (omega (arith, o, counted n)) .0, e, y-is, z)
                 | no z ↦
-                    let c : 1 ≤ count n (around .right) = subst (λ i. 1 ≤ count i (around .right)) (sym (e ∙ y-is)) (first-in (around .right) z) in
+                    let c : 1 ≤ count n (around .right) =
+                    subst (λ i. 1 ≤ count i (around .right)) (sym (e ∙ y-is)) (first-in (around .right) z) in
                     omega (arith, o, c, counted n, once n)
               ]
 
@@ -407,7 +431,8 @@ module _ (f : Format) (s : List ℕ) (b0 : Trie Stretch) (b : Trie ℕ) (cs : Li
           let d : x .used ≡ depth b key = omega (arith, v .within, ltb-false (x .used) (depth b key) (sym linked-is ∙ e)) in
           ap tails (sym (v .row) ∙ ap (λ (i : ℕ). labels (sub i b key)) d ∙ ap labels (sub-own b key))
 
-      behind-right : (ys : List ℕ) → around .right ≡ ys → Behind (backOf node) (forwardOf node) (backOf node′) (forwardOf node′) (x .number) ys
+      behind-right : (ys : List ℕ) → around .right ≡ ys
+          → Behind (backOf node) (forwardOf node) (backOf node′) (forwardOf node′) (x .number) ys
       behind-right [] e = tt
       behind-right (z ∷ ys) e =
           let ct : (n : ℕ) → count n (around .right) ≡ ind n z + count n ys = λ n. ap (count n) e in
@@ -424,17 +449,20 @@ module _ (f : Format) (s : List ℕ) (b0 : Trie Stretch) (b : Trie ℕ) (cs : Li
                 let l = level-1 f s b0 b cs r y (omega (arith, counted y, subst (λ n. 1 ≤ count n (around .right)) (sym y-z) z-in)) in
                 let is : node′ y ≡ nodeImage θ 1 (x .number) (forwardWord (node y) 0) (l .0) =
                 behind-is on pos ∙ linked-shows θ 1 (x .number) (forwardWord (node y) 0) (node y) (l .0) θ-low (l .1) in
-                subst (λ n. (backOf node′ n ≡ x .number) × (forwardOf node′ n ≡ forwardOf node n) × All (Stays (backOf node) (forwardOf node) (backOf node′) (forwardOf node′)) ys) y-z (
+                subst (λ n. (backOf node′ n ≡ x .number) × (forwardOf node′ n ≡ forwardOf node n) × All
+                (Stays (backOf node) (forwardOf node) (backOf node′) (forwardOf node′)) ys) y-z (
                   ap (λ ws. backWord ws 0) is ∙ image-back θ 1 _ _ (l .0),
                   ap (λ ws. forwardWord ws 0) is ∙ image-forward θ 1 _ _ (l .0),
                   rest,
                 )
             | inr off ↦
-                let same : node′ z ≡ node z = same-outside z (beside-right z z-in) (λ q. absurd (mathlib.Core.Bool.false≢true (sym off ∙ q .0))) in
+                let same : node′ z ≡ node z =
+                same-outside z (beside-right z z-in) (λ q. absurd (mathlib.Core.Bool.false≢true (sym off ∙ q .0))) in
                 let behind-linked : Linked (backOf node) (forwardOf node) (final (x .number) (v .others)) (around .right) =
                 linked-drop (backOf node) (forwardOf node) (final 0 (around .left)) (x .number ∷ v .others) (around .right)
                 (linked-drop (backOf node) (forwardOf node) 0 (around .left) ((x .number ∷ v .others) ++ around .right) was-linked) in
-                let z-back : backOf node z ≡ final (x .number) (v .others) = subst (Linked (backOf node) (forwardOf node) (final (x .number) (v .others))) e behind-linked .0 in (
+                let z-back : backOf node z ≡ final (x .number) (v .others) =
+                subst (Linked (backOf node) (forwardOf node) (final (x .number) (v .others))) e behind-linked .0 in (
                   ap (λ ws. backWord ws 0) same ∙ z-back ∙ ap (final (x .number)) (no-others off),
                   ap (λ ws. forwardWord ws 0) same,
                   rest,
@@ -444,7 +472,8 @@ module _ (f : Format) (s : List ℕ) (b0 : Trie Stretch) (b : Trie ℕ) (cs : Li
       first-links : Linked (backOf node′) (forwardOf node′) 0 (labels b′)
       first-links =
           subst (Linked (backOf node′) (forwardOf node′) 0) (sym (around .joined))
-          (joined-linked (backOf node) (forwardOf node) (backOf node′) (forwardOf node′) 0 (x .number) (around .left) (v .others) (around .right) was-linked
+          (joined-linked (backOf node) (forwardOf node) (backOf node′) (forwardOf node′) 0 (x .number) (around .left) (v .others)
+          (around .right) was-linked
           stays-left own-back own-forward (behind-right (around .right) refl))
 
       -- above level 1
@@ -473,8 +502,10 @@ module _ (f : Format) (s : List ℕ) (b0 : Trie Stretch) (b : Trie ℕ) (cs : Li
       spots-bare l u w (c ∷ ds) (z ∷ ys) st g =
           let o = number-in l u w c z (st .0) in (
             (
-              ap (λ ws. backWord ws 0) (st .0 .image) ∙ image-back θ (suc l) _ _ (sub (z .used) w key) ∙ g (z .number) (omega (arith, o .0)) .no-back,
-              ap (λ ws. forwardWord ws 0) (st .0 .image) ∙ image-forward θ (suc l) _ _ (sub (z .used) w key) ∙ g (z .last) (omega (arith, o .1)) .no-forward,
+              ap (λ ws. backWord ws 0) (st .0 .image) ∙ image-back θ (suc l) _ _ (sub (z .used) w key)
+                  ∙ g (z .number) (omega (arith, o .0)) .no-back,
+              ap (λ ws. forwardWord ws 0) (st .0 .image) ∙ image-forward θ (suc l) _ _ (sub (z .used) w key)
+                  ∙ g (z .last) (omega (arith, o .1)) .no-forward,
             ),
             spots-bare (suc l) c (collapsed (z .used) (z .number) c key) ds ys (st .1) (λ n i. g n (omega arith)),
           )
@@ -485,15 +516,21 @@ module _ (f : Format) (s : List ℕ) (b0 : Trie Stretch) (b : Trie ℕ) (cs : Li
             | yes a ↦
                 let bare = subst (All (λ z. (backWord (z .block) 0 ≡ 0) × (forwardWord (z .block) 0 ≡ 0))) (sym (trim .front))
                 (all-take _ (length (keptUpper xs)) xs (spots-bare 1 b b′ cs xs (st .1) (r .directory .links .1))) in
-                pick (λ z. (node′ (z .number) ≡ z .block) × ((backWord (z .block) 0 ≡ 0) × (forwardWord (z .block) 0 ≡ 0))) (Unlinked node′) (keptUpper xs) n
-                (λ z c. record { no-back = ap (λ ws. backWord ws 0) (c .0) ∙ c .1 .0; no-forward = ap (λ ws. forwardWord ws 0) (c .0) ∙ c .1 .1 })
+                pick (λ z. (node′ (z .number) ≡ z .block) × ((backWord (z .block) 0 ≡ 0) × (forwardWord (z .block) 0 ≡ 0)))
+                (Unlinked node′) (keptUpper xs) n
+                (λ z c. record {
+                  no-back = ap (λ ws. backWord ws 0) (c .0) ∙ c .1 .0;
+                  no-forward = ap (λ ws. forwardWord ws 0) (c .0)
+                      ∙ c .1 .1;
+                })
                 (all-both _ _ (keptUpper xs) (written .1) bare) a
             | no a ↦
                 let c : 1 ≤ occs n cs = omega (arith, o, upper-in n) in
                 let own : ind n (x .number) ≡ 0 = omega (arith, ind-collapsed n (x .used) (x .number) b key, o, total n, once n) in
                 let i = in-use n (omega (arith, c)) in
                 let e : node′ n ≡ node n =
-                untouched n (i .0) (i .1) (omega (arith, kept-count n, own)) (omega (arith, gone-is n, o, total n, once n)) (λ z. off (z .1)) in
+                untouched n (i .0) (i .1) (omega (arith, kept-count n, own)) (omega (arith, gone-is n, o, total n, once n))
+                (λ z. off (z .1)) in
                 let old = r .directory .links .1 n c in
                 record { no-back = ap (λ ws. backWord ws 0) e ∙ old .no-back; no-forward = ap (λ ws. forwardWord ws 0) e ∙ old .no-forward }
           ]
@@ -503,11 +540,13 @@ module _ (f : Format) (s : List ℕ) (b0 : Trie Stretch) (b : Trie ℕ) (cs : Li
               elim (ℕ-discrete (first (around .right)) 0) [
                 | yes z ↦ omega (arith, in-use n (omega (arith, o, upper-in n)) .0, e, y-is, z)
                 | no z ↦
-                    let c : 1 ≤ count n (around .right) = subst (λ i. 1 ≤ count i (around .right)) (sym (e ∙ y-is)) (first-in (around .right) z) in
+                    let c : 1 ≤ count n (around .right) =
+                    subst (λ i. 1 ≤ count i (around .right)) (sym (e ∙ y-is)) (first-in (around .right) z) in
                     omega (arith, o, c, upper-in n, counted n, once n)
               ]
 
-      pub new-directory : Directory θ node′ (topOf (p .spots)) (length (p .spots)) (h .nodesTaken) w (b′ ∷ upper) (backwards ns gone)
+      pub new-directory : Directory θ node′ (topOf (p .spots)) (length (p .spots)) (h .nodesTaken) (λ n. count n (backwards ns gone)) w
+          (b′ ∷ upper)
       new-directory =
           let sum : (n : ℕ) → occs n (b′ ∷ upper) + count n (backwards ns gone) ≡ occs n all + count n ns =
           λ n. omega (arith, total n, count-backwards n ns gone) in
@@ -518,7 +557,8 @@ module _ (f : Format) (s : List ℕ) (b0 : Trie Stretch) (b : Trie ℕ) (cs : Li
               once = λ n a c. sum n ∙ r .directory .oneForOne .once n a c;
               none = λ n a. sum n ∙ r .directory .oneForOne .none n a;
             };
-            positive = sum 0 ∙ r .directory .positive;
+            positive = omega (arith, sum 0, r .directory .positive, r .directory .spare-positive);
+            spare-positive = omega (arith, sum 0, r .directory .positive, r .directory .spare-positive);
             levels-are = new-shapes;
           }
 
@@ -531,10 +571,6 @@ module _ (f : Format) (s : List ℕ) (b0 : Trie Stretch) (b : Trie ℕ) (cs : Li
           untouched n (omega arith) c (omega (arith, kept-count n, kept-le n, e)) (omega (arith, gone-is n, total n, z))
           (λ q. omega (arith, a, q .1, y-is, forward-is, forward-fits))
 
-      -- what is released was in use
-      pub gone-in : In (h .nodeBlocks) gone
-      gone-in = in-of (h .nodeBlocks) gone (λ n o. in-use n (omega (arith, o, total n)))
-
       pub gone-apart : (n : ℕ) → count n gone + count n ns ≤ 1
       gone-apart n = omega (arith, total n, once n)
 
@@ -543,9 +579,10 @@ module _ (f : Format) (s : List ℕ) (b0 : Trie Stretch) (b : Trie ℕ) (cs : Li
         omega (arith, o, kept-count n, kept-in n, total n, once n),
         λ q.
             elim (ℕ-discrete (first (around .right)) 0) [
-              | yes z ↦ omega (arith, rep-low f s b0 all r n (omega (arith, o)), q .1, y-is, z)
+              | yes z ↦ omega (arith, released-node f s b0 all r n o .0, q .1, y-is, z)
               | no z ↦
-                  let c : 1 ≤ count n (around .right) = subst (λ i. 1 ≤ count i (around .right)) (sym (q .1 ∙ y-is)) (first-in (around .right) z) in
+                  let c : 1 ≤ count n (around .right) =
+                  subst (λ i. 1 ≤ count i (around .right)) (sym (q .1 ∙ y-is)) (first-in (around .right) z) in
                   omega (arith, o, c, counted n, once n)
             ],
       )

@@ -1,35 +1,27 @@
 -- Refused calls: every way out but the last leaves the words and replies zeros. And a page is reached under one prefix only.
 use mathlib.Core.Path.{_≡_, refl, sym, ap, _∙_, subst}
-use mathlib.Core.Bool.{true, false, _&&_}
+use mathlib.Core.Bool.{true, false}
 use mathlib.Core.List.{List}
 use Prim.Native.Nat.{ℕ, _+_, _-_, _/_, _^_, _≤_, _<_}
 use native.Mathlib.Omega.{arith}
 use native.Mathlib.Nat.{div-div-eq-div-mul}
-use lib.Dec.{leb, eqb}
+use lib.Dec.{eqb}
 use lib.Pow.{pow-add, pow-pos}
-use lib.ListN.{getD}
-use borrow.Author.Tests.{eqb-true, leb-true}
-use Rattle.lists.specs.Lists.{every}
-use Rattle.lists.specs.Keyed.{contains}
-use Rattle.lists.proofs.Tests.{and-true, every-at}
-use Rattle.tree.specs.Book.{refused}
+use borrow.Author.Tests.{eqb-true}
+use Rattle.lists.proofs.Tests.{every-at}
 use Rattle.store.specs.declared.Format.{Format}
 use Rattle.store.specs.declared.Head.{Head}
 use Rattle.store.specs.declared.Item.{Item}
 use Rattle.store.specs.Format.{width, words}
-use Rattle.store.specs.Head.{headOf, zeros}
-use Rattle.page.specs.Page.{count, keyAt, lawfulItem, ordered, pageRule, agrees}
-use Rattle.search.specs.declared.Descent.{Descent}
+use Rattle.store.specs.Head.{headOf}
+use Rattle.page.specs.Page.{count, keyAt, agrees}
 use Rattle.search.specs.declared.Sought.{Sought}
 use Rattle.search.specs.declared.Sought.the-variants.{Record, Nothing, Damaged}
-use Rattle.search.specs.Descent.{noStep, descent}
 use Rattle.search.specs.Find.{noItem, checked, findOf, findReply}
 use Rattle.search.proofs.Promises.{keys-fit}
 use Rattle.lists.proofs.Cases.{by-cases}
-use Rattle.page.specs.Schema.{keyOf}
-use Rattle.page.specs.Schema.{unlawful}
 use Rattle.store.specs.Head.{headRule}
-use Rattle.remove.specs.Remove.{carriedOut, foundOf, removeOf, prefix, writtenBy}
+use Rattle.remove.specs.Remove.{carriedOut, foundOf, removeOf, writtenBy}
 use Rattle.remove.specs.Promises.{RemoveRefusals, PagesApart}
 
 -- remove
@@ -73,7 +65,8 @@ shorter W a b i j h l e =
     λ x. ap (λ n. x / n) (ap (λ n. 2 ^ n) s ∙ pow-add 2 (W - j) (j - i)) ∙ sym (div-div-eq-div-mul x (2 ^ (W - j)) (2 ^ (j - i))) in
     t a ∙ ap (λ n. n / 2 ^ (j - i)) e ∙ sym (t b)
 
-first-agrees : (f : Format) (pg : List ℕ) (k i : ℕ) → 1 ≤ count pg → agrees f pg k i ≡ true → keyAt f pg 0 / 2 ^ (width f - i) ≡ k / 2 ^ (width f - i)
+first-agrees : (f : Format) (pg : List ℕ) (k i : ℕ) → 1 ≤ count pg → agrees f pg k i ≡ true
+    → keyAt f pg 0 / 2 ^ (width f - i) ≡ k / 2 ^ (width f - i)
 unfolding agrees
 first-agrees f pg k i c a =
     eqb-true (keyAt f pg 0 / 2 ^ (width f - i)) (k / 2 ^ (width f - i))

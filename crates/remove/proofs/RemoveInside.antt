@@ -1,15 +1,15 @@
 -- Remove on any words: what it may write, and what it never does.
-use mathlib.Core.Path.{_≡_, refl, sym, ap, ap₂, _∙_, subst}
-use mathlib.Core.Bool.{Bool, true, false, _&&_, _||_, not, false≢true}
-use mathlib.Core.List.{List, [], _∷_, _++_, map}
+use mathlib.Core.Path.{_≡_, refl, sym, ap, _∙_, subst}
+use mathlib.Core.Bool.{Bool, true, false, _&&_, not, false≢true}
+use mathlib.Core.List.{List, [], _∷_, _++_}
 use mathlib.Core.Logic.{_⊎_, inl, inr}
-use Prim.Native.Nat.{ℕ, zero, suc, _+_, _-_, _^_, _≤_, _<_}
-use native.Mathlib.Decide.{decLe, ℕ-discrete}
+use Prim.Native.Nat.{ℕ, zero, suc, _≤_, _<_}
+use native.Mathlib.Decide.{ℕ-discrete}
 use native.Mathlib.Omega.{arith}
-use lib.Dec.{leb, ltb, eqb}
+use lib.Dec.{ltb, eqb}
 use lib.ListN.{length, getD, take, drop}
-use borrow.Author.Tests.{eq-eqb, ne-eqb}
-use Rattle.lists.specs.Lists.{All, tab}
+use borrow.Author.Tests.{eq-eqb}
+use Rattle.lists.specs.Lists.{All}
 use Rattle.lists.proofs.Cases.{bool-cases}
 use Rattle.lists.proofs.ListLaws.{length-filter, all-map}
 use Rattle.lists.proofs.Tests.{and-true, length-tab}
@@ -17,13 +17,12 @@ use Rattle.store.specs.declared.Format.{Format}
 use Rattle.store.specs.declared.Head.{Head}
 use Rattle.store.specs.declared.Item.{Item}
 use Rattle.store.specs.Format.{width}
-use Rattle.store.specs.Head.{word, headOf, pageAt}
+use Rattle.store.specs.Head.{headOf, pageAt}
 use Rattle.store.proofs.HeadLaws.{levels-within}
 use Rattle.node.specs.Node.{forwardWord}
-use Rattle.page.specs.Page.{count, pageRule, itemAt}
+use Rattle.page.specs.Page.{count, itemAt}
 use Rattle.page.specs.Schema.{keyOf}
 use Rattle.page.proofs.Laws.{rule-facts}
-use Rattle.represent.specs.Rep.{sizeOf}
 use Rattle.search.specs.declared.Step.{Step}
 use Rattle.search.specs.declared.Descent.{Descent}
 use Rattle.search.specs.declared.Sought.{Sought}
@@ -32,22 +31,26 @@ use Rattle.search.specs.Descent.{descent, noStep}
 use Rattle.search.specs.Find.{soundPage, findOf}
 use Rattle.insert.specs.Enter.{itemsIn, ownItems}
 use Rattle.insert.proofs.TestLaws.{items-some}
-use Rattle.insert.proofs.InsideEnter.{StepIn, Down, descent-down}
+use Rattle.insert.proofs.InsideEnter.{Down, descent-down}
 use Rattle.joins.specs.Joins.{without}
 use Rattle.store.specs.Head.{headRule}
-use Rattle.remove.specs.Remove.{Reach, Pages, pageJoins, emptied, Spot, noSpot, Levels, levelsFrom, keptOver, keptUpper, keptLevels, backwards, goneRoots, firstUsed, firstSpot, noPlan, Plan, pathReach, planOver, planOf, writtenBy, carriedOut, foundOf, removeOf}
+use Rattle.remove.specs.Remove.{Pages, pageJoins, emptied, Spot, Levels, levelsFrom, keptOver, keptUpper, keptLevels, goneRoots}
+use Rattle.remove.specs.Remove.{firstUsed, firstSpot, noPlan, Plan, pathReach, planOver, planOf, writtenBy, carriedOut, foundOf}
+use Rattle.remove.specs.Remove.{removeOf}
 use Rattle.remove.specs.Frame.{Done, RemoveWrites}
-use Rattle.remove.specs.Promises.{Within, RemoveInside}
+use Rattle.remove.specs.Promises.{RemoveInside}
 use Rattle.remove.specs.Frame.{Kept, Framed}
 use Rattle.remove.proofs.Framed.{kept-self}
 use Rattle.remove.specs.Doable.{In, Doable}
 use Rattle.remove.specs.Frame.{numbersOf}
 use Rattle.remove.specs.Frame.{NodeWritten, PageWritten, HeadWritten}
-use Rattle.remove.proofs.Writes.{t₆, written-framed}
-use Rattle.remove.proofs.InsideRemove.{Headed, head-facts, SpotIn, StepFine, LevelsIn, levels-in, PagesIn, pages-in, emptied-in, rule-forward, in-append}
-use Rattle.remove.proofs.RemoveSteps.{within-kept}
+use Rattle.remove.proofs.Releases.{in-wide}
+use Rattle.remove.proofs.Writes.{in-backwards, written-framed}
+use Rattle.remove.proofs.InsideRemove.{Headed, head-facts, SpotIn, StepFine, LevelsIn, levels-in, PagesIn, pages-in, emptied-in}
+use Rattle.remove.proofs.InsideRemove.{rule-forward, in-append}
 
-take-fine : {A : Type 0} (P : A → Type 0) (z : A) (n : ℕ) (xs : List A) → ((i : ℕ) → i < n → i < length xs → P (getD xs i z)) → All P (take n xs)
+take-fine : {A : Type 0} (P : A → Type 0) (z : A) (n : ℕ) (xs : List A) → ((i : ℕ) → i < n → i < length xs → P (getD xs i z))
+    → All P (take n xs)
 take-fine P z zero xs g = tt
 take-fine P z (suc n) [] g = tt
 take-fine P z (suc n) (x ∷ xs) g = (g 0 (omega arith) (omega arith), take-fine P z n xs (λ i a b. g (suc i) (omega arith) (omega arith)))
@@ -88,7 +91,8 @@ module _ (P : Spot → Type 0) where
   over-all : (x : Spot) (ys : List Spot) → P x → All P ys → All P (keptOver x ys)
   unfolding keptOver
   over-all x [] p a =
-      elim (eqb (Rattle.node.specs.Node.depthWord (x .block) 0) 0) as (λ b. All P (elim b [ true ↦ [] | false ↦ x ∷ [] ])) [ true ↦ tt | false ↦ (p, tt) ]
+      elim (eqb (Rattle.node.specs.Node.depthWord (x .block) 0) 0) as
+      (λ b. All P (elim b [ true ↦ [] | false ↦ x ∷ [] ])) [ true ↦ tt | false ↦ (p, tt) ]
   over-all x (y ∷ ys) p a = (p, a)
 
   upper-all : (xs : List Spot) → All P xs → All P (keptUpper xs)
@@ -108,10 +112,6 @@ numbers-all : (m : ℕ) (xs : List Spot) → All (λ x. (1 ≤ x .number) × (x 
 numbers-all m [] a = tt
 numbers-all m (x ∷ xs) a = (a .0, numbers-all m xs (a .1))
 
-backwards-in : (m : ℕ) (cs ms : List ℕ) → In m cs → In m ms → In m (backwards cs ms)
-backwards-in m cs [] a b = a
-backwards-in m cs (x ∷ ms) a b = backwards-in m (x ∷ cs) ms (b .0, a) (b .1)
-
 pub plan-ok : (f : Format) (s : List ℕ) (h : Head) (k used : ℕ) (ts : List Step) (g : Pages) → planOver f s h k used ts g .ok ≡ true
     → (g .ok ≡ true) × (levelsFrom f s h k 1 ts (g .used) (g .page) (ltb (g .used) used) (g .reached) .ok ≡ true)
 unfolding planOver
@@ -122,7 +122,8 @@ plan-ok f s h k used ts g e =
       | inr a ↦ absurd (false≢true (ap (λ (p : Plan). p .ok) (sym (off a)) ∙ e))
     ]
   where
-    off : (g .ok && levelsFrom f s h k 1 ts (g .used) (g .page) (ltb (g .used) used) (g .reached) .ok) ≡ false → planOver f s h k used ts g ≡ noPlan
+    off : (g .ok && levelsFrom f s h k 1 ts (g .used) (g .page) (ltb (g .used) used) (g .reached) .ok) ≡ false
+        → planOver f s h k used ts g ≡ noPlan
     off a = rw (a, planOver)
 
 module _ (f : Format) (s : List ℕ) (rule : headRule f s ≡ true) (k : ℕ) (it : Item) (found : findOf f s (headOf s) k ≡ Record it) where
@@ -170,7 +171,8 @@ module _ (f : Format) (s : List ℕ) (rule : headRule f s ≡ true) (k : ℕ) (i
 
   start-in : PagesIn f s H start
   start-in =
-      emptied-in f s H (de .used) (de .page) (without keyOf k (ownItems f s h (de .page))) (pathReach (width f) k ts) (omega (arith, F .some)) (D .page-in)
+      emptied-in f s H (de .used) (de .page) (without keyOf k (ownItems f s h (de .page))) (pathReach (width f) k ts)
+      (omega (arith, F .some)) (D .page-in)
       (omega (arith, own-fits, length-filter (λ (x : Item). not (eqb (x .key) k)) (ownItems f s h (de .page))))
 
   abbrev q : Plan
@@ -210,9 +212,6 @@ module _ (f : Format) (s : List ℕ) (rule : headRule f s ≡ true) (k : ℕ) (i
     first-in [] a = omega arith
     first-in (x ∷ xs) a = a .0 .forward-in
 
-    wide : (xs : List ℕ) (m n : ℕ) → m ≤ n → In m xs → In n xs
-    wide xs m n e = all-map (λ i. (1 ≤ i) × (i ≤ m)) (λ i. (1 ≤ i) × (i ≤ n)) xs (λ i w. (w .0, omega (arith, w .1, e)))
-
     pub doable : Doable f s q
     doable =
         subst (Doable f s) (sym plan-is)
@@ -227,12 +226,13 @@ module _ (f : Format) (s : List ℕ) (rule : headRule f s ≡ true) (k : ℕ) (i
               (λ x w. (w .number-in .0, omega (arith, w .number-in .1, H .counts .taken), w .long))
               (kept-all (SpotIn f s H) (l .spots) (L .spots-in));
           link = λ e. omega (arith, first-in (keptLevels (l .spots)) (kept-all (SpotIn f s H) (l .spots) (L .spots-in)), H .counts .taken);
-          pages = wide (g .released) (h .pagesTaken) (h .pageBlocks) (H .counts .filled) (G .released-in);
-          nodes = wide (l .released ++ goneRoots (l .spots)) (h .nodesTaken) (h .nodeBlocks) (H .counts .taken)
+          pages = in-wide (h .pagesTaken) (h .pageBlocks) (g .released) (H .counts .filled) (G .released-in);
+          nodes = in-wide (h .nodesTaken) (h .nodeBlocks) (l .released ++ goneRoots (l .spots)) (H .counts .taken)
               (in-append f s H (h .nodesTaken) (l .released) (goneRoots (l .spots)) (L .released-in)
-              (backwards-in (h .nodesTaken) [] (numbersOf (drop (length (keptLevels (l .spots))) (l .spots))) tt
+              (in-backwards (h .nodesTaken) [] (numbersOf (drop (length (keptLevels (l .spots))) (l .spots))) tt
               (numbers-all (h .nodesTaken) (drop (length (keptLevels (l .spots))) (l .spots))
-              (all-map (SpotIn f s H) (λ x. (1 ≤ x .number) × (x .number ≤ h .nodesTaken)) (drop (length (keptLevels (l .spots))) (l .spots)) (λ x w. w .number-in)
+              (all-map (SpotIn f s H) (λ x. (1 ≤ x .number) × (x .number ≤ h .nodesTaken))
+              (drop (length (keptLevels (l .spots))) (l .spots)) (λ x w. w .number-in)
               (drop-all (SpotIn f s H) (length (keptLevels (l .spots))) (l .spots) (L .spots-in))))));
         })
 
@@ -244,7 +244,11 @@ AfterR = Rattle.remove.specs.Remove.After
 
 module _ (f : Format) (s : List ℕ) (it : Item) (q : Plan) where
   abbrev out : Bool → AfterR
-  out b = elim b [ false ↦ Rattle.remove.specs.Remove.same s 9 | true ↦ record { reply = record { number = 0; item = it }; words = writtenBy f s (headOf s) q } ]
+  out b = elim b [
+    | false ↦ Rattle.remove.specs.Remove.same s 9
+    | true ↦
+        record { reply = record { number = 0; item = it }; words = writtenBy f s (headOf s) q }
+  ]
 
   out-done : (b : Bool) → b ≡ true → out b .words ≡ writtenBy f s (headOf s) q
   out-done true e = refl
@@ -279,20 +283,18 @@ remove-writes f s k =
     go Nothing e a = inl (ap (λ (x : AfterR). x .words) (is a ∙ ap (foundOf f s (headOf s) k) e))
     go (Record it) e a =
         let p : Plan = planOf f s (headOf s) k (descent f s (headOf s) k) in
-        let w : removeOf f s k .words ≡ carriedOut f s (headOf s) it p .words = ap (λ (x : AfterR). x .words) (is a ∙ ap (foundOf f s (headOf s) k) e) in
+        let w : removeOf f s k .words ≡ carriedOut f s (headOf s) it p .words =
+        ap (λ (x : AfterR). x .words) (is a ∙ ap (foundOf f s (headOf s) k) e) in
         elim (bool-cases (p .ok)) [
           | inr n ↦ inl (w ∙ carried-stays f s it p n)
           | inl y ↦
-              inr (record {
-                plan = p;
-                framed = subst (λ (t : List ℕ). Framed f s t (NodeWritten p) (PageWritten p) HeadWritten) (sym (w ∙ carried-done f s it p y))
-                    (plan-framed f s a k it e y);
-              })
+              inr (subst (λ (t : List ℕ). Framed f s t (NodeWritten p) (PageWritten p) HeadWritten) (sym (w ∙ carried-done f s it p y))
+              (plan-framed f s a k it e y))
         ]
 
 pub remove-inside : RemoveInside
-remove-inside f s k low =
+remove-inside f s k =
     elim (remove-writes f s k) [
-      | inl e ↦ within-kept f s (removeOf f s k .words) (subst (Kept f s) (sym e) (kept-self f s))
-      | inr d ↦ within-kept f s (removeOf f s k .words) (d .framed .kept)
+      | inl e ↦ subst (Kept f s) (sym e) (kept-self f s)
+      | inr d ↦ d .kept
     ]

@@ -1,27 +1,25 @@
 -- On a store that holds a list, remove is the list's step.
-use mathlib.Core.Path.{_≡_, refl, sym, ap, ap₂, _∙_, subst}
+use mathlib.Core.Path.{_≡_, refl, sym, ap, _∙_, subst}
 use mathlib.Core.Bool.{Bool, true, false, false≢true}
-use mathlib.Core.List.{List, [], _∷_, _++_, map}
-use mathlib.Core.Logic.{_⊎_, inl, inr}
-use Prim.Native.Nat.{ℕ, zero, suc, _+_, _-_, _/_, _^_, _≤_, _<_}
+use mathlib.Core.List.{List, [], _∷_, _++_}
+use mathlib.Core.Logic.{inl, inr}
+use Prim.Native.Nat.{ℕ, zero, suc, _+_, _^_, _≤_, _<_}
 use native.Mathlib.Decide.{decLe, ℕ-discrete}
 use native.Mathlib.Omega.{arith}
 use lib.Dec.{ltb, eqb}
-use lib.ListN.{length, replicate, drop}
-use borrow.Author.Tests.{eqb-true, eqb-false, eq-eqb}
+use lib.ListN.{length, replicate}
 use Rattle.lists.specs.Bits.{bits}
-use Rattle.lists.specs.Lists.{All, every}
-use Rattle.lists.specs.Keyed.{Sorted, Prefix, Bounded, contains}
+use Rattle.lists.specs.Lists.{All}
+use Rattle.lists.specs.Keyed.{Sorted, Bounded, contains}
 use Rattle.lists.proofs.Cases.{bool-cases}
 use Rattle.lists.proofs.KeyedLaws.{bounded-prefix}
-use Rattle.lists.proofs.Tests.{every-ext}
-use Rattle.tree.specs.Trie.{Trie, leaf, fork, Shape, Key, shape, height, labels, leafAt, depth, relabel}
+use Rattle.tree.specs.Trie.{Trie, leaf, fork, Key, leafAt, depth}
 use Rattle.tree.specs.Build.{build}
 use Rattle.store.specs.declared.Format.{Format}
 use Rattle.store.specs.declared.Head.{Head}
 use Rattle.store.specs.declared.Item.{Item}
 use Rattle.store.specs.Format.{width}
-use Rattle.store.specs.Head.{word, zeros, headOf, nodeAt, nodeWords, pageAt, pageWords, lawfulSizes}
+use Rattle.store.specs.Head.{headOf, nodeAt, nodeWords, pageWords}
 use Rattle.store.proofs.HeadLaws.{sizes-limits}
 use Rattle.page.specs.Page.{lawfulItem}
 use Rattle.page.specs.Schema.{keyOf}
@@ -29,36 +27,38 @@ use Rattle.search.specs.declared.Sought.{Sought}
 use Rattle.search.specs.declared.Sought.the-variants.{Record, Nothing, Damaged}
 use Rattle.search.specs.Find.{soughtReply, findOf}
 use Rattle.search.specs.Descent.{descent}
-use Rattle.represent.specs.Labelled.{Each, ind, occ, occs, OneForOne}
+use Rattle.represent.specs.Labelled.{Each, occ, occs, count}
 use Rattle.represent.specs.Image.{pageImage}
-use Rattle.represent.specs.Rep.{Stretch, numbers, contents, Keyed, PageIs, Lawful, sizeOf}
-use Rattle.represent.proofs.LabelLaws.{each-at, each-map, leafAt-relabel, depth-relabel, ind-self, ind-eq, ind-other}
+use Rattle.represent.specs.Rep.{Stretch, numbers, contents, Keyed, PageIs, Lawful, Directory, Rep, Holds}
+use Rattle.represent.proofs.LabelLaws.{each-at, each-map, depth-relabel, ind-self, ind-eq}
 use Rattle.represent.proofs.Keyed.{lawful-bounded}
+use Rattle.represent.proofs.Passes.{taken}
+use Rattle.represent.proofs.Counting.{released-node, released-page}
+use Rattle.represent.proofs.HeadPasses.{head-passes}
 use Rattle.split.specs.Frame.{nodeOf, pageOf}
-use Rattle.split.specs.Insertion.{SameSizes}
 use Rattle.readings.specs.Listing.{firstWhere, findIn}
-use Rattle.readings.proofs.Records.{records, records-are, find-own}
+use Rattle.readings.proofs.Records.{find-own}
+use Rattle.readings.proofs.Promises.{list-is, find-holds}
 use Rattle.joins.specs.Joins.{without, removed, sub, setAt}
 use Rattle.joins.proofs.ListLaws.{sorted-without, all-without}
 use Rattle.joins.proofs.PageJoins.{build-without}
 use Rattle.joins.proofs.Promises.{absent-stays}
-use Rattle.store.specs.Head.{headRule}
-use Rattle.remove.specs.Holding.{count, Rep, Holds, Sized}
-use Rattle.remove.specs.Remove.{Pages, Spot, keptUpper, keptLevels, backwards, goneRoots, firstUsed, firstSpot, Plan, planOf, writtenBy, carriedOut, foundOf, removeOf}
-use Rattle.remove.specs.Promises.{collapsed, Within, Removed, RemoveSteps}
-use Rattle.remove.proofs.Base.{find-is}
-use Rattle.remove.proofs.Parts.{set-collapsed, set-relabel, occ-sub}
+use Rattle.store.specs.Released.{releasedNodes, releasedPages}
+use Rattle.remove.specs.Remove.{Pages, Spot, keptUpper, keptLevels, backwards, goneRoots, firstUsed, firstSpot, Plan, planOf}
+use Rattle.remove.specs.Remove.{writtenBy, carriedOut, foundOf, removeOf}
+use Rattle.remove.specs.Promises.{Removed, RemoveSteps}
+use Rattle.remove.proofs.Parts.{collapsed, set-collapsed, set-relabel, occ-sub}
 use Rattle.remove.proofs.JoinLaws.{freed}
 use Rattle.remove.specs.Frame.{Kept, Framed}
 use Rattle.remove.proofs.Framed.{kept-self}
 use Rattle.remove.proofs.Built.{Good, built}
-use Rattle.remove.proofs.HeadHolds.{head-holds}
 use Rattle.remove.proofs.LevelsPhase.{Standing}
 use Rattle.remove.proofs.Trims.{count-backwards, upperLevels}
 use Rattle.remove.proofs.Plans.{g, z, page-ended, levels-ended, plan, plan-of}
-use Rattle.remove.proofs.Outcome.{in-of, spots-writable, forward-is, forward-fits, new-directory, free-same, gone-in, gone-apart, chain-apart}
+use Rattle.remove.proofs.Outcome.{in-of, first-spot, spots-writable, forward-fits, new-directory, free-same, gone-apart, chain-apart}
 use Rattle.remove.specs.Frame.{NodeWritten, PageWritten, HeadWritten}
 use Rattle.remove.specs.Doable.{Doable}
+use Rattle.remove.proofs.Releases.{sized-kept, NodeChain, PageChain}
 use Rattle.remove.proofs.Writes.{t₆, written-framed, root-written, levels-written, page-written, node-chain, page-chain}
 
 -- another stretch at the key
@@ -72,7 +72,8 @@ leafAt-set (suc d) (fork l r) (true ∷ k) c h = leafAt-set d r k c (omega arith
 abbrev Apart : ℕ → Trie Stretch → Key → Stretch → Type 0
 Apart d t k x = occ (x .0) (sub d (numbers t) k) < occ (x .0) (numbers t)
 
-each-set : (P Q : Stretch → Type 0) (d : ℕ) (t : Trie Stretch) (k : Key) (c : Stretch) → Each P t → d ≤ depth t k → ((x : Stretch) → Apart d t k x → P x → Q x) → Q c
+each-set : (P Q : Stretch → Type 0) (d : ℕ) (t : Trie Stretch) (k : Key) (c : Stretch) → Each P t → d ≤ depth t k
+    → ((x : Stretch) → Apart d t k x → P x → Q x) → Q c
     → Each Q (setAt d t k (leaf c))
 each-set P Q zero t k c a h g q = q
 each-set P Q (suc d) (leaf x) k c a h g q = q
@@ -89,16 +90,9 @@ each-set P Q (suc d) (fork l r) (true ∷ k) c a h g q = (
   each-set P Q d r k c (a .1) (omega arith) (λ x o. g x (omega (arith, o))) q,
 )
 
-zeros-same : (s t : List ℕ) (a n : ℕ) → ((i : ℕ) → a ≤ i → i < a + n → word t i ≡ word s i) → zeros t a n ≡ zeros s a n
-unfolding zeros
-zeros-same s t a n g = every-ext n (λ j. eqb (word t (a + j)) 0) (λ j. eqb (word s (a + j)) 0) (λ j l. ap (λ (x : ℕ). eqb x 0) (g (a + j) (omega arith) (omega arith)))
-
-first-spot : (x : Spot) (xs : List Spot) → firstSpot (x ∷ xs) ≡ x
-unfolding firstSpot
-first-spot x xs = refl
-
-module _ (f : Format) (s : List ℕ) (S : List Item) (b0 : Trie Stretch) (b : Trie ℕ) (cs : List (Trie ℕ)) {ns ps : List ℕ} (r : Rep f s b0 (b ∷ cs) ns ps)
-    (tree : contents b0 ≡ build keyOf (headOf s .capacity) (width f) S) (sorted : Sorted keyOf S) (lawful : All (λ it. lawfulItem f it ≡ true) S)
+module _ (f : Format) (s : List ℕ) (S : List Item) (b0 : Trie Stretch) (b : Trie ℕ) (cs : List (Trie ℕ)) (r : Rep f s b0 (b ∷ cs))
+    (tree : contents b0 ≡ build keyOf (headOf s .capacity) (width f) S) (sorted : Sorted keyOf S)
+    (lawful : All (λ it. lawfulItem f it ≡ true) S)
     (k : ℕ) (low : k < 2 ^ width f) (page : 1 ≤ leafAt b0 (bits (width f) k) .0) where
   abbrev h : Head
   h = headOf s
@@ -111,6 +105,12 @@ module _ (f : Format) (s : List ℕ) (S : List Item) (b0 : Trie Stretch) (b : Tr
 
   abbrev all : List (Trie ℕ)
   all = b ∷ cs
+
+  abbrev ns : List ℕ
+  ns = releasedNodes s
+
+  abbrev ps : List ℕ
+  ps = releasedPages f s
 
   abbrev p : Plan
   p = plan f s b0 all r k low page
@@ -154,7 +154,8 @@ module _ (f : Format) (s : List ℕ) (S : List Item) (b0 : Trie Stretch) (b : Tr
   pub tree′ : contents b0′ ≡ build keyOf C (width f) S′
   tree′ =
       set-relabel (λ (x : Stretch). x .1) (G .used) b0 key (leaf c) ∙ sym (E .is)
-      ∙ ap (λ (t : Trie (List Item)). removed keyOf C k t key) tree ∙ sym (build-without keyOf C (width f) 0 k S sorted (bounded-prefix keyOf (width f) S bounded))
+      ∙ ap (λ (t : Trie (List Item)). removed keyOf C k t key) tree
+      ∙ sym (build-without keyOf C (width f) 0 k S sorted (bounded-prefix keyOf (width f) S bounded))
 
   sorted′ : Sorted keyOf S′
   sorted′ = sorted-without keyOf k S sorted
@@ -229,7 +230,8 @@ module _ (f : Format) (s : List ℕ) (S : List Item) (b0 : Trie Stretch) (b : Tr
 
     linked-is : p .linked ≡ ltb (x .used) (depth b key)
     unfolding firstUsed
-    linked-is = ap (λ (ys : List Spot). ltb (firstSpot ys .used) (depth b key)) spots ∙ ap (λ (y : Spot). ltb (y .used) (depth b key)) (first-spot x xs)
+    linked-is = ap (λ (ys : List Spot). ltb (firstSpot ys .used) (depth b key)) spots
+        ∙ ap (λ (y : Spot). ltb (y .used) (depth b key)) (first-spot x xs)
 
     abbrev gone : List ℕ
     gone = freed-nodes ++ goneRoots (x ∷ xs)
@@ -260,10 +262,8 @@ module _ (f : Format) (s : List ℕ) (S : List Item) (b0 : Trie Stretch) (b : Tr
               (in-of (h .nodeBlocks) gone
               (λ n o.
               let t = Rattle.remove.proofs.Outcome.total f s b0 b cs r k low (G .used) (G .page) x xs freed-nodes st parts n in
-              let i : 1 ≤ occs n all + count n ns = omega (arith, t, o) in (
-                Rattle.remove.proofs.Base.rep-low f s b0 all r n i,
-                omega (arith, Rattle.remove.proofs.Base.rep-high f s b0 all r n i, r .nodes-fit),
-              )));
+              let i = taken f s b0 all r n (omega (arith, t, o)) in
+              (i .0, omega (arith, i .1, r .nodes-fit))));
         }
 
     abbrev t : List ℕ
@@ -285,14 +285,19 @@ module _ (f : Format) (s : List ℕ) (S : List Item) (b0 : Trie Stretch) (b : Tr
 
     lawful-of : (x : Stretch) → Good f C x → PageIs f t (headOf t) x → Lawful f t (headOf t) x
     lawful-of x w q =
-        record { page = q; fits = omega (arith, w .fits, K .sizes .capacity); lawful = w .lawful; sorted = w .sorted }
+        record { page = q; fits = omega (arith, w .fits, K .within .sizes-same .capacity); lawful = w .lawful; sorted = w .sorted }
 
     old-lawful : (x : Stretch) → Apart (G .used) b0 key x → Lawful f s h x → Lawful f t (headOf t) x
-    old-lawful (n, []) o l = record { page = l .page; fits = omega (arith, l .fits, K .sizes .capacity); lawful = l .lawful; sorted = l .sorted }
+    old-lawful (n, []) o l =
+        record { page = l .page; fits = omega (arith, l .fits, K .within .sizes-same .capacity); lawful = l .lawful; sorted = l .sorted }
     old-lawful (n, it ∷ its) o l =
         record {
-          page = (l .page .0, page-same n (l .page .0) o ∙ l .page .1 ∙ ap (λ i. pageImage f i (it ∷ its)) (sym (K .sizes .capacity)));
-          fits = omega (arith, l .fits, K .sizes .capacity);
+          page = (
+            l .page .0,
+            page-same n (l .page .0) o ∙ l .page .1
+                ∙ ap (λ i. pageImage f i (it ∷ its)) (sym (K .within .sizes-same .capacity)),
+          );
+          fits = omega (arith, l .fits, K .within .sizes-same .capacity);
           lawful = l .lawful;
           sorted = l .sorted;
         }
@@ -302,18 +307,44 @@ module _ (f : Format) (s : List ℕ) (S : List Item) (b0 : Trie Stretch) (b : Tr
     own-page (it ∷ its) e =
         let a : 1 ≤ G .page = E .some (omega (arith, ap length e)) in (
           a,
-          page-written f s p D a (own-apart a .0) ∙ ap (pageImage f C) (sym e) ∙ ap (λ i. pageImage f i (it ∷ its)) (sym (K .sizes .capacity)),
+          page-written f s p D a (own-apart a .0) ∙ ap (pageImage f C) (sym e)
+              ∙ ap (λ i. pageImage f i (it ∷ its)) (sym (K .within .sizes-same .capacity)),
         )
 
     new-each : Each (Lawful f t (headOf t)) b0′
     new-each =
-        each-set (Lawful f s h) (Lawful f t (headOf t)) (G .used) b0 key c (r .pages .each) deep old-lawful (lawful-of c own-good (own-page (G .items) refl))
+        each-set (Lawful f s h) (Lawful f t (headOf t)) (G .used) b0 key c (r .pages .each) deep old-lawful
+        (lawful-of c own-good (own-page (G .items) refl))
 
-    page-sum : (n : ℕ) → 1 ≤ n → occ n (numbers b0′) + count n (backwards ps (G .released)) ≡ occ n u + count n ps
+    pages-chain : PageChain f t (backwards ps (p .pages))
+    unfolding releasedPages
+    pages-chain =
+        page-chain f s p D (r .sized) ps
+        (in-of (h .pageBlocks) ps (λ n o. let i = released-page f s b0 all r n o in (i .0, omega (arith, i .1, r .pages-fit))))
+        (λ n.
+        elim (decLe 1 n) [
+          | yes a ↦ omega (arith, page-total n a, page-once n a)
+          | no a ↦
+              let e : n ≡ 0 = omega arith in
+              omega (arith, E .sound, r .pages .spare-positive, ap (λ (i : ℕ). count i (G .released)) e, ap (λ (i : ℕ). count i ps) e)
+        ])
+        (elim (decLe 1 (G .page)) [
+          | yes a ↦ own-apart a .1
+          | no a ↦
+              let e : G .page ≡ 0 = omega arith in
+              ap (λ (i : ℕ). count i ps) e ∙ r .pages .spare-positive
+        ])
+        (refl, r .released-pages)
+
+    pages-now : releasedPages f t ≡ backwards ps (G .released)
+    unfolding releasedPages
+    pages-now = pages-chain .0
+
+    page-sum : (n : ℕ) → 1 ≤ n → occ n (numbers b0′) + count n (releasedPages f t) ≡ occ n u + count n ps
     page-sum n a =
-        omega (arith, ap (occ n) numbers-is, page-total n a, count-backwards n ps (G .released))
+        omega (arith, ap (occ n) numbers-is, page-total n a, ap (count n) pages-now, count-backwards n ps (G .released))
 
-    new-pages : Rattle.remove.specs.Holding.Pages f t (headOf t) b0′ (backwards ps (G .released))
+    new-pages : Rattle.represent.specs.Rep.Pages f t (headOf t) b0′
     new-pages =
         record {
           each = new-each;
@@ -322,7 +353,7 @@ module _ (f : Format) (s : List ℕ) (S : List Item) (b0 : Trie Stretch) (b : Tr
             once = λ n a e. page-sum n a ∙ r .pages .oneForOne .once n a (omega (arith, e, K .filled));
             none = λ n a. page-sum n (omega arith) ∙ r .pages .oneForOne .none n (omega (arith, a, K .filled));
           };
-          positive = count-backwards 0 ps (G .released) ∙ omega (arith, r .pages .positive, E .sound);
+          spare-positive = ap (count 0) pages-now ∙ count-backwards 0 ps (G .released) ∙ omega (arith, r .pages .spare-positive, E .sound);
         }
 
     free-page : (n : ℕ) → h .pagesTaken < n → n ≤ h .pageBlocks → pageOf f t n ≡ pageOf f s n
@@ -337,25 +368,11 @@ module _ (f : Format) (s : List ℕ) (S : List Item) (b0 : Trie Stretch) (b : Tr
     abbrev bs′ : List (Trie ℕ)
     bs′ = collapsed (x .used) (x .number) b key ∷ upperLevels f s b0 all r k low cs xs
 
-    directory : Rattle.remove.specs.Holding.Directory (headOf t .theta) (nodeAt t (headOf t)) (headOf t .root) (headOf t .levels) (headOf t .nodesTaken)
-        (numbers b0′) bs′ (backwards ns (p .nodes))
-    directory =
-        at (K .sizes .theta) (root-written f s p D) (levels-written f s p D) (K .taken) numbers-is nodes-are
-        (new-directory f s b0 b cs r k low (G .used) (G .page) x xs freed-nodes st parts p spots-are nodes-are linked-is D)
-      where
-        at : {θ θ′ root root′ levels levels′ taken taken′ : ℕ} {v v′ : Trie ℕ} {ms ms′ : List ℕ} → θ′ ≡ θ → root′ ≡ root → levels′ ≡ levels → taken′ ≡ taken
-            → v′ ≡ v → ms′ ≡ ms → Rattle.remove.specs.Holding.Directory θ (nodeOf t) root levels taken v bs′ (backwards ns ms)
-            → Rattle.remove.specs.Holding.Directory θ′ (nodeOf t) root′ levels′ taken′ v′ bs′ (backwards ns ms′)
-        at e₁ e₂ e₃ e₄ e₅ e₆ d = rw (e₁, e₂, e₃, e₄, e₅, e₆) d
-
-    nodes-chain : Rattle.remove.proofs.Releases.NodeChain t (backwards ns (p .nodes))
+    nodes-chain : NodeChain t (backwards ns (p .nodes))
+    unfolding releasedNodes
     nodes-chain =
-        node-chain f s p D ns
-        (in-of (h .nodeBlocks) ns
-        (λ n o. (
-          Rattle.remove.proofs.Base.rep-low f s b0 all r n (omega (arith, o)),
-          omega (arith, Rattle.remove.proofs.Base.rep-high f s b0 all r n (omega (arith, o)), r .nodes-fit),
-        )))
+        node-chain f s p D (r .sized) ns
+        (in-of (h .nodeBlocks) ns (λ n o. let i = released-node f s b0 all r n o in (i .0, omega (arith, i .1, r .nodes-fit))))
         (λ n.
         omega (
           arith,
@@ -363,50 +380,43 @@ module _ (f : Format) (s : List ℕ) (S : List Item) (b0 : Trie Stretch) (b : Tr
           gone-apart f s b0 b cs r k low (G .used) (G .page) x xs freed-nodes st parts p spots-are nodes-are linked-is D n,
         ))
         (chain-apart f s b0 b cs r k low (G .used) (G .page) x xs freed-nodes st parts p spots-are nodes-are linked-is D)
-        (r .released-nodes)
+        (refl, r .released-nodes)
 
-    pages-chain : Rattle.remove.proofs.Releases.PageChain f t (backwards ps (p .pages))
-    pages-chain =
-        page-chain f s p D ps
-        (in-of (h .pageBlocks) ps (λ n o. let i = Rattle.remove.proofs.HeadHolds.in-pages f s b0 all r n o in (i .0, omega (arith, i .1, r .pages-fit))))
-        (λ n.
-        elim (decLe 1 n) [
-          | yes a ↦ omega (arith, page-total n a, page-once n a)
-          | no a ↦
-              let e : n ≡ 0 = omega arith in
-              omega (arith, E .sound, r .pages .positive, ap (λ (i : ℕ). count i (G .released)) e, ap (λ (i : ℕ). count i ps) e)
-        ])
-        (elim (decLe 1 (G .page)) [
-          | yes a ↦ own-apart a .1
-          | no a ↦
-              let e : G .page ≡ 0 = omega arith in
-              ap (λ (i : ℕ). count i ps) e ∙ r .pages .positive
-        ])
-        (r .released-pages)
+    nodes-now : releasedNodes t ≡ backwards ns gone
+    unfolding releasedNodes
+    nodes-now = nodes-chain .0 ∙ ap (backwards ns) nodes-are
 
-    pub new-rep : Rep f t b0′ bs′ (backwards ns (p .nodes)) (backwards ps (p .pages))
+    directory : Directory (headOf t .theta) (nodeAt t (headOf t)) (headOf t .root) (headOf t .levels) (headOf t .nodesTaken)
+        (λ n. count n (releasedNodes t)) (numbers b0′) bs′
+    directory =
+        at (K .within .sizes-same .theta) (root-written f s p D) (levels-written f s p D) (K .taken) numbers-is nodes-now
+        (new-directory f s b0 b cs r k low (G .used) (G .page) x xs freed-nodes st parts p spots-are nodes-are linked-is D)
+      where
+        at : {θ θ′ root root′ levels levels′ taken taken′ : ℕ} {v v′ : Trie ℕ} {ms ms′ : List ℕ} → θ′ ≡ θ → root′ ≡ root → levels′ ≡ levels
+            → taken′ ≡ taken → v′ ≡ v → ms′ ≡ ms → Directory θ (nodeOf t) root levels taken (λ n. count n ms) v bs′
+            → Directory θ′ (nodeOf t) root′ levels′ taken′ (λ n. count n ms′) v′ bs′
+        at e₁ e₂ e₃ e₄ e₅ e₆ d = rw (e₁, e₂, e₃, e₄, e₅, e₆) d
+
+    pub new-rep : Rep f t b0′ bs′
     new-rep =
         record {
-          sized = record {
-            sizes = rw (K .sizes .theta, K .sizes .capacity, K .sizes .nodes, K .sizes .pages) (r .sized .sizes);
-            spare = zeros-same s t 12 4 (λ i a e. K .spare i a (omega (arith, e))) ∙ r .sized .spare;
-            long = Rattle.remove.proofs.Releases.room-kept f s t K (r .sized .long);
-          };
-          nodes-fit = omega (arith, K .taken, K .sizes .nodes, r .nodes-fit);
-          pages-fit = omega (arith, K .filled, K .sizes .pages, r .pages-fit);
+          sized = sized-kept f s t K (r .sized);
+          nodes-fit = omega (arith, K .taken, K .within .sizes-same .nodes, r .nodes-fit);
+          pages-fit = omega (arith, K .filled, K .within .sizes-same .pages, r .pages-fit);
           directory = directory;
           pages = new-pages;
           free-nodes = λ n a e.
-              free-same f s b0 b cs r k low (G .used) (G .page) x xs freed-nodes st parts p spots-are nodes-are linked-is D n (omega (arith, a, K .taken))
-              (omega (arith, e, K .sizes .nodes))
-              ∙ r .free-nodes n (omega (arith, a, K .taken)) (omega (arith, e, K .sizes .nodes))
-              ∙ ap (λ i. replicate (nodeWords i) 0) (sym (K .sizes .theta));
+              free-same f s b0 b cs r k low (G .used) (G .page) x xs freed-nodes st parts p spots-are nodes-are linked-is D n
+              (omega (arith, a, K .taken))
+              (omega (arith, e, K .within .sizes-same .nodes))
+              ∙ r .free-nodes n (omega (arith, a, K .taken)) (omega (arith, e, K .within .sizes-same .nodes))
+              ∙ ap (λ i. replicate (nodeWords i) 0) (sym (K .within .sizes-same .theta));
           free-pages = λ n a e.
-              free-page n (omega (arith, a, K .filled)) (omega (arith, e, K .sizes .pages))
-              ∙ r .free-pages n (omega (arith, a, K .filled)) (omega (arith, e, K .sizes .pages))
-              ∙ ap (λ i. replicate (pageWords f i) 0) (sym (K .sizes .capacity));
-          released-nodes = nodes-chain;
-          released-pages = pages-chain;
+              free-page n (omega (arith, a, K .filled)) (omega (arith, e, K .within .sizes-same .pages))
+              ∙ r .free-pages n (omega (arith, a, K .filled)) (omega (arith, e, K .within .sizes-same .pages))
+              ∙ ap (λ i. replicate (pageWords f i) 0) (sym (K .within .sizes-same .capacity));
+          released-nodes = nodes-chain .1;
+          released-pages = pages-chain .1;
         }
 
     pub new-holds : Holds f t S′
@@ -414,10 +424,8 @@ module _ (f : Format) (s : List ℕ) (S : List Item) (b0 : Trie Stretch) (b : Tr
         record {
           b0 = b0′;
           bs = bs′;
-          ns = backwards ns (p .nodes);
-          ps = backwards ps (p .pages);
           rep = new-rep;
-          tree = tree′ ∙ ap (λ i. build keyOf i (width f) S′) (sym (K .sizes .capacity));
+          tree = tree′ ∙ ap (λ i. build keyOf i (width f) S′) (sym (K .within .sizes-same .capacity));
           sorted = sorted′;
           lawful = lawful′;
         }
@@ -445,52 +453,31 @@ none-there k (x ∷ xs) e =
       | inr a ↦ rw a (none-there k xs (rw (a, firstWhere) at e))
     ]
 
-never-damaged : (test : Item → Bool) (xs : List Item) → firstWhere test xs ≡ Damaged → ⊥
-unfolding firstWhere
-never-damaged test [] e = damaged-not e
-  where
-    damaged : Sought → Bool
-    damaged Damaged = true
-    damaged Nothing = false
-    damaged (Record it) = false
+is-damaged : Sought → Bool
+is-damaged Damaged = true
+is-damaged Nothing = false
+is-damaged (Record it) = false
 
-    damaged-not : Nothing ≡ Damaged → ⊥
-    damaged-not e = false≢true (ap damaged e)
+never-damaged : (test : Item → Bool) (xs : List Item) → firstWhere test xs ≡ Damaged → ⊥
+unfolding firstWhere is-damaged
+never-damaged test [] e = false≢true (ap is-damaged e)
 never-damaged test (x ∷ xs) e =
     elim (bool-cases (test x)) [
-      | inl a ↦ record-not (rw (a, firstWhere) at e)
+      | inl a ↦ false≢true (ap is-damaged (rw (a, firstWhere) at e))
       | inr a ↦ never-damaged test xs (rw (a, firstWhere) at e)
     ]
-  where
-    damaged : Sought → Bool
-    damaged Damaged = true
-    damaged Nothing = false
-    damaged (Record it) = false
-
-    record-not : Record x ≡ Damaged → ⊥
-    record-not e = false≢true (ap damaged e)
-
-pub within-kept : (f : Format) (s t : List ℕ) → Kept f s t → Within f s t
-within-kept f s t K =
-    record {
-      long = K .long;
-      sizes-same = K .sizes;
-      taken-same = K .taken;
-      filled-same = K .filled;
-      spare = zeros-same s t 12 4 (λ i a e. K .spare i a (omega (arith, e)));
-      beyond = K .beyond;
-    }
 
 record Step (f : Format) (s : List ℕ) (S : List Item) (k : ℕ) (q : Plan) : Type 0 where
   fine : q .ok ≡ true
   holds : Holds f (writtenBy f s (headOf s) q) (without keyOf k S)
   kept : Kept f s (writtenBy f s (headOf s) q)
 
-held-step : (f : Format) (s : List ℕ) (S : List Item) (b0 : Trie Stretch) (bs : List (Trie ℕ)) {ns ps : List ℕ} (r : Rep f s b0 bs ns ps)
-    → contents b0 ≡ build keyOf (headOf s .capacity) (width f) S → Sorted keyOf S → All (λ it. lawfulItem f it ≡ true) S → (k : ℕ) → k < 2 ^ width f
+held-step : (f : Format) (s : List ℕ) (S : List Item) (b0 : Trie Stretch) (bs : List (Trie ℕ)) (r : Rep f s b0 bs)
+    → contents b0 ≡ build keyOf (headOf s .capacity) (width f) S → Sorted keyOf S → All (λ it. lawfulItem f it ≡ true) S → (k : ℕ)
+    → k < 2 ^ width f
     → 1 ≤ leafAt b0 (bits (width f) k) .0 → Step f s S k (planOf f s (headOf s) k (descent f s (headOf s) k))
 held-step f s S b0 [] r tree sorted lawful k low page = absurd (r .directory .links)
-held-step f s S b0 (b ∷ cs) {ns} {ps} r tree sorted lawful k low page =
+held-step f s S b0 (b ∷ cs) r tree sorted lawful k low page =
     subst (Step f s S k) (sym (plan-of f s b0 (b ∷ cs) r k low page)) (go (z f s b0 (b ∷ cs) r k low page .spots) refl)
   where
     go : (ys : List Spot) → z f s b0 (b ∷ cs) r k low page .spots ≡ ys → Step f s S k (plan f s b0 (b ∷ cs) r k low page)
@@ -510,24 +497,25 @@ module _ (f : Format) (s : List ℕ) (S : List Item) (H : Holds f s S) (k : ℕ)
   abbrev hd : Head
   hd = headOf s
 
-  find-holds : findOf f s hd k ≡ firstWhere (λ it. eqb (it .key) k) S
-  find-holds =
-      find-is f s (H .b0) (H .bs) (H .rep) k low
-      ∙ ap (firstWhere (λ it. eqb (it .key) k)) (records-are (hd .capacity) (width f) (H .b0) S (H .tree) (H .sorted) (lawful-bounded f S (H .lawful)))
+  found-is : findOf f s hd k ≡ firstWhere (λ it. eqb (it .key) k) S
+  found-is = find-holds f s S H k low
 
   found-page : (it : Item) → findOf f s hd k ≡ Record it → 1 ≤ leafAt (H .b0) (bits (width f) k) .0
   found-page it e =
       let own : Stretch = leafAt (H .b0) (bits (width f) k) in
       let some : 1 ≤ length (own .1) =
       some-there (λ it. eqb (it .key) k) (own .1) it
-      (sym (sym e ∙ find-is f s (H .b0) (H .bs) (H .rep) k low ∙ find-own (width f) k (H .b0) (H .rep .pages .keyed) low)) in
-      Rattle.remove.proofs.PagePhase.page-some f s hd own (each-at (Lawful f s hd) (H .b0) (bits (width f) k) (H .rep .pages .each)) some
+      (sym (sym e ∙ found-is ∙ ap (firstWhere (λ it. eqb (it .key) k)) (sym (list-is f s S H))
+      ∙ find-own (width f) k (H .b0) (H .rep .pages .keyed) low)) in
+      Rattle.remove.proofs.PagePhase.page-some f s hd own
+      (each-at (Lawful f s hd) (H .b0) (bits (width f) k) (H .rep .pages .each)) some
 
   removal-is : removeOf f s k ≡ foundOf f s hd k (findOf f s hd k)
   unfolding removeOf
-  removal-is = rw (head-holds f s S H, removeOf)
+  removal-is = rw (head-passes f s S H, removeOf)
 
-  done-is : (it : Item) (q : Plan) → q .ok ≡ true → carriedOut f s hd it q ≡ record { reply = record { number = 0; item = it }; words = writtenBy f s hd q }
+  done-is : (it : Item) (q : Plan) → q .ok ≡ true
+      → carriedOut f s hd it q ≡ record { reply = record { number = 0; item = it }; words = writtenBy f s hd q }
   unfolding carriedOut
   done-is it q e = arm (q .ok) e
     where
@@ -543,14 +531,14 @@ module _ (f : Format) (s : List ℕ) (S : List Item) (H : Holds f s S) (k : ℕ)
 
   step : (a : Sought) → findOf f s hd k ≡ a → Removed f s S k
   unfolding foundOf findIn
-  step Damaged e = absurd (never-damaged (λ it. eqb (it .key) k) S (sym find-holds ∙ e))
+  step Damaged e = absurd (never-damaged (λ it. eqb (it .key) k) S (sym found-is ∙ e))
   step Nothing e =
       let is : removeOf f s k ≡ Rattle.remove.specs.Remove.same s 1 = removal-is ∙ ap (foundOf f s hd k) e in
-      let absent : without keyOf k S ≡ S = absent-stays keyOf k S (none-there k S (sym find-holds ∙ e)) in
+      let absent : without keyOf k S ≡ S = absent-stays keyOf k S (none-there k S (sym found-is ∙ e)) in
       record {
-        reply = ap (λ a. a .reply) is ∙ ap soughtReply (sym e ∙ find-holds);
+        reply = ap (λ a. a .reply) is ∙ ap soughtReply (sym e ∙ found-is);
         holds = subst (λ (t : List ℕ). Holds f t (without keyOf k S)) (sym (ap (λ a. a .words) is)) (subst (Holds f s) (sym absent) H);
-        within = subst (Within f s) (sym (ap (λ a. a .words) is)) (within-kept f s s (kept-self f s));
+        kept = subst (Kept f s) (sym (ap (λ a. a .words) is)) (kept-self f s);
       }
   step (Record it) e =
       let q : Plan = planOf f s hd k (descent f s hd k) in
@@ -558,9 +546,9 @@ module _ (f : Format) (s : List ℕ) (S : List Item) (H : Holds f s S) (k : ℕ)
       let is : removeOf f s k ≡ record { reply = record { number = 0; item = it }; words = writtenBy f s hd q } =
       removal-is ∙ ap (foundOf f s hd k) e ∙ done-is it q (z .fine) in
       record {
-        reply = ap (λ a. a .reply) is ∙ ap soughtReply (sym e ∙ find-holds);
+        reply = ap (λ a. a .reply) is ∙ ap soughtReply (sym e ∙ found-is);
         holds = subst (λ (t : List ℕ). Holds f t (without keyOf k S)) (sym (ap (λ a. a .words) is)) (z .holds);
-        within = subst (Within f s) (sym (ap (λ a. a .words) is)) (within-kept f s (writtenBy f s hd q) (z .kept));
+        kept = subst (Kept f s) (sym (ap (λ a. a .words) is)) (z .kept);
       }
 
 pub remove-steps : (f : Format) (s : List ℕ) (S : List Item) → RemoveSteps f s S

@@ -1,9 +1,9 @@
--- The sibling's key: the bits above the last one of the prefix stay, that one is the other way. So what a trie has at the sibling's key is what the
--- sibling subtrie has at the bits after; a sibling that is one leaf is at the prefix's own length, and any other is deeper.
+-- The sibling's key: the bits above the last one of the prefix stay, that one is the other way. So what a trie has at the sibling's key is
+-- what the sibling subtrie has at the bits after; a sibling that is one leaf is at the prefix's own length, and any other is deeper.
 --   other e k     == the sibling of the key k at bit e, zeros after
-use mathlib.Core.Path.{_≡_, refl, sym, ap, ap₂, _∙_, subst}
-use mathlib.Core.Bool.{Bool, true, false, not}
-use mathlib.Core.List.{List, [], _∷_}
+use mathlib.Core.Path.{_≡_, refl, sym, ap, _∙_, subst}
+use mathlib.Core.Bool.{true, false, not}
+use mathlib.Core.List.{[], _∷_}
 use mathlib.Core.Logic.{_⊎_, inl, inr}
 use Prim.Native.Nat.{ℕ, zero, suc, _+_, _-_, _*_, _/_, _%_, _^_, _≤_, _<_}
 use native.Mathlib.Nat.{div-div-eq-div-mul, div-eq-of-lt}
@@ -27,7 +27,8 @@ unfolding siblingKey onLeft other
 sibling-other W k m = refl
 
 -- the number above bit e
-pub other-shift : (e k : ℕ) → ((other e k / 2 ^ e ≡ k / 2 ^ e - 1) × (k / 2 ^ e % 2 ≡ 1)) ⊎ ((other e k / 2 ^ e ≡ k / 2 ^ e + 1) × (k / 2 ^ e % 2 ≡ 0))
+pub other-shift : (e k : ℕ)
+    → ((other e k / 2 ^ e ≡ k / 2 ^ e - 1) × (k / 2 ^ e % 2 ≡ 1)) ⊎ ((other e k / 2 ^ e ≡ k / 2 ^ e + 1) × (k / 2 ^ e % 2 ≡ 0))
 unfolding other
 other-shift e k =
     elim (bool-cases (eqb (k / 2 ^ e % 2) 1)) [

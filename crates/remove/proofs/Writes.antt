@@ -1,40 +1,40 @@
 -- The writes of a removal, on any words: what they leave as it was, and what stands where they wrote.
-use mathlib.Core.Path.{_≡_, refl, sym, ap, ap₂, _∙_, subst}
+use mathlib.Core.Path.{_≡_, refl, sym, ap, _∙_, subst}
 use mathlib.Core.Bool.{Bool, true, false}
-use mathlib.Core.List.{List, [], _∷_, _++_, map}
+use mathlib.Core.List.{List, [], _∷_, _++_}
 use mathlib.Core.Logic.{_⊎_, inl, inr}
-use Prim.Native.Nat.{ℕ, zero, suc, _+_, _-_, _*_, _^_, _≤_, _<_}
+use Prim.Native.Nat.{ℕ, _+_, _≤_}
 use native.Mathlib.Omega.{arith}
-use native.Mathlib.Decide.{ℕ-discrete, decLe}
-use lib.Dec.{eqb}
-use lib.ListN.{length, set, take, drop, length-set, take-append-drop}
+use native.Mathlib.Decide.{ℕ-discrete}
+use lib.ListN.{length, set, take, length-set, take-append-drop}
 use borrow.Author.Tests.{eq-eqb, ne-eqb}
 use Rattle.lists.specs.Lists.{All, part, replaced}
 use Rattle.lists.proofs.ListLaws.{all-map}
 use Rattle.lists.proofs.Parts.{length-part, part-next}
 use Rattle.store.specs.declared.Format.{Format}
-use Rattle.store.specs.declared.Head.{Head}
 use Rattle.store.specs.declared.Item.{Item}
-use Rattle.store.specs.Head.{word, headOf, nodeWords, pageWords, nodeStart, nodeAt}
+use Rattle.store.specs.Head.{word, headOf, nodeWords, nodeStart, nodeAt}
 use Rattle.store.proofs.Places.{node-end, nodes-end}
-use Rattle.node.specs.Node.{backWord, forwardWord}
-use Rattle.represent.specs.Labelled.{ind}
+use Rattle.node.specs.Node.{forwardWord}
+use Rattle.represent.specs.Labelled.{count}
 use Rattle.represent.specs.Image.{pageImage}
-use Rattle.represent.specs.Rep.{sizeOf}
-use Rattle.represent.proofs.LabelLaws.{ind-self, ind-eq, ind-other}
+use Rattle.represent.specs.Rep.{sizeOf, Sized}
+use Rattle.represent.proofs.LabelLaws.{ind-self, ind-eq}
 use Rattle.split.specs.Block.{linked}
-use Rattle.split.specs.Frame.{nodeOf, pageOf, putNode, putPage}
+use Rattle.split.specs.Frame.{nodeOf, pageOf, putNode, putPage, putHead}
+use Rattle.split.proofs.Frame.{next-node, next-page}
 use Rattle.split.proofs.Lengths.{length-pageImage}
 use Rattle.store.specs.Head.{releasedOf}
 use Rattle.store.specs.Released.{releasedNode, releasedPage, nodeNext, pageNext}
-use Rattle.remove.specs.Reuse.{putRoot, relink}
 use Rattle.remove.specs.Doable.{In, Writable, Doable}
-use Rattle.remove.specs.Holding.{count, Chained}
-use Rattle.remove.specs.Remove.{Spot, Plan, putSpots, putOwn, relinked, releaseNodes, releasePages, backwards, firstSpot, topOf, writtenBy}
-use Rattle.remove.proofs.ChainLaws.{chain-same, each-same}
+use Rattle.remove.specs.Remove.{Spot, Plan, putSpots, putOwn, backLinked, relinked, releaseNodes, releasePages, backwards, firstSpot}
+use Rattle.remove.specs.Remove.{topOf, writtenBy}
+use Rattle.remove.proofs.ChainLaws.{ChainIs, chain-beside}
 use Rattle.remove.specs.Frame.{Kept, Framed}
-use Rattle.remove.proofs.Framed.{kept-then, size-same, framed-self, framed-wide, framed-then, node-here, node-framed, page-here, page-framed, head-here, head-framed}
-use Rattle.remove.proofs.Releases.{room-kept, next-in, page-next-in, NodeWordsOf, PageWordsOf, NodeChain, PageChain, nodes-framed, pages-framed, nodes-released, pages-released, page-two}
+use Rattle.remove.proofs.Framed.{kept-then, framed-self, framed-wide, framed-then, node-here, node-framed, page-here, page-framed}
+use Rattle.remove.proofs.Framed.{head-here, head-framed}
+use Rattle.remove.proofs.Releases.{room-kept, sized-kept, NodeWordsOf, PageWordsOf, NodeChain, PageChain, in-at, in-wide}
+use Rattle.remove.proofs.Releases.{nodes-framed, pages-framed, nodes-released, pages-released}
 use Rattle.remove.specs.Frame.{numbersOf, behind, NodeWritten, PageWritten, HeadWritten}
 
 -- the page
@@ -57,7 +57,8 @@ module _ (f : Format) (s : List ℕ) (room : sizeOf f s ≤ length s) (p : ℕ) 
             (elim fits [
               | inl z ↦ absurd (e z)
               | inr z ↦
-                  page-framed f s room p (pageImage f (headOf s .capacity) rs) (z .0) (z .1) (length-pageImage f (headOf s .capacity) rs (z .2))
+                  page-framed f s room p (pageImage f (headOf s .capacity) rs) (z .0) (z .1)
+                  (length-pageImage f (headOf s .capacity) rs (z .2))
             ])
       ]
 
@@ -75,7 +76,7 @@ pub writable-kept : (f : Format) (s t : List ℕ) → Kept f s t → (xs : List 
 writable-kept f s t k xs =
     all-map (λ x. (1 ≤ x .number) × (x .number ≤ headOf s .nodeBlocks) × (length (x .block) ≡ nodeWords (headOf s .theta)))
     (λ x. (1 ≤ x .number) × (x .number ≤ headOf t .nodeBlocks) × (length (x .block) ≡ nodeWords (headOf t .theta))) xs
-    (λ x q. (q .0, omega (arith, q .1, k .sizes .nodes), q .2 ∙ ap nodeWords (sym (k .sizes .theta))))
+    (λ x q. (q .0, omega (arith, q .1, k .within .sizes-same .nodes), q .2 ∙ ap nodeWords (sym (k .within .sizes-same .theta))))
 
 pub spots-framed : (f : Format) (s : List ℕ) (xs : List Spot) → sizeOf f s ≤ length s → Writable s xs
     → Framed f s (putSpots s xs) (λ n. 1 ≤ count n (numbersOf xs)) (λ p. ⊥) (λ i. ⊥)
@@ -97,12 +98,21 @@ spots-here f s (x ∷ xs) room a d =
     let room′ = room-kept f s t (w .kept) room in
     let a′ = writable-kept f s t (w .kept) xs (a .1) in
     let z : count (x .number) (numbersOf xs) ≡ 0 = omega (arith, d (x .number), ind-self (x .number)) in (
-      spots-framed f t xs room′ a′ .node (x .number) (a .0 .0) (omega (arith, a .0 .1, w .kept .sizes .nodes)) (λ q. omega (arith, q, z))
+      spots-framed f t xs room′ a′ .node (x .number) (a .0 .0) (omega (arith, a .0 .1, w .kept .within .sizes-same .nodes))
+          (λ q. omega (arith, q, z))
           ∙ node-here f s room (x .number) (x .block) (a .0 .0) (a .0 .1) (a .0 .2),
       spots-here f t xs room′ a′ (λ n. omega (arith, d n)),
     )
 
 -- the back link
+pub back-null : (s : List ℕ) (q m : ℕ) → q ≡ 0 → backLinked s q m ≡ s
+unfolding backLinked
+back-null s q m e = rw (eq-eqb q 0 e, backLinked)
+
+pub back-some : (s : List ℕ) (q m : ℕ) → (q ≡ 0 → ⊥) → backLinked s q m ≡ putNode s q (linked (nodeOf s q) m (forwardWord (nodeOf s q) 0))
+unfolding backLinked
+back-some s q m e = rw (ne-eqb q 0 e, backLinked)
+
 module _ (f : Format) (s : List ℕ) (room : sizeOf f s ≤ length s) (on : Bool) (x : Spot)
     (fits : on ≡ true → forwardWord (x .block) 0 ≤ headOf s .nodeBlocks) where
   abbrev y : ℕ
@@ -115,15 +125,8 @@ module _ (f : Format) (s : List ℕ) (room : sizeOf f s ≤ length s) (on : Bool
   unfolding linked nodeAt
   long-new low high =
       length-set (set (nodeOf s y) 2 (x .number)) 3 (forwardWord (nodeOf s y) 0) ∙ length-set (nodeOf s y) 2 (x .number)
-      ∙ length-part s (nodeStart (headOf s) y) (nodeWords (headOf s .theta)) (omega (arith, node-end (headOf s) y low high, nodes-end (headOf s) f, room))
-
-  pub relink-null : y ≡ 0 → relink s y (x .number) ≡ s
-  unfolding relink
-  relink-null e = rw (eq-eqb y 0 e, relink)
-
-  pub relink-some : (y ≡ 0 → ⊥) → relink s y (x .number) ≡ putNode s y new
-  unfolding relink
-  relink-some e = rw (ne-eqb y 0 e, relink)
+      ∙ length-part s (nodeStart (headOf s) y) (nodeWords (headOf s .theta))
+      (omega (arith, node-end (headOf s) y low high, nodes-end (headOf s) f, room))
 
   relinked-framed : Framed f s (relinked s on x) (λ n. (on ≡ true) × (n ≡ y)) (λ p. ⊥) (λ i. ⊥)
   unfolding relinked
@@ -133,23 +136,22 @@ module _ (f : Format) (s : List ℕ) (room : sizeOf f s ≤ length s) (on : Bool
       go false e = framed-self f s _ _ _
       go true e =
           elim (ℕ-discrete y 0) [
-            | yes z ↦ subst (λ t. Framed f s t (λ n. (on ≡ true) × (n ≡ y)) (λ p. ⊥) (λ i. ⊥)) (sym (relink-null z)) (framed-self f s _ _ _)
+            | yes z ↦ subst (λ t. Framed f s t (λ n. (on ≡ true) × (n ≡ y)) (λ p. ⊥) (λ i. ⊥)) (sym (back-null s y (x .number) z))
+                (framed-self f s _ _ _)
             | no z ↦
-                subst (λ t. Framed f s t (λ n. (on ≡ true) × (n ≡ y)) (λ p. ⊥) (λ i. ⊥)) (sym (relink-some z))
-                (framed-wide f s (putNode s y new) (node-framed f s room y new (omega (arith, z)) (fits e) (long-new (omega (arith, z)) (fits e)))
+                subst (λ t. Framed f s t (λ n. (on ≡ true) × (n ≡ y)) (λ p. ⊥) (λ i. ⊥)) (sym (back-some s y (x .number) z))
+                (framed-wide f s (putNode s y new)
+                (node-framed f s room y new (omega (arith, z)) (fits e) (long-new (omega (arith, z)) (fits e)))
                 (λ n q. (e, q)) (λ n q. q) (λ n q. q))
           ]
 
   relinked-here : on ≡ true → (y ≡ 0 → ⊥) → nodeOf (relinked s on x) y ≡ new
   unfolding relinked
   relinked-here e z =
-      ap (λ c. nodeOf (relinked s c x) y) e ∙ ap (λ t. nodeOf t y) (relink-some z)
+      ap (λ c. nodeOf (relinked s c x) y) e ∙ ap (λ t. nodeOf t y) (back-some s y (x .number) z)
       ∙ node-here f s room y new (omega (arith, z)) (fits e) (long-new (omega (arith, z)) (fits e))
 
 -- root and levels
-abbrev RootWords : ℕ → Type 0
-RootWords i = (i ≡ 6) ⊎ (i ≡ 7)
-
 module _ (f : Format) (s : List ℕ) (room : sizeOf f s ≤ length s) (root levels : ℕ) where
   abbrev s₆ : List ℕ
   s₆ = set s 6 root
@@ -160,78 +162,66 @@ module _ (f : Format) (s : List ℕ) (room : sizeOf f s ≤ length s) (root leve
   room₆ : sizeOf f s₆ ≤ length s₆
   room₆ = room-kept f s s₆ (first₆ .kept) room
 
-  root-framed : Framed f s (putRoot s root levels) (λ n. ⊥) (λ n. ⊥) (λ i. (i ≡ 6) ⊎ (i ≡ 7))
+  root-framed : Framed f s (putHead s root levels) (λ n. ⊥) (λ n. ⊥) (λ i. (i ≡ 6) ⊎ (i ≡ 7))
+  unfolding putHead
   root-framed =
-      framed-then f s s₆ (putRoot s root levels) first₆
-      (framed-wide f s₆ (putRoot s root levels) (head-framed f s₆ room₆ 7 levels (omega arith) (omega arith)) (λ n q. q) (λ n q. q) (λ n q. inr q))
+      framed-then f s s₆ (putHead s root levels) first₆
+      (framed-wide f s₆ (putHead s root levels) (head-framed f s₆ room₆ 7 levels (omega arith) (omega arith)) (λ n q. q) (λ n q. q)
+      (λ n q. inr q))
 
-  root-here : headOf (putRoot s root levels) .root ≡ root
-  unfolding headOf
+  root-here : headOf (putHead s root levels) .root ≡ root
+  unfolding headOf putHead
   root-here =
       head-framed f s₆ room₆ 7 levels (omega arith) (omega arith) .words 6 (omega arith) (λ e. omega (arith, e))
       ∙ head-here f s room 6 root (omega arith) (omega arith)
 
-  levels-here : headOf (putRoot s root levels) .levels ≡ levels
-  unfolding headOf
+  levels-here : headOf (putHead s root levels) .levels ≡ levels
+  unfolding headOf putHead
   levels-here = head-here f s₆ room₆ 7 levels (omega arith) (omega arith)
 
 -- chains beside the writes
-module _ (f : Format) (s t : List ℕ) {N P I : ℕ → Type 0} (room : sizeOf f s ≤ length s) (w : Framed f s t N P I) where
-  node-same : (m : ℕ) → In (headOf s .nodeBlocks) (m ∷ []) → (N m → ⊥) → (nodeOf t m ≡ nodeOf s m) × (nodeNext t m ≡ nodeNext s m)
-  node-same m i q =
-      let e : nodeOf t m ≡ nodeOf s m = w .node m (i .0 .0) (i .0 .1) q in (
-        e,
-        next-in f t m (room-kept f s t (w .kept) room) (i .0 .0) (omega (arith, i .0 .1, w .kept .sizes .nodes)) ∙ ap (λ ws. word ws 2) e
-            ∙ sym (next-in f s m room (i .0 .0) (i .0 .1)),
-      )
-
-  nodes-same : (cs : List ℕ) → In (headOf s .nodeBlocks) cs → ((x : ℕ) → 1 ≤ count x cs → N x → ⊥)
-      → All (λ m. (nodeOf t m ≡ nodeOf s m) × (nodeNext t m ≡ nodeNext s m)) cs
-  nodes-same [] i q = tt
-  nodes-same (c ∷ cs) i q = (node-same c (i .0, tt) (q c (omega (arith, ind-self c))), nodes-same cs (i .1) (λ x o. q x (omega arith)))
-
-  chain-beside : (cs : List ℕ) → In (headOf s .nodeBlocks) cs → ((x : ℕ) → 1 ≤ count x cs → N x → ⊥) → (I 8 → ⊥) → (I 10 → ⊥) → NodeChain s cs → NodeChain t cs
+module _ (f : Format) (s t : List ℕ) {N P I : ℕ → Type 0} (ok : Sized f s) (w : Framed f s t N P I) where
+  node-chain-beside : (cs : List ℕ) → In (headOf s .nodeBlocks) cs → ((x : ℕ) → 1 ≤ count x cs → N x → ⊥) → (I 8 → ⊥) → (I 10 → ⊥)
+      → NodeChain s cs → NodeChain t cs
   unfolding releasedOf
-  chain-beside cs i q a b c =
-      let same = nodes-same cs i q in
-      let θ-is : headOf t .theta ≡ headOf s .theta = w .kept .sizes .theta in
-      record {
-        chain = subst (λ n. Rattle.remove.specs.Holding.Chain (nodeNext t) n cs) (sym (w .words 8 (omega arith) a))
-            (chain-same (nodeNext s) (nodeNext t) (nodeOf s) (nodeOf t) (releasedOf s .node) cs (c .chain) same);
-        counted = c .counted ∙ sym (w .words 10 (omega arith) b);
-        each = subst (λ θ. All (λ n. nodeOf t n ≡ releasedNode θ (nodeNext t n)) cs) (sym θ-is)
-            (each-same (nodeNext s) (nodeNext t) (nodeOf s) (nodeOf t) (releasedNode (headOf s .theta)) cs (c .each) same);
-      }
+  node-chain-beside cs i q a b c =
+      at (w .kept .within .sizes-same .theta) (w .words 8 (omega arith) a) (w .words 10 (omega arith) b)
+      (chain-beside (nodeOf s) (nodeOf t) (releasedNode (headOf s .theta)) (nodeNext s) (nodeNext t) (releasedOf s .nodes)
+      (releasedOf s .node) cs c
+      (λ x o.
+      let l = in-at (headOf s .nodeBlocks) cs x i o in
+      let e : nodeOf t x ≡ nodeOf s x = w .node x (l .0) (l .1) (q x o) in (
+        e,
+        next-node f t (sized-kept f s t (w .kept) ok) x (l .0) (omega (arith, l .1, w .kept .within .sizes-same .nodes))
+            ∙ ap (λ ws. word ws 2) e
+            ∙ sym (next-node f s ok x (l .0) (l .1)),
+      )))
+    where
+      at : {block : ℕ → List ℕ} {next : ℕ → ℕ} {θ θ′ name name′ many many′ : ℕ} {cs : List ℕ} → θ′ ≡ θ → name′ ≡ name → many′ ≡ many
+          → ChainIs block (releasedNode θ) next many name cs → ChainIs block (releasedNode θ′) next many′ name′ cs
+      at a b d z = rw (a, b, d) z
 
-  module _ (two : 2 ≤ pageWords f (headOf s .capacity)) where
-    page-same : (m : ℕ) → In (headOf s .pageBlocks) (m ∷ []) → (P m → ⊥) → (pageOf f t m ≡ pageOf f s m) × (pageNext f t m ≡ pageNext f s m)
-    page-same m i q =
-        let e : pageOf f t m ≡ pageOf f s m = w .page m (i .0 .0) (i .0 .1) q in (
-          e,
-          page-next-in f t m (room-kept f s t (w .kept) room) (i .0 .0) (omega (arith, i .0 .1, w .kept .sizes .pages))
-              (subst (λ C. 2 ≤ pageWords f C) (sym (w .kept .sizes .capacity)) two) ∙ ap (λ ws. word ws 1) e
-              ∙ sym (page-next-in f s m room (i .0 .0) (i .0 .1) two),
-        )
+  page-chain-beside : (cs : List ℕ) → In (headOf s .pageBlocks) cs → ((x : ℕ) → 1 ≤ count x cs → P x → ⊥) → (I 9 → ⊥) → (I 11 → ⊥)
+      → PageChain f s cs → PageChain f t cs
+  unfolding releasedOf
+  page-chain-beside cs i q a b c =
+      at (w .kept .within .sizes-same .capacity) (w .words 9 (omega arith) a) (w .words 11 (omega arith) b)
+      (chain-beside (pageOf f s) (pageOf f t) (releasedPage f (headOf s .capacity)) (pageNext f s) (pageNext f t) (releasedOf s .pages)
+      (releasedOf s .page) cs c
+      (λ x o.
+      let l = in-at (headOf s .pageBlocks) cs x i o in
+      let e : pageOf f t x ≡ pageOf f s x = w .page x (l .0) (l .1) (q x o) in (
+        e,
+        next-page f t (sized-kept f s t (w .kept) ok) x (l .0) (omega (arith, l .1, w .kept .within .sizes-same .pages))
+            ∙ ap (λ ws. word ws 1) e
+            ∙ sym (next-page f s ok x (l .0) (l .1)),
+      )))
+    where
+      at : {block : ℕ → List ℕ} {next : ℕ → ℕ} {C C′ name name′ many many′ : ℕ} {cs : List ℕ} → C′ ≡ C → name′ ≡ name → many′ ≡ many
+          → ChainIs block (releasedPage f C) next many name cs → ChainIs block (releasedPage f C′) next many′ name′ cs
+      at a b d z = rw (a, b, d) z
 
-    pages-same : (cs : List ℕ) → In (headOf s .pageBlocks) cs → ((x : ℕ) → 1 ≤ count x cs → P x → ⊥)
-        → All (λ m. (pageOf f t m ≡ pageOf f s m) × (pageNext f t m ≡ pageNext f s m)) cs
-    pages-same [] i q = tt
-    pages-same (c ∷ cs) i q = (page-same c (i .0, tt) (q c (omega (arith, ind-self c))), pages-same cs (i .1) (λ x o. q x (omega arith)))
-
-    page-chain-beside : (cs : List ℕ) → In (headOf s .pageBlocks) cs → ((x : ℕ) → 1 ≤ count x cs → P x → ⊥) → (I 9 → ⊥) → (I 11 → ⊥) → PageChain f s cs
-        → PageChain f t cs
-    unfolding releasedOf
-    page-chain-beside cs i q a b c =
-        let same = pages-same cs i q in
-        record {
-          chain = subst (λ n. Rattle.remove.specs.Holding.Chain (pageNext f t) n cs) (sym (w .words 9 (omega arith) a))
-              (chain-same (pageNext f s) (pageNext f t) (pageOf f s) (pageOf f t) (releasedOf s .page) cs (c .chain) same);
-          counted = c .counted ∙ sym (w .words 11 (omega arith) b);
-          each = subst (λ C. All (λ n. pageOf f t n ≡ releasedPage f C (pageNext f t n)) cs) (sym (w .kept .sizes .capacity))
-              (each-same (pageNext f s) (pageNext f t) (pageOf f s) (pageOf f t) (releasedPage f (headOf s .capacity)) cs (c .each) same);
-        }
-
-in-backwards : (m : ℕ) (cs ms : List ℕ) → In m cs → In m ms → In m (backwards cs ms)
+pub in-backwards : (m : ℕ) (cs ms : List ℕ) → In m cs → In m ms → In m (backwards cs ms)
 in-backwards m cs [] a b = a
 in-backwards m cs (x ∷ ms) a b = in-backwards m (x ∷ cs) ms (b .0, a) (b .1)
 
@@ -274,7 +264,7 @@ module _ (f : Format) (s : List ℕ) (p : Plan) where
     room₂ = room-kept f s t₂ k₂ (d .room)
 
     pub link₂ : p .linked ≡ true → behind p ≤ headOf t₂ .nodeBlocks
-    link₂ e = omega (arith, d .link e, k₂ .sizes .nodes)
+    link₂ e = omega (arith, d .link e, k₂ .within .sizes-same .nodes)
 
     pub w₃ : Framed f t₂ t₃ (λ n. (p .linked ≡ true) × (n ≡ behind p)) (λ x. ⊥) (λ i. ⊥)
     w₃ = relinked-framed f t₂ room₂ (p .linked) (firstSpot (p .spots)) link₂
@@ -286,17 +276,14 @@ module _ (f : Format) (s : List ℕ) (p : Plan) where
     room₃ = room-kept f s t₃ k₃ (d .room)
 
     in-pages : (t : List ℕ) → Kept f s t → (xs : List ℕ) → In (headOf s .pageBlocks) xs → In (headOf t .pageBlocks) xs
-    in-pages t k xs =
-        all-map (λ n. (1 ≤ n) × (n ≤ headOf s .pageBlocks)) (λ n. (1 ≤ n) × (n ≤ headOf t .pageBlocks)) xs
-        (λ x q. (q .0, omega (arith, q .1, k .sizes .pages)))
+    in-pages t k xs = in-wide (headOf s .pageBlocks) (headOf t .pageBlocks) xs (omega (arith, k .within .sizes-same .pages))
 
     in-nodes : (t : List ℕ) → Kept f s t → (xs : List ℕ) → In (headOf s .nodeBlocks) xs → In (headOf t .nodeBlocks) xs
-    in-nodes t k xs =
-        all-map (λ n. (1 ≤ n) × (n ≤ headOf s .nodeBlocks)) (λ n. (1 ≤ n) × (n ≤ headOf t .nodeBlocks)) xs
-        (λ x q. (q .0, omega (arith, q .1, k .sizes .nodes)))
+    in-nodes t k xs = in-wide (headOf s .nodeBlocks) (headOf t .nodeBlocks) xs (omega (arith, k .within .sizes-same .nodes))
 
     w₄ : Framed f t₃ t₄ (λ x. ⊥) (λ x. 1 ≤ count x (p .pages)) PageWordsOf
-    w₄ = pages-framed f t₃ (p .pages) room₃ (omega (arith, d .capacity, k₃ .sizes .capacity)) (in-pages t₃ k₃ (p .pages) (d .pages))
+    w₄ = pages-framed f t₃ (p .pages) room₃ (omega (arith, d .capacity, k₃ .within .sizes-same .capacity))
+        (in-pages t₃ k₃ (p .pages) (d .pages))
 
     k₄ : Kept f s t₄
     k₄ = kept-then f s t₃ t₄ k₃ (w₄ .kept)
@@ -358,20 +345,21 @@ module _ (f : Format) (s : List ℕ) (p : Plan) where
     pub page-written : 1 ≤ p .page → count (p .page) (p .pages) ≡ 0 → pageOf f t₆ (p .page) ≡ pageImage f (headOf s .capacity) (p .items)
     page-written low out =
         let high : p .page ≤ headOf s .pageBlocks = elim (d .own) [ inl z ↦ absurd (omega (arith, z)) | inr z ↦ z .1 ] in
-        w₆ .page (p .page) low (omega (arith, high, k₅ .sizes .pages)) (λ q. q)
-        ∙ w₅ .page (p .page) low (omega (arith, high, k₄ .sizes .pages)) (λ q. q)
-        ∙ w₄ .page (p .page) low (omega (arith, high, k₃ .sizes .pages)) (λ q. omega (arith, q, out))
-        ∙ w₃ .page (p .page) low (omega (arith, high, k₂ .sizes .pages)) (λ q. q)
-        ∙ w₂ .page (p .page) low (omega (arith, high, w₁ .kept .sizes .pages)) (λ q. q)
+        w₆ .page (p .page) low (omega (arith, high, k₅ .within .sizes-same .pages)) (λ q. q)
+        ∙ w₅ .page (p .page) low (omega (arith, high, k₄ .within .sizes-same .pages)) (λ q. q)
+        ∙ w₄ .page (p .page) low (omega (arith, high, k₃ .within .sizes-same .pages)) (λ q. omega (arith, q, out))
+        ∙ w₃ .page (p .page) low (omega (arith, high, k₂ .within .sizes-same .pages)) (λ q. q)
+        ∙ w₂ .page (p .page) low (omega (arith, high, w₁ .kept .within .sizes-same .pages)) (λ q. q)
         ∙ own-here f s (d .room) (p .page) (p .items) (d .own) low
 
     -- nodes that are written and not released, nor linked anew
-    after-spots : (n : ℕ) → 1 ≤ n → n ≤ headOf s .nodeBlocks → ((p .linked ≡ true) × (n ≡ behind p) → ⊥) → count n (p .nodes) ≡ 0 → nodeOf t₆ n ≡ nodeOf t₂ n
+    after-spots : (n : ℕ) → 1 ≤ n → n ≤ headOf s .nodeBlocks → ((p .linked ≡ true) × (n ≡ behind p) → ⊥) → count n (p .nodes) ≡ 0
+        → nodeOf t₆ n ≡ nodeOf t₂ n
     after-spots n low high a out =
-        w₆ .node n low (omega (arith, high, k₅ .sizes .nodes)) (λ q. q)
-        ∙ w₅ .node n low (omega (arith, high, k₄ .sizes .nodes)) (λ q. omega (arith, q, out))
-        ∙ w₄ .node n low (omega (arith, high, k₃ .sizes .nodes)) (λ q. q)
-        ∙ w₃ .node n low (omega (arith, high, k₂ .sizes .nodes)) a
+        w₆ .node n low (omega (arith, high, k₅ .within .sizes-same .nodes)) (λ q. q)
+        ∙ w₅ .node n low (omega (arith, high, k₄ .within .sizes-same .nodes)) (λ q. omega (arith, q, out))
+        ∙ w₄ .node n low (omega (arith, high, k₃ .within .sizes-same .nodes)) (λ q. q)
+        ∙ w₃ .node n low (omega (arith, high, k₂ .within .sizes-same .nodes)) a
 
     pub spots-written : ((n : ℕ) → count n (numbersOf (p .spots)) ≤ 1)
         → ((n : ℕ) → 1 ≤ count n (numbersOf (p .spots)) → (((p .linked ≡ true) × (n ≡ behind p)) → ⊥) × (count n (p .nodes) ≡ 0))
@@ -393,93 +381,77 @@ module _ (f : Format) (s : List ℕ) (p : Plan) where
     behind-written e low a out =
         let high : behind p ≤ headOf s .nodeBlocks = d .link e in
         let same : nodeOf t₂ (behind p) ≡ nodeOf s (behind p) =
-        w₂ .node (behind p) low (omega (arith, high, w₁ .kept .sizes .nodes)) (λ q. omega (arith, q, a)) ∙ w₁ .node (behind p) low high (λ q. q) in
-        w₆ .node (behind p) low (omega (arith, high, k₅ .sizes .nodes)) (λ q. q)
-        ∙ w₅ .node (behind p) low (omega (arith, high, k₄ .sizes .nodes)) (λ q. omega (arith, q, out))
-        ∙ w₄ .node (behind p) low (omega (arith, high, k₃ .sizes .nodes)) (λ q. q)
+        w₂ .node (behind p) low (omega (arith, high, w₁ .kept .within .sizes-same .nodes)) (λ q. omega (arith, q, a))
+        ∙ w₁ .node (behind p) low high (λ q. q) in
+        w₆ .node (behind p) low (omega (arith, high, k₅ .within .sizes-same .nodes)) (λ q. q)
+        ∙ w₅ .node (behind p) low (omega (arith, high, k₄ .within .sizes-same .nodes)) (λ q. omega (arith, q, out))
+        ∙ w₄ .node (behind p) low (omega (arith, high, k₃ .within .sizes-same .nodes)) (λ q. q)
         ∙ relinked-here f t₂ room₂ (p .linked) (firstSpot (p .spots)) link₂ e (λ z. omega (arith, z, low))
         ∙ ap (λ ws. linked ws (firstSpot (p .spots) .number) (forwardWord ws 0)) same
 
     -- the chains
-    two-words : 2 ≤ pageWords f (headOf s .capacity)
-    two-words = page-two f (headOf s .capacity) (d .capacity)
+    before : Framed f s t₃ (λ n. (1 ≤ count n (numbersOf (p .spots))) ⊎ ((p .linked ≡ true) × (n ≡ behind p))) (λ x. x ≡ p .page) (λ i. ⊥)
+    before =
+        framed-then f s t₂ t₃
+        (framed-then f s t₁ t₂ (framed-wide f s t₁ w₁ (λ n q. absurd q) (λ n q. q) (λ n q. q))
+        (framed-wide f t₁ t₂ w₂ (λ n q. inl q) (λ n q. absurd q) (λ n q. q)))
+        (framed-wide f t₂ t₃ w₃ (λ n q. inr q) (λ n q. absurd q) (λ n q. q))
 
-    pub node-chain : (ns : List ℕ) → In (headOf s .nodeBlocks) ns → ((x : ℕ) → count x (p .nodes) + count x ns ≤ 1)
-        → ((x : ℕ) → 1 ≤ count x ns → (count x (numbersOf (p .spots)) ≡ 0) × (((p .linked ≡ true) × (x ≡ behind p)) → ⊥)) → NodeChain s ns
-        → NodeChain t₆ (backwards ns (p .nodes))
-    node-chain ns i apart out c =
-        let c₃ : NodeChain t₃ ns =
-        chain-beside f s t₃ (d .room) before-nodes ns i
-        (λ x o q.
-        let z = out x o in
-        elim q [ inl a ↦ omega (arith, a, z .0) | inr a ↦ z .1 a ]) (λ q. q) (λ q. q) c in
-        let c₄ : NodeChain t₄ ns = chain-beside f t₃ t₄ room₃ w₄ ns (in-nodes t₃ k₃ ns i) (λ x o q. q) no-8 no-10 c₃ in
-        let c₅ : NodeChain t₅ (backwards ns (p .nodes)) =
-        nodes-released f t₄ (p .nodes) ns room₄ (in-nodes t₄ k₄ (p .nodes) (d .nodes)) (in-nodes t₄ k₄ ns i) apart c₄ .1 in
-        chain-beside f t₅ t₆ room₅ w₆ (backwards ns (p .nodes)) (in-nodes t₅ k₅ (backwards ns (p .nodes)) (in-backwards (headOf s .nodeBlocks) ns (p .nodes) i (d .nodes)))
-        (λ x o q. q) no-root no-root′ c₅
-      where
-        before-nodes : Framed f s t₃ (λ n. (1 ≤ count n (numbersOf (p .spots))) ⊎ ((p .linked ≡ true) × (n ≡ behind p))) (λ x. x ≡ p .page) (λ i. ⊥)
-        before-nodes =
-            framed-then f s t₂ t₃
-            (framed-then f s t₁ t₂ (framed-wide f s t₁ w₁ (λ n q. absurd q) (λ n q. q) (λ n q. q))
-            (framed-wide f t₁ t₂ w₂ (λ n q. inl q) (λ n q. absurd q) (λ n q. q)))
-            (framed-wide f t₂ t₃ w₃ (λ n q. inr q) (λ n q. absurd q) (λ n q. q))
+    no-root : (i : ℕ) → 8 ≤ i → (i ≡ 6) ⊎ (i ≡ 7) → ⊥
+    no-root i l (inl e) = omega (arith, l, e)
+    no-root i l (inr e) = omega (arith, l, e)
 
-        no-8 : PageWordsOf 8 → ⊥
-        no-8 (inl e) = omega (arith, e)
-        no-8 (inr e) = omega (arith, e)
+    module _ (ok : Sized f s) where
+      sized : (t : List ℕ) → Kept f s t → Sized f t
+      sized t k = sized-kept f s t k ok
 
-        no-10 : PageWordsOf 10 → ⊥
-        no-10 (inl e) = omega (arith, e)
-        no-10 (inr e) = omega (arith, e)
+      -- those that the plan releases, the last one first, before the ones that were released
+      pub node-chain : (ns : List ℕ) → In (headOf s .nodeBlocks) ns → ((x : ℕ) → count x (p .nodes) + count x ns ≤ 1)
+          → ((x : ℕ) → 1 ≤ count x ns → (count x (numbersOf (p .spots)) ≡ 0) × (((p .linked ≡ true) × (x ≡ behind p)) → ⊥)) → NodeChain s ns
+          → NodeChain t₆ (backwards ns (p .nodes))
+      node-chain ns i apart out c =
+          let c₃ : NodeChain t₃ ns =
+          node-chain-beside f s t₃ ok before ns i
+          (λ x o q.
+          let z = out x o in
+          elim q [ inl a ↦ omega (arith, a, z .0) | inr a ↦ z .1 a ]) (λ q. q) (λ q. q) c in
+          let c₄ : NodeChain t₄ ns = node-chain-beside f t₃ t₄ (sized t₃ k₃) w₄ ns (in-nodes t₃ k₃ ns i) (λ x o q. q) no-8 no-10 c₃ in
+          let c₅ : NodeChain t₅ (backwards ns (p .nodes)) =
+          nodes-released f t₄ (p .nodes) ns (sized t₄ k₄) (in-nodes t₄ k₄ (p .nodes) (d .nodes)) (in-nodes t₄ k₄ ns i) apart c₄ in
+          node-chain-beside f t₅ t₆ (sized t₅ k₅) w₆ (backwards ns (p .nodes))
+          (in-nodes t₅ k₅ (backwards ns (p .nodes)) (in-backwards (headOf s .nodeBlocks) ns (p .nodes) i (d .nodes)))
+          (λ x o q. q) (no-root 8 (omega arith)) (no-root 10 (omega arith)) c₅
+        where
+          no-8 : PageWordsOf 8 → ⊥
+          no-8 (inl e) = omega (arith, e)
+          no-8 (inr e) = omega (arith, e)
 
-        no-root : RootWords 8 → ⊥
-        no-root (inl e) = omega (arith, e)
-        no-root (inr e) = omega (arith, e)
+          no-10 : PageWordsOf 10 → ⊥
+          no-10 (inl e) = omega (arith, e)
+          no-10 (inr e) = omega (arith, e)
 
-        no-root′ : RootWords 10 → ⊥
-        no-root′ (inl e) = omega (arith, e)
-        no-root′ (inr e) = omega (arith, e)
+      pub page-chain : (ps : List ℕ) → In (headOf s .pageBlocks) ps → ((x : ℕ) → count x (p .pages) + count x ps ≤ 1)
+          → count (p .page) ps ≡ 0 → PageChain f s ps → PageChain f t₆ (backwards ps (p .pages))
+      page-chain ps i apart out c =
+          let all : In (headOf s .pageBlocks) (backwards ps (p .pages)) = in-backwards (headOf s .pageBlocks) ps (p .pages) i (d .pages) in
+          let c₃ : PageChain f t₃ ps =
+          page-chain-beside f s t₃ ok before ps i
+          (λ x o q. omega (arith, o, out, ap (λ (n : ℕ). count n ps) q)) (λ q. q) (λ q. q) c in
+          let c₄ : PageChain f t₄ (backwards ps (p .pages)) =
+          pages-released f t₃ (p .pages) ps (sized t₃ k₃) (in-pages t₃ k₃ (p .pages) (d .pages)) (in-pages t₃ k₃ ps i) apart c₃ in
+          let c₅ : PageChain f t₅ (backwards ps (p .pages)) =
+          page-chain-beside f t₄ t₅ (sized t₄ k₄) w₅ (backwards ps (p .pages)) (in-pages t₄ k₄ (backwards ps (p .pages)) all) (λ x o q. q)
+          no-9 no-11 c₄ in
+          page-chain-beside f t₅ t₆ (sized t₅ k₅) w₆ (backwards ps (p .pages)) (in-pages t₅ k₅ (backwards ps (p .pages)) all) (λ x o q. q)
+          (no-root 9 (omega arith)) (no-root 11 (omega arith)) c₅
+        where
+          no-9 : NodeWordsOf 9 → ⊥
+          no-9 (inl e) = omega (arith, e)
+          no-9 (inr e) = omega (arith, e)
 
-    pub page-chain : (ps : List ℕ) → In (headOf s .pageBlocks) ps → ((x : ℕ) → count x (p .pages) + count x ps ≤ 1) → count (p .page) ps ≡ 0 → PageChain f s ps
-        → PageChain f t₆ (backwards ps (p .pages))
-    page-chain ps i apart out c =
-        let two₃ : 2 ≤ pageWords f (headOf t₃ .capacity) = subst (λ C. 2 ≤ pageWords f C) (sym (k₃ .sizes .capacity)) two-words in
-        let two₄ : 2 ≤ pageWords f (headOf t₄ .capacity) = subst (λ C. 2 ≤ pageWords f C) (sym (k₄ .sizes .capacity)) two-words in
-        let two₅ : 2 ≤ pageWords f (headOf t₅ .capacity) = subst (λ C. 2 ≤ pageWords f C) (sym (k₅ .sizes .capacity)) two-words in
-        let c₃ : PageChain f t₃ ps =
-        page-chain-beside f s t₃ (d .room) before-pages′ two-words ps i
-        (λ x o q. omega (arith, o, out, ap (λ (n : ℕ). count n ps) q)) (λ q. q) (λ q. q) c in
-        let all : In (headOf s .pageBlocks) (backwards ps (p .pages)) = in-backwards (headOf s .pageBlocks) ps (p .pages) i (d .pages) in
-        let c₄ : PageChain f t₄ (backwards ps (p .pages)) =
-        pages-released f t₃ (p .pages) ps room₃ (omega (arith, d .capacity, k₃ .sizes .capacity)) (in-pages t₃ k₃ (p .pages) (d .pages)) (in-pages t₃ k₃ ps i) apart c₃ .1 in
-        let c₅ : PageChain f t₅ (backwards ps (p .pages)) =
-        page-chain-beside f t₄ t₅ room₄ w₅ two₄ (backwards ps (p .pages)) (in-pages t₄ k₄ (backwards ps (p .pages)) all) (λ x o q. q) no-9 no-11 c₄ in
-        page-chain-beside f t₅ t₆ room₅ w₆ two₅ (backwards ps (p .pages)) (in-pages t₅ k₅ (backwards ps (p .pages)) all) (λ x o q. q) no-root no-root′ c₅
-      where
-        before-pages′ : Framed f s t₃ (λ n. (1 ≤ count n (numbersOf (p .spots))) ⊎ ((p .linked ≡ true) × (n ≡ behind p))) (λ x. x ≡ p .page) (λ i. ⊥)
-        before-pages′ =
-            framed-then f s t₂ t₃
-            (framed-then f s t₁ t₂ (framed-wide f s t₁ w₁ (λ n q. absurd q) (λ n q. q) (λ n q. q))
-            (framed-wide f t₁ t₂ w₂ (λ n q. inl q) (λ n q. absurd q) (λ n q. q)))
-            (framed-wide f t₂ t₃ w₃ (λ n q. inr q) (λ n q. absurd q) (λ n q. q))
-
-        no-9 : NodeWordsOf 9 → ⊥
-        no-9 (inl e) = omega (arith, e)
-        no-9 (inr e) = omega (arith, e)
-
-        no-11 : NodeWordsOf 11 → ⊥
-        no-11 (inl e) = omega (arith, e)
-        no-11 (inr e) = omega (arith, e)
-
-        no-root : RootWords 9 → ⊥
-        no-root (inl e) = omega (arith, e)
-        no-root (inr e) = omega (arith, e)
-
-        no-root′ : RootWords 11 → ⊥
-        no-root′ (inl e) = omega (arith, e)
-        no-root′ (inr e) = omega (arith, e)
+          no-11 : NodeWordsOf 11 → ⊥
+          no-11 (inl e) = omega (arith, e)
+          no-11 (inr e) = omega (arith, e)
 
 -- a block written as it is: levels that stay need no write
 replaced-own : (a n : ℕ) (xs : List ℕ) → a + n ≤ length xs → replaced a n (part xs a n) xs ≡ xs
@@ -489,4 +461,5 @@ replaced-own a n xs h = ap (λ ys. take a xs ++ ys) (sym (part-next xs a n h)) �
 pub put-own : (f : Format) (s : List ℕ) (n : ℕ) → sizeOf f s ≤ length s → 1 ≤ n → n ≤ headOf s .nodeBlocks → putNode s n (nodeOf s n) ≡ s
 unfolding putNode nodeAt
 put-own f s n room low high =
-    replaced-own (nodeStart (headOf s) n) (nodeWords (headOf s .theta)) s (omega (arith, node-end (headOf s) n low high, nodes-end (headOf s) f, room))
+    replaced-own (nodeStart (headOf s) n) (nodeWords (headOf s .theta)) s
+    (omega (arith, node-end (headOf s) n low high, nodes-end (headOf s) f, room))

@@ -1,9 +1,7 @@
-pub mod Released
-pub mod Reuse
 pub mod Remove
-pub mod Holding
 pub mod Doable
 pub mod Frame
 pub mod Promises
 pub mod Mixture
 pub mod Checks
+pub mod Example

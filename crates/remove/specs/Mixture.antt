@@ -11,19 +11,17 @@ use Rattle.store.specs.declared.Format.{Format}
 use Rattle.store.specs.declared.Item.{Item}
 use Rattle.store.specs.Head.{headOf}
 use Rattle.store.specs.Released.{releasedNodes, releasedPages}
-use Rattle.represent.specs.Labelled.{occ, occs}
+use Rattle.represent.specs.Labelled.{occ, occs, count}
 use Rattle.represent.specs.Rep.{numbers, contents, Holds}
 use Rattle.insert.specs.Enter.{enterOf}
-use Rattle.remove.specs.Holding.{count}
 use Rattle.remove.specs.Remove.{removeOf}
 
-module _ (f : Format) (s : List ℕ) (S : List Item) where
-  -- a node number is exactly one of: in use, once; released, once; unused. Likewise a page number.
-  abbrev pub Partition : (ℕ → ℕ) → List ℕ → ℕ → ℕ → Type 0
-  Partition used ns taken n =
-      ((used n ≡ 1) × (count n ns ≡ 0) × (n ≤ taken))
-      ⊎ (((used n ≡ 0) × (count n ns ≡ 1) × (n ≤ taken)) ⊎ ((used n ≡ 0) × (count n ns ≡ 0) × (taken < n)))
+abbrev pub Partition : (ℕ → ℕ) → List ℕ → ℕ → ℕ → Type 0
+Partition used ns taken n =
+    ((used n ≡ 1) × (count n ns ≡ 0) × (n ≤ taken))
+    ⊎ (((used n ≡ 0) × (count n ns ≡ 1) × (n ≤ taken)) ⊎ ((used n ≡ 0) × (count n ns ≡ 0) × (taken < n)))
 
+module _ (f : Format) (s : List ℕ) (S : List Item) where
   -- "Blocks in use match that tree, and every remaining block is unused or released exactly once."
   abbrev pub BlocksOnce : Type 0
   BlocksOnce =
@@ -32,8 +30,8 @@ module _ (f : Format) (s : List ℕ) (S : List Item) where
       × ((p : ℕ) → 1 ≤ p → p ≤ headOf s .pageBlocks
       → Partition (λ p. occ p (numbers (h .b0))) (releasedPages f s) (headOf s .pagesTaken) p)
 
--- "A new key accepted and then removed, with nothing else entered or removed between, leaves the tree of before." (Refused calls and readings between leave
--- every word.) Both stores hold the tree of S; with `Holds` that is the same tree, block numbers apart.
+-- "A new key accepted and then removed, with nothing else entered or removed between, leaves the tree of before." (Refused calls and
+-- readings between leave every word.) Both stores hold the tree of S; with `Holds` that is the same tree, block numbers apart.
 abbrev pub Undone : Format → Type 0
 Undone f =
     (s : List ℕ) (S : List Item) (it : Item) (h : Holds f s S) → enterOf f s it .reply .number ≡ 0

@@ -1,24 +1,30 @@
--- Remove. Document 02, M-106. It tests first and writes then. The plan goes by value: all is read in the store as found, and a joined node is a block
--- in hand, with the links that it is to have. So nothing can be refused after the first write, on damaged stores too.
+-- Remove. Document 02, M-106. It tests first and writes then. The plan goes by value: all is read in the store as found, and a joined node
+-- is a block in hand, with the links that it is to have. So nothing can be refused after the first write, on damaged stores too.
 -- A prefix of the key k is its first m bits; its sibling has the last of them the other way.
+--   prefix W k m         == the first m bits of the key, as a number
 --   siblingKey W k m     == the sibling of the first m bits, and zeros after
 --   onLeft W k m         == the sibling is the left one of the pair
---   Reach                == a node reached, and under which prefix: its bits as a number, and how many
+--   Reach, reachAt       == a node reached, and under which prefix: its bits as a number, and how many
 --   once r rs            == the node of r was not reached under another prefix
---   Sought, seek         == the descent to a sibling: damage, or a longer prefix, or the pointer to it
---   Pages, pageStep, pageJoins == the stretch at the key at level 0, as its pages join
---   Spot                 == a node on the key's path after its joins: its number, the bits used before it, the last node of those joined, its block
---   linksOk s h x p left == the level-1 nodes x and p may be joined
---   Nodes, nodeStep, nodeJoins == the node at the key at one level, as it joins
+--   Sought, seek, sibling == the descent to a sibling: damage, or a longer prefix, or the pointer to it
+--   Pages, bothPages, pageJoins == the stretch at the key at level 0, as its pages join
+--   emptied              == that stretch before the first join: the key's own, without the record
+--   Spot                 == a node on the key's path after its joins: its number, the bits used before it, the last node of those joined,
+--                           its block
+--   besideOk, linksOk s h x p left == the level-1 nodes x and p may be joined
+--   covered              == a block with the run of the stretch below in one piece
+--   Nodes, bothNodes, siblingOk, nodeJoins == the node at the key at one level, as it joins
 --   Levels, levelsFrom   == the levels upward, as long as the one below joined
---   upper, keptLevels, goneRoots == the levels that stay, and the roots that are released, from the top down
---   Plan, planOf, writtenBy == all that is decided, and the words after it
+--   keptLevels, goneRoots, topOf == the levels that stay, the roots that are released, from the top down, and the root
+--   backwards ns ms      == the numbers ms, the last one first, before ns
+--   Plan, planOver, planOf == all that is decided
+--   putOwn, putSpots, backLinked, relinked, releasePages, releaseNodes, writtenBy == the words after it
 --   After, removeOf f s k == what remove replies, and the words after it
 use mathlib.Core.Bool.{Bool, true, false, _&&_, _||_, not}
 use mathlib.Core.List.{List, [], _∷_, _++_, map}
 use Prim.Native.Nat.{ℕ, zero, suc, _+_, _-_, _*_, _/_, _%_, _^_, max}
 use lib.Dec.{leb, ltb, eqb}
-use lib.ListN.{length, getD, take, drop}
+use lib.ListN.{length, take, drop}
 use Rattle.lists.specs.Bits.{bits}
 use Rattle.lists.specs.Lists.{all}
 use Rattle.store.specs.declared.Format.{Format}
@@ -35,13 +41,13 @@ use Rattle.search.specs.declared.Sought.the-variants.{Record, Nothing, Damaged}
 use Rattle.search.specs.Descent.{stepOf, descent}
 use Rattle.search.specs.Find.{Reply, noItem, soundPage, findOf}
 use Rattle.page.specs.Schema.{keyOf}
-use Rattle.split.specs.Frame.{nodeOf, putNode}
+use Rattle.split.specs.Block.{linked}
+use Rattle.split.specs.Frame.{nodeOf, putNode, putHead}
 use Rattle.split.specs.Insertion.{putItems}
 use Rattle.insert.specs.Enter.{ownItems}
 use Rattle.joins.specs.Joins.{without}
 use Rattle.store.specs.Head.{headRule}
 use Rattle.release.specs.Release.{releaseNode, releasePage}
-use Rattle.remove.specs.Reuse.{putRoot, relink}
 use Rattle.fuse.specs.Join.{cover, joined}
 
 -- the first m bits of the key, as a number
@@ -63,8 +69,8 @@ pub record Reach : Type 0 where
   pub bits : ℕ
   pub used : ℕ
 
--- "A block that one remove reaches under two prefixes .. is damaged." (Of pages the page rule says it: one has a record, which agrees with its prefix,
--- and no two prefixes under which one remove reads pages have a key in common.)
+-- "A block that one remove reaches under two prefixes .. is damaged." (Of pages the page rule says it, `PagesApart`: one has a record,
+-- which agrees with its prefix, and no two prefixes under which one remove reads pages have a key in common.)
 unfoldable pub once : Reach → List Reach → Bool
 once r rs = all (λ x. not (eqb (x .node) (r .node)) || (eqb (x .bits) (r .bits) && eqb (x .used) (r .used))) rs
 
@@ -80,8 +86,8 @@ damagedWay = record { ok = false; found = false; pointer = 0; reached = [] }
 abbrev pub reachAt : ℕ → ℕ → ℕ → ℕ → Reach
 reachAt W k n used = record { node = n; bits = prefix W k used; used = used }
 
--- "The sibling is read each time in the tree as found, by a descent with its prefix and zeros after. That ends at the sibling, or at the first entry
--- with a longer prefix, whose block is not visited": j levels down from node n to the level `target`, m bits in all
+-- "The sibling is read each time in the tree as found, by a descent with its prefix and zeros after. That ends at the sibling, or at the
+-- first entry with a longer prefix, whose block is not visited": j levels down from node n to the level `target`, m bits in all
 unfoldable pub seek : Format → List ℕ → Head → ℕ → ℕ → ℕ → ℕ → ℕ → ℕ → List Reach → Sought
 seek f s h k m target zero n used rs = record { ok = true; found = true; pointer = n; reached = rs }
 seek f s h k m target (suc j) n used rs =
@@ -188,8 +194,8 @@ besideOk s h m n to back =
     || (not (eqb m n) && eqb (levelWord s (nodeStart h m)) 1
     && eqb (elim back [ true ↦ forwardWord s (nodeStart h m) | false ↦ backWord s (nodeStart h m) ]) to)
 
--- "Every level-1 node to be joined is looked at on both sides, as enter looks forward, and the pair must link to each other, in key order only."
--- x stands for the nodes joined so far, from `number` to `last`; p is on its left or on its right.
+-- "Every level-1 node to be joined is looked at on both sides, as enter looks forward, and the pair must link to each other, in key order
+-- only." x stands for the nodes joined so far, from `number` to `last`; p is on its left or on its right.
 unfoldable pub linksOk : List ℕ → Head → Spot → ℕ → Bool → Bool
 linksOk s h x p true =
     eqb (forwardWord s (nodeStart h p)) (x .number) && eqb (backWord (x .block) 0) p
@@ -406,13 +412,17 @@ releaseNodes s (n ∷ ns) = releaseNodes (releaseNode s n) ns
 unfoldable pub putOwn : Format → ℕ → List ℕ → ℕ → List Item → List ℕ
 putOwn f C s p rs = elim (eqb p 0) [ true ↦ s | false ↦ putItems f C s p rs ]
 
+-- the node q, if there is one, is linked back to m
+unfoldable pub backLinked : List ℕ → ℕ → ℕ → List ℕ
+backLinked s q m = elim (eqb q 0) [ true ↦ s | false ↦ putNode s q (linked (nodeOf s q) m (forwardWord (nodeOf s q) 0)) ]
+
 unfoldable pub relinked : List ℕ → Bool → Spot → List ℕ
 relinked s false x = s
-relinked s true x = relink s (forwardWord (x .block) 0) (x .number)
+relinked s true x = backLinked s (forwardWord (x .block) 0) (x .number)
 
 unfoldable pub writtenBy : Format → List ℕ → Head → Plan → List ℕ
 writtenBy f s h p =
-    putRoot
+    putHead
     (releaseNodes
     (releasePages f
     (relinked (putSpots (putOwn f (h .capacity) s (p .page) (p .items)) (p .spots)) (p .linked) (firstSpot (p .spots)))

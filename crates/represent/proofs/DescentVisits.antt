@@ -123,7 +123,7 @@ module _ (f : Format) (s : List ℕ) (b0 : Trie Stretch) (bs : List (Trie ℕ)) 
       pub own-room : depth b key + height (under b u key) ≤ width f
       own-room = omega (arith, height-under (Shows (suc l)) b u key over)
 
-      own-entry : entryOf s (nodeStart h (leafAt b key)) (entryNumber (width f) k (depth b key) (height (under b u key)))
+      pub own-entry : entryOf s (nodeStart h (leafAt b key)) (entryNumber (width f) k (depth b key) (height (under b u key)))
           ≡ (depth u key - depth b key, leafAt u key)
       own-entry =
           let v : Trie ℕ = under b u key in

@@ -39,7 +39,7 @@ module _ (f : Format) (s : List ℕ) (b0 : Trie Stretch) (b : Trie ℕ) (bs : Li
   h = headOf s
 
   -- a level-1 node shows some trie
-  level-1 : (n : ℕ) → 1 ≤ occ n b → (v : Trie ℕ) × NodeIs (h .theta) (nodeAt s h n) 1 v
+  pub level-1 : (n : ℕ) → 1 ≤ occ n b → (v : Trie ℕ) × NodeIs (h .theta) (nodeAt s h n) 1 v
   level-1 n o = over-in (λ n v. NodeIs (h .theta) (nodeAt s h n) 1 v) b (numbers b0) n o (r .directory .nodes .0)
 
   pub rep-linked : Linked (backAt s) (forwardAt s) 0 (labels b)

@@ -90,7 +90,7 @@ module _ (f : Format) (s : List ℕ) (b0 : Trie Stretch) (all : List (Trie ℕ))
   node = nodeAt s h
 
   -- a label of the levels is the number of a taken node
-  taken : (n : ℕ) → 1 ≤ occs n all → (1 ≤ n) × (n ≤ h .nodesTaken)
+  pub taken : (n : ℕ) → 1 ≤ occs n all → (1 ≤ n) × (n ≤ h .nodesTaken)
   taken n o = (label-low all n (r .directory .positive) o, label-high (h .nodesTaken) (λ x. occs x all + count x (releasedNodes s)) n (r .directory .oneForOne .none) (omega arith))
 
   rule-at : (n level : ℕ) (v : Trie ℕ) → 1 ≤ occs n all → NodeIs (h .theta) (node n) level v

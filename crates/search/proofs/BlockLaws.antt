@@ -1,5 +1,5 @@
 -- A node block that is lent as a part of the store, nd: what the code reads in it is what the definitions read in the store.
-use mathlib.Core.Path.{_≡_, sym, ap, _∙_}
+use mathlib.Core.Path.{_≡_, refl, sym, ap, _∙_}
 use mathlib.Core.Bool.{Bool, true, false, _&&_}
 use mathlib.Core.List.{List}
 use Prim.Native.Nat.{ℕ, _+_, _*_, _^_, _≤_, _<_}
@@ -17,7 +17,7 @@ use Rattle.store.proofs.Places.{under-limits, under-counts, node-length}
 use Rattle.node.specs.Node.{depthWord, linkRule, pointerHigh, nodeRule, entryNumber}
 use Rattle.node.proofs.EntryNumber.{entry-below}
 use Rattle.node.proofs.InPlace.{rule-in-place, depth-in-place, entry-in-place}
-use Rattle.search.specs.Descent.{entryVisit, limitsOf, soundNode, ownVisit}
+use Rattle.search.specs.Descent.{entryVisit, limited, limitsOf, soundNode, ownVisit}
 
 -- the limits that a test of a node asks
 pub under-node : {f : Format} {s : List ℕ} {h : Head} → Under f s h
@@ -41,6 +41,12 @@ under-levels {f} {s} {h} u =
 pub root-in-use : {f : Format} {s : List ℕ} {h : Head} → Under f s h → InUse h (h .root)
 root-in-use u = let c = under-counts u in record { positive = c .root-low; within = c .root }
 
+-- the same of a head with just those
+pub limits-asked : {θ nodes pages : ℕ} (nd : List ℕ) → θ ≤ 6 → nodes ≤ 4096 → pages ≤ 4096 → length nd ≡ nodeWords θ → {l : Head}
+    → l ≡ limited θ nodes pages → (l .theta ≤ 6) × (l .nodesTaken ≤ 4096) × (l .pagesTaken ≤ 4096) × (length nd ≡ nodeWords (l .theta))
+unfolding limited
+limits-asked nd a b c d e = rw e (a, b, c, d)
+
 module _ {f : Format} {s : List ℕ} {h : Head} (u : Under f s h) {n : ℕ} (i : InUse h n) {nd : List ℕ} (e : nd ≡ nodeAt s h n) where
   pub block-long : length nd ≡ nodeWords (h .theta)
   block-long = ap length e ∙ node-length u i
@@ -56,25 +62,16 @@ module _ {f : Format} {s : List ℕ} {h : Head} (u : Under f s h) {n : ℕ} (i :
   block-depth = ap (λ ws. getD ws 0 0) e ∙ depth-in-place u i
 
   -- the limits of the head are enough for its rule
-  module _ {l : Head} (el : l ≡ limitsOf h) (level : ℕ) where
-    pub limits-rule : nodeRule l nd 0 level ≡ nodeRule h nd 0 level
-    unfolding limitsOf nodeRule linkRule pointerHigh
-    limits-rule = ap (λ x. nodeRule x nd 0 level) el
+  module _ (level : ℕ) where
+    pub limits-rule : nodeRule (limitsOf h) nd 0 level ≡ nodeRule h nd 0 level
+    unfolding limited nodeRule linkRule pointerHigh
+    limits-rule = refl
 
     -- what is asked of a block whose rule is to be tested
     pub block-tested : (b : Bool) → (b ≡ false → nodeRule h s (nodeStart h n) level ≡ true)
-        → (l .theta ≤ 6) × (l .nodesTaken ≤ 4096) × (l .pagesTaken ≤ 4096) × (length nd ≡ nodeWords (l .theta))
-        × (b ≡ false → nodeRule l nd 0 level ≡ true)
-    unfolding limitsOf
-    block-tested b t =
-        let q = under-node u in
-        let is : l .theta ≡ h .theta = ap (λ x. x .theta) el in (
-          omega (arith, is, q .0),
-          omega (arith, ap (λ x. x .nodesTaken) el, q .1),
-          omega (arith, ap (λ x. x .pagesTaken) el, q .2),
-          block-long ∙ ap nodeWords (sym is),
-          λ p. limits-rule ∙ block-rule level ∙ t p,
-        )
+        → (h .theta ≤ 6) × (h .nodesTaken ≤ 4096) × (h .pagesTaken ≤ 4096) × (length nd ≡ nodeWords (h .theta))
+        × (b ≡ false → nodeRule (limitsOf h) nd 0 level ≡ true)
+    block-tested b t = let q = under-node u in (q .0, q .1, q .2, block-long, λ p. limits-rule ∙ block-rule level ∙ t p)
 
   module _ (level used : ℕ) where
     pub block-broken : nodeRule h nd 0 level ≡ false → false ≡ soundNode f s h level n used

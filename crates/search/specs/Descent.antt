@@ -7,7 +7,8 @@
 --   noStep, noSteps              == a step not taken; a path before its first step
 --   damagedNode, entryVisit s b i == what a visit gives: damage, or entry i of the node block at b
 --   stepTaken steps l n used v   == the path with the step of level l + 1
---   limitsOf h                   == the numbers of the head that the node rule asks for
+--   limited θ nodes pages        == a head with just the numbers that the node rule asks for
+--   limitsOf h                   == that of the head h
 --   soundNode f s h level n used == node n, reached after the used bits, keeps the rules of a node on a path at this level
 --   TerminalNode h s n           == n is a terminal (level-1) node in use that keeps the node rule
 --   terminalFrom f s h k l n used == the terminal node of the key k, from node n on, which is l levels above it
@@ -46,18 +47,21 @@ damagedNode = record { ok = false; entry = 0; depth = 0; pointer = 0 }
 unfoldable pub entryVisit : List ℕ → ℕ → ℕ → Visit
 entryVisit s b i = record { ok = true; entry = i; depth = entryDepth s b i; pointer = entryPointer s b i }
 
-unfoldable pub limitsOf : Head → Head
-limitsOf h =
+unfoldable pub limited : ℕ → ℕ → ℕ → Head
+limited θ nodes pages =
     record {
-      theta = h .theta;
+      theta = θ;
       capacity = 0;
       nodeBlocks = 0;
       pageBlocks = 0;
-      nodesTaken = h .nodesTaken;
-      pagesTaken = h .pagesTaken;
+      nodesTaken = nodes;
+      pagesTaken = pages;
       root = 0;
       levels = 0;
     }
+
+abbrev pub limitsOf : Head → Head
+limitsOf h = limited (h .theta) (h .nodesTaken) (h .pagesTaken)
 
 -- "On a path, the bits used before a node and its H together are at most 32"
 abbrev pub soundNode : Format → List ℕ → Head → ℕ → ℕ → ℕ → Bool

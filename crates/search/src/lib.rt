@@ -11,7 +11,7 @@ ghost use Rattle.store.specs.Format.{width, words};
 ghost use Rattle.store.specs.Head.{largestCapacity, nodeWords, nodeStart, pageAt, InUse, Under};
 ghost use Rattle.node.specs.Node.{depthWord, nodeRule};
 ghost use Rattle.page.specs.Page.{pageRule, Lent, Filled};
-ghost use Rattle.search.specs.Descent.{limitsOf, soundNode, TerminalNode, stepOf, lost, descent, endOf, terminal, ownVisit};
+ghost use Rattle.search.specs.Descent.{limited, soundNode, TerminalNode, stepOf, lost, descent, endOf, terminal, ownVisit};
 ghost use Rattle.search.specs.Find.{reply, soughtReply, soundPage, inPage, findOf, findReply};
 ghost use Rattle.search.specs.Next.{firstPointer, runAfter, runBehind, linked, pointerFrom, onward, reach, nextOf, nextReply};
 ghost use Rattle.search.specs.declared.Reached.the-variants.{Broken};
@@ -99,31 +99,31 @@ pub enum FindAnswer {
     DamageMet,
 }
 
-// The numbers of a head that the node rule asks for. A head that is handed on as a whole is copied by wider words than it was stored by, and
-// the copy waits for them.
-fn limits(head: Head) -> Head
-    ensures { λ r. ⌜ r ≡ limitsOf head ⌝ }
+// A head with just the numbers that the node rule asks for.
+fn limits(theta: u32, nodes: u32, pages: u32) -> Head
+    ensures { λ r. ⌜ r ≡ limited theta nodes pages ⌝ }
 {
     Head {
-        theta: head.theta,
+        theta,
         capacity: 0,
         nodeBlocks: 0,
         pageBlocks: 0,
-        nodesTaken: head.nodesTaken,
-        pagesTaken: head.pagesTaken,
+        nodesTaken: nodes,
+        pagesTaken: pages,
         root: 0,
         levels: 0,
     }
 }
 
-// Whether a node block keeps the rule of a visited node of this level.
-fn node_passes(node: &[u32], head: Head, level: u32, checked: bool) -> bool
-    requires { ⌜ (head .theta ≤ 6) × (head .nodesTaken ≤ 4096) × (head .pagesTaken ≤ 4096)
-        × (length (now node) ≡ nodeWords (head .theta)) × (checked ≡ false → nodeRule head (now node) 0 level ≡ true) ⌝ }
-    ensures { λ r. ⌜ r ≡ nodeRule head (now (node .entry)) 0 level ⌝ }
+// Whether a node block keeps the rule of a visited node of this level. The head's numbers are handed on one by one: a head that is handed on
+// as a whole is copied by wider words than it was stored by, and the copy waits for them.
+fn node_passes(node: &[u32], theta: u32, nodes: u32, pages: u32, level: u32, checked: bool) -> bool
+    requires { ⌜ (theta ≤ 6) × (nodes ≤ 4096) × (pages ≤ 4096) × (length (now node) ≡ nodeWords theta)
+        × (checked ≡ false → nodeRule (limited theta nodes pages) (now node) 0 level ≡ true) ⌝ }
+    ensures { λ r. ⌜ r ≡ nodeRule (limited theta nodes pages) (now (node .entry)) 0 level ⌝ }
 {
     if checked {
-        return node::node_ok(node, head, level);
+        return node::node_ok(node, limits(theta, nodes, pages), level);
     }
     true
 }
@@ -142,8 +142,18 @@ fn passes(
         × (checked ≡ false → soundNode f (now store) head level n used ≡ true) ⌝ }
     ensures { λ r. ⌜ r ≡ soundNode f (now (store .entry)) head level n used ⌝ }
 {
+    if !checked {
+        return true;
+    }
     let node = store::node_at(store, f, head, n);
-    if !node_passes(node, limits(head), level, checked) {
+    if !node_passes(
+        node,
+        head.theta,
+        head.nodesTaken,
+        head.pagesTaken,
+        level,
+        true,
+    ) {
         return false;
     }
     used + node[0] <= store::width_of(f)
@@ -430,7 +440,14 @@ fn is_linked(store: &[u32], f: Format, head: Head, m: u32, n: u32, checked: bool
     ensures { λ r. ⌜ r ≡ linked head (now (store .entry)) m n ⌝ }
 {
     let node = store::node_at(store, f, head, m);
-    if !node_passes(node, limits(head), 1, checked) {
+    if !node_passes(
+        node,
+        head.theta,
+        head.nodesTaken,
+        head.pagesTaken,
+        1,
+        checked,
+    ) {
         return false;
     }
     node[2] == n
@@ -635,7 +652,7 @@ pub fn span_behind(
 }
 
 // The records that follow a key, whose terminal node is t, in its own page or the one after it. The node is handed on number by number, as
-// the head's limits are.
+// the head's are.
 pub fn span_at(
     store: &[u32],
     f: Format,

@@ -92,7 +92,7 @@ module _ (next next′ : ℕ → ℕ) where
       ap (λ ns. name ∷ ns)
       (ap (chainOf next′ n) (h name (omega (arith, ind-self name))) ∙ chain-same n (next name) (λ x o. h x (omega arith)))
 
-  after-same : (n name : ℕ) → ((x : ℕ) → 1 ≤ count x (chainOf next n name) → next′ x ≡ next x) → afterAll next′ n name ≡ afterAll next n name
+  pub after-same : (n name : ℕ) → ((x : ℕ) → 1 ≤ count x (chainOf next n name) → next′ x ≡ next x) → afterAll next′ n name ≡ afterAll next n name
   unfolding chainOf afterAll
   after-same zero name h = refl
   after-same (suc n) name h =

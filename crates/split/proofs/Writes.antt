@@ -4,20 +4,20 @@
 --   Two s s′ n ws ws′ == the blocks ws at n and ws′ at the number that is taken
 --   Relinked s s′ q m == the block q, if it is one, is linked back to m
 use mathlib.Core.Path.{_≡_, refl, sym, ap, _∙_, subst}
-use mathlib.Core.List.{List, [], _∷_}
-use Prim.Native.Nat.{ℕ, suc, _+_, _≤_, _<_}
+use mathlib.Core.List.{List, _∷_}
+use Prim.Native.Nat.{ℕ, _+_, _≤_, _<_}
 use native.Mathlib.Omega.{arith}
-use native.Mathlib.Decide.{ℕ-discrete, decLe}
+use native.Mathlib.Decide.{ℕ-discrete}
 use lib.ListN.{length, drop}
 use lib.Seq.{drop-drop}
 use borrow.Author.Tests.{eq-eqb, ne-eqb}
 use Rattle.tree.specs.Trie.{Trie}
 use Rattle.node.specs.Node.{forwardWord}
-use Rattle.represent.specs.Labelled.{count, ind, occs}
+use Rattle.represent.specs.Labelled.{count, ind}
 use Rattle.represent.specs.Image.{NodeIs}
-use Rattle.represent.proofs.LabelLaws.{Numbered, ind-self, ind-other, label-high}
+use Rattle.represent.proofs.LabelLaws.{Numbered, ind-self, label-high}
 use Rattle.represent.proofs.Counting.{listed-low}
-use Rattle.split.specs.Round.{NodeOps, NodeLaws, StoreOps, Put, Headed, Taken, StoreLaws, Changed, nextNode, takeNode, putBoth, relink}
+use Rattle.split.specs.Round.{NodeOps, NodeLaws, StoreOps, Put, StoreLaws, Changed, nextNode, takeNode, putBoth, relink}
 use Rattle.split.proofs.Blocks.{linked-written}
 use Rattle.split.proofs.CarriedLaws.{count-drop}
 
@@ -47,14 +47,6 @@ module _ {m : ℕ} {ns : List ℕ} (n : ℕ) (rest : List ℕ) (e : ns ≡ n ∷
 
   pub first-gone : count n rest ≡ 0
   first-gone = omega (arith, count-is n, ind-self n, y .once n)
-
-  pub rest-spares : Spares m rest
-  rest-spares =
-      record {
-        once = λ x. omega (arith, count-is x, y .once x);
-        none = λ x l. omega (arith, count-is x, y .none x l);
-        positive = omega (arith, count-is 0, y .positive);
-      }
 
   pub rest-gone : (x : ℕ) → count x ns ≡ 0 → count x rest ≡ 0
   rest-gone x z = omega (arith, count-is x)

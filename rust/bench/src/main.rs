@@ -9,6 +9,7 @@ mod sqlite;
 mod work;
 
 use index::{Index, Map, Plain, Proved, THETA};
+use plots::Record;
 use std::fmt::Write;
 use std::hint::black_box;
 use std::time::Instant;
@@ -32,16 +33,18 @@ fn open_sqlite() -> Option<Sqlite> {
 
 /// Records a page: the most that there may be.
 const CAPACITY: u32 = 24;
-/// "replace" removes a record and enters it again, "remove all" empties the index.
-const OPERATIONS: [&str; 8] =
-    ["enter", "find held", "find absent", "next", "range", "summary", "replace", "remove all"];
+/// "remove no join" takes out records after which nothing joins, "enter no split" enters them again; "remove all" empties
+/// the index.
+const OPERATIONS: [&str; 9] =
+    ["enter", "find held", "find absent", "next", "range", "summary", "enter no split", "remove no join", "remove all"];
 const ENTER: usize = 0;
-const REPLACE: usize = 6;
-const REMOVE_ALL: usize = 7;
+const ENTER_AGAIN: usize = 6;
+const REMOVE_APART: usize = 7;
+const REMOVE_ALL: usize = 8;
 const COLUMNS: [&str; 4] = ["proved", "plain", "BTreeMap", "SQLite"];
 
 /// Nanoseconds by operation; per record for range and summary.
-type Times = [f64; 8];
+type Times = [f64; 9];
 
 /// What the tree of a set takes.
 struct Shape {
@@ -85,32 +88,65 @@ fn answers(index: &mut impl Index, work: &Work) -> u64 {
     sum
 }
 
+/// Records that may go in this order with no join, an eighth of all at most: of a filled index the head and the nodes stay
+/// as they are.
+fn apart(index: &mut Proved, work: &Work) -> Vec<Record> {
+    let directory = |index: &Proved| {
+        let words = index.words();
+        words[..16 + words[4] as usize * (4 + (2 << THETA))].to_vec()
+    };
+    let mut records = Vec::new();
+    let mut before = directory(index);
+    for &key in work.held.iter().take(work.held.len() / 8) {
+        let record = index.remove(key).expect("a held key");
+        if directory(index) == before {
+            records.push(record);
+        } else {
+            assert!(index.enter(record));
+            before = directory(index);
+        }
+    }
+    records
+}
+
 /// Times each operation some passes and keeps the least.
-fn measure(index: &mut impl Index, work: &Work, passes: usize, best: &mut Times) {
-    let count = work.records.len() as f64;
+fn measure(index: &mut impl Index, work: &Work, apart: &[Record], passes: usize, best: &mut Times) {
     let mut out = vec![0; 4 * work.records.len()];
     for (operation, best) in best.iter_mut().enumerate() {
+        let count = if matches!(operation, ENTER_AGAIN | REMOVE_APART) { apart.len() } else { work.records.len() };
         for _ in 0..passes {
-            prepare(index, work, operation);
+            prepare(index, work, apart, operation);
             let start = Instant::now();
-            perform(index, work, operation, &mut out);
-            *best = best.min(start.elapsed().as_nanos() as f64 / count);
+            perform(index, work, apart, operation, &mut out);
+            *best = best.min(start.elapsed().as_nanos() as f64 / count as f64);
         }
     }
 }
 
+/// Removes each record and enters it again.
+fn replace(index: &mut impl Index, work: &Work) {
+    for &key in &work.held {
+        let record = index.remove(key).expect("a held key");
+        assert!(index.enter(record));
+    }
+}
+
 /// Makes an index ready for one pass of an operation.
-fn prepare(index: &mut impl Index, work: &Work, operation: usize) {
+fn prepare(index: &mut impl Index, work: &Work, apart: &[Record], operation: usize) {
     match operation {
         ENTER => index.clear(),
-        REMOVE_ALL => assert!(fill(index, work)),
+        ENTER_AGAIN => {
+            assert!(fill(index, work));
+            perform(index, work, apart, REMOVE_APART, &mut []);
+        }
+        REMOVE_APART | REMOVE_ALL => assert!(fill(index, work)),
         _ => (),
     }
 }
 
 /// One pass of an operation over all keys.
 #[inline]
-fn perform(index: &mut impl Index, work: &Work, operation: usize, out: &mut [u32]) {
+fn perform(index: &mut impl Index, work: &Work, apart: &[Record], operation: usize, out: &mut [u32]) {
     match operation {
         ENTER => work.records.iter().for_each(|&record| assert!(index.enter(black_box(record)))),
         1 => work.held.iter().for_each(|&key| _ = black_box(index.find(black_box(key)))),
@@ -118,10 +154,8 @@ fn perform(index: &mut impl Index, work: &Work, operation: usize, out: &mut [u32
         3 => work.held.iter().for_each(|&key| _ = black_box(index.next(black_box(key)))),
         4 => assert_eq!(index.range(black_box(0), u32::MAX, black_box(out)), work.records.len()),
         5 => _ = black_box(index.summary(black_box(0), u32::MAX, work.today)),
-        REPLACE => work.held.iter().for_each(|&key| {
-            let record = index.remove(black_box(key)).expect("a held key");
-            assert!(index.enter(record));
-        }),
+        ENTER_AGAIN => apart.iter().for_each(|&record| assert!(index.enter(black_box(record)))),
+        REMOVE_APART => apart.iter().for_each(|record| assert!(index.remove(black_box(record.key)).is_some())),
         _ => work.held.iter().for_each(|&key| assert!(index.remove(black_box(key)).is_some())),
     }
 }
@@ -145,9 +179,9 @@ fn run(pattern: Pattern, capacity: u32, count: usize, rounds: usize) -> Row {
     if fits {
         assert_eq!(answers(&mut proved, work), expected, "the proved library's answers differ");
         assert_eq!(answers(&mut plain, work), expected, "plain Rust's answers differ");
-        perform(&mut proved, work, REPLACE, &mut []);
+        replace(&mut proved, work);
         assert_eq!(answers(&mut proved, work), expected, "the proved library's answers differ after removals");
-        perform(&mut plain, work, REPLACE, &mut []);
+        replace(&mut plain, work);
         assert_eq!(answers(&mut plain, work), expected, "plain Rust's answers differ after removals");
     }
     if let Some(sqlite) = &mut sqlite {
@@ -155,17 +189,18 @@ fn run(pattern: Pattern, capacity: u32, count: usize, rounds: usize) -> Row {
         assert_eq!(answers(sqlite, work), expected, "SQLite's answers differ");
     }
     let shape = fits.then(|| shape(proved.words(), count));
+    let apart = if fits { apart(&mut proved, work) } else { work.records[..count / 8].to_vec() };
 
     let passes = (20_000 / count).max(1);
-    let mut times = [[f64::MAX; 8]; 4];
+    let mut times = [[f64::MAX; 9]; 4];
     for _ in 0..rounds {
         if fits {
-            measure(&mut proved, work, passes, &mut times[0]);
-            measure(&mut plain, work, passes, &mut times[1]);
+            measure(&mut proved, work, &apart, passes, &mut times[0]);
+            measure(&mut plain, work, &apart, passes, &mut times[1]);
         }
-        measure(&mut map, work, passes, &mut times[2]);
+        measure(&mut map, work, &apart, passes, &mut times[2]);
         if let Some(sqlite) = &mut sqlite {
-            measure(sqlite, work, passes, &mut times[3]);
+            measure(sqlite, work, &apart, passes, &mut times[3]);
         }
     }
     let times = times.map(|times| (times[0] < f64::MAX).then_some(times));
@@ -205,11 +240,11 @@ fn print_tables(rows: &[Row]) {
         }
     }
     println!("\nns, and in brackets the ratio to plain Rust; range and summary: all records, ns per record\n");
-    println!("| operation   |    keys |          proved |  plain |        BTreeMap |          SQLite |");
-    println!("|-------------|--------:|----------------:|-------:|----------------:|----------------:|");
+    println!("| operation      |    keys |          proved |  plain |        BTreeMap |          SQLite |");
+    println!("|----------------|--------:|----------------:|-------:|----------------:|----------------:|");
     for (operation, name) in OPERATIONS.iter().enumerate() {
         for row in rows {
-            print!("| {name:11} | {:>7} |", commas(row.count));
+            print!("| {name:14} | {:>7} |", commas(row.count));
             let plain = measured(row, 1, operation);
             for column in 0..COLUMNS.len() {
                 let cell = match measured(row, column, operation) {
@@ -269,9 +304,10 @@ fn profile(name: &str, bursts: bool) {
     let mut proved = Proved::new(CAPACITY);
     assert!(fill(&mut proved, &work));
     let mut out = vec![0; 4 * work.records.len()];
+    let apart = apart(&mut proved, &work);
     for _ in 0..20 {
-        prepare(&mut proved, &work, operation);
-        perform(&mut proved, &work, operation, &mut out);
+        prepare(&mut proved, &work, &apart, operation);
+        perform(&mut proved, &work, &apart, operation, &mut out);
     }
 }
 
@@ -282,7 +318,9 @@ fn main() {
         match argument.as_str() {
             "--quick" => quick = true,
             "--csv" => file = arguments.next(),
-            "--profile" => return profile(&arguments.next().unwrap_or_default(), arguments.next().as_deref() == Some("bursts")),
+            "--profile" => {
+                return profile(&arguments.next().unwrap_or_default(), arguments.next().as_deref() == Some("bursts"));
+            }
             _ => {
                 eprintln!("bench: [--quick] [--csv FILE], or --profile OPERATION [bursts]");
                 process::exit(2);

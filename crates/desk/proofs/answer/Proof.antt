@@ -9,7 +9,7 @@ use Rattle.scan.specs.Summary.{SummaryReply}
 use Rattle.scan.proofs.Promises.{summary-count}
 use Rattle.desk.specs.declared.Outcome.{Outcome}
 use Rattle.desk.specs.declared.Outcome.the-variants.{Line}
-use Rattle.desk.specs.Replies.{setUpTold, enterTold, findTold, nextTold, summaryTold}
+use Rattle.desk.specs.Replies.{setUpTold, enterTold, foundTold, summaryTold}
 use Rattle.desk.specs.Transcript.{answered}
 use Rattle.desk.proofs.answer.Statement.{statement}
 use Rattle.desk.proofs.answer.Tie as tie
@@ -42,13 +42,13 @@ returns-3 : tie.Need-returns-3
 unfolding answered
 returns-3 c =
     let q = c .before .before .before .before in
-    told-as _ (q .request3 .given .1) (ap Line (c .find-told .ensures ∙ ap findTold (c .before .find .ensures))) refl refl
+    told-as _ (q .request3 .given .1) (ap Line (c .found-told .ensures ∙ ap (foundTold 2) (c .before .find .ensures))) refl refl
 
 returns-4 : tie.Need-returns-4
 unfolding answered
 returns-4 c =
     let q = c .before .before .before .before in
-    told-as _ (q .request4 .given .1) (ap Line (c .next-told .ensures ∙ ap nextTold (c .before .next .ensures))) refl refl
+    told-as _ (q .request4 .given .1) (ap Line (c .found-told2 .ensures ∙ ap (foundTold 3) (c .before .next .ensures))) refl refl
 
 returns-5 : tie.Need-returns-5
 unfolding answered
@@ -67,14 +67,16 @@ returns-7 c = told-as _ (c .before .before .enum-told .given .1) (c .open-dump .
 
 returns-8 : tie.Need-returns-8
 unfolding answered
-returns-8 c = told-as _ (c .enum-told2 .given .1) refl refl refl
+returns-8 c =
+    let e = c .before .before .before in
+    told-as _ (e .before .before .before .request7 .given .1) (ap Line (c .found-told3 .ensures ∙ ap (foundTold 7) (e .remove .ensures .0)))
+    (e .remove .ensures .1) refl
+
+returns-9 : tie.Need-returns-9
+unfolding answered
+returns-9 c = told-as _ (c .enum-told2 .given .1) refl refl refl
 
 pub answer-spec : {M : Type 1} → statement M
 answer-spec =
     tie.close
-    (tie.spec (λ c. search needs) (λ c κs. search needs) (λ c κs. search needs) (λ c. search needs) (λ c κs. search needs)
-    (λ c κs. search needs) (λ c. search needs) (λ c κs. search needs) (λ c κs. search needs) (λ c. search needs) (λ c κs. search needs)
-    (λ c κs. search needs) (λ c. search needs) (λ c κs. search needs) (λ c. search needs) (λ c κs. search needs) summary-told-requires
-    (λ c. search needs) (λ c κs. search needs) (λ c. search needs) (λ c. search needs) returns (λ c. search needs) returns-2
-    (λ c. search needs) returns-3 (λ c. search needs) returns-4 (λ c. search needs) returns-5 (λ c. search needs) returns-6
-    (λ c. search needs) returns-7 returns-8)
+    (tie.spec (λ c. search needs) (λ c κs. search needs) (λ c κs. search needs) (λ c. search needs) (λ c κs. search needs) (λ c κs. search needs) (λ c. search needs) (λ c κs. search needs) (λ c κs. search needs) (λ c. search needs) (λ c κs. search needs) (λ c κs. search needs) (λ c. search needs) (λ c κs. search needs) (λ c. search needs) (λ c κs. search needs) summary-told-requires (λ c. search needs) (λ c κs. search needs) (λ c. search needs) (λ c κs. search needs) (λ c κs. search needs) (λ c. search needs) (λ c. search needs) returns (λ c. search needs) returns-2 (λ c. search needs) returns-3 (λ c. search needs) returns-4 (λ c. search needs) returns-5 (λ c. search needs) returns-6 (λ c. search needs) returns-7 (λ c. search needs) returns-8 returns-9)

@@ -7,7 +7,7 @@ use native.Mathlib.Omega.{arith}
 use lib.ListN.{length, getD, take, drop}
 use Rattle.lists.specs.Lists.{All}
 use Rattle.remove.specs.Remove.{Reach}
-use Rattle.removal_plan.specs.Pages.{pagesBy, Joinable}
+use Rattle.siblings.specs.Pages.{pagesBy, Joinable}
 use Rattle.gather.specs.Gather.{startOf}
 use Rattle.gather.proofs.GatherLaws.{Gathering, gathering-start, gathering-room, gathering-on, gathering-out, rest-next, rest-out, all-next}
 use Rattle.gather.proofs.gather_page.Statement.{statement}

@@ -8,7 +8,7 @@ use Rattle.page.specs.Page.{count}
 use Rattle.search.proofs.BlockLaws.{under-page}
 use Rattle.represent.specs.Image.{pageImage}
 use Rattle.insert.specs.Enter.{ownItems}
-use Rattle.unput.specs.Added.{added}
+use Rattle.merge.specs.Added.{added}
 use Rattle.remove.specs.Remove.{Pages}
 use Rattle.gather.specs.Gather.{Holds}
 use Rattle.gather.proofs.GatherLaws.{page-long, own-image, own-count, turn-null, turn-fresh, turn-both}

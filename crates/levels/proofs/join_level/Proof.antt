@@ -23,14 +23,15 @@ returns c =
     let a = s .args in (
       level-rests (a .f) (a .store .now) (a .head) (a .key) (a .level) (a .t) (a .m) (a .q) (a .joins) _ (a .gone .now) (a .marks .now) (a .at)
           (not-true _ (c .if1 .taken)) (s .pre .0 .head) (n .take-node .ensures .0),
-      λ o. refl,
+      (λ o. refl),
+      s .pre .12,
     )
 
 join-nodes-requires : tie.Need-join-nodes-requires
 join-nodes-requires c κs =
     let n = c .before .before .before .before .before .before .before in
     let p = call n .pre in
-    (p .0, p .2, p .3, p .4, p .5, p .6, ap length (n .take-node .ensures .0) ∙ cover-long _ _ _ _ _, p .8, n .take-node .ensures .1, p .10, p .11)
+    (p .0, p .2, p .3, p .4, p .5, p .6, ap length (n .take-node .ensures .0) ∙ cover-long _ _ _ _ _, p .8, n .take-node .ensures .1, p .10, p .11, p .12)
 
 returns-2 : tie.Need-returns-2
 returns-2 c =
@@ -42,6 +43,7 @@ returns-2 c =
       level-joins (a .f) (a .store .now) (a .head) (a .key) (a .level) (a .t) (a .m) (a .q) (a .joins) _ _ (a .gone .now) _ (a .marks .now) _ (a .at)
           (j .join-nodes .result) (not-false _ (e .if1 .left)) (s .pre .0 .head) (n .take-node .ensures .0) (j .join-nodes .ensures .0),
       j .join-nodes .ensures .1,
+      j .join-nodes .ensures .2,
     )
 
 pub join-level-spec : {M : Type 1} → statement M

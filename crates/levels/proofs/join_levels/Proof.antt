@@ -15,7 +15,7 @@ use Rattle.store.specs.Format.{width}
 use Rattle.store.specs.Head.{word}
 use Rattle.search.specs.Descent.{noStep}
 use Rattle.remove.specs.Remove.{Reach, levelsFrom}
-use Rattle.removal_plan.specs.Marks.{Tracks}
+use Rattle.siblings.specs.Marks.{Tracks, Passed}
 use Rattle.levels.specs.declared.Rise.{Rise}
 use Rattle.levels.proofs.PathFacts.{below, below-next, PathFine, path-fine}
 use Rattle.levels.proofs.LevelLaws.{Rising, rising-start, rising-lost, rising-on, rising-stays, rising-out, levelled-lost, path-stays, numbers-above, numbers-taken, ends-on, ends-in}
@@ -29,7 +29,7 @@ Inv-loop store f head key used m q numbers₀ blocks₀ spare₀ marks₀ gone�
     × ((j : ℕ) → l ≤ j → j < head .levels → word numbers j ≡ getD steps j noStep .node)
     × ((rs : List Reach) → Tracks (width f) key rs marks₀
     → Rising f store head key (take (head .levels) steps) (levelsFrom f store head key 1 (take (head .levels) steps) m q (ltb m used) rs) l w numbers blocks
-    gone marks)
+    gone marks) × Passed f store head marks
 
 abbrev μ-loop : tie.MeasureT-loop
 μ-loop store f head key used m q numbers₀ blocks₀ spare₀ marks₀ gone₀ steps levels w₀ l₀ numbers blocks spare marks gone w l = levels - l
@@ -86,8 +86,9 @@ loop-holds c =
       omega (arith, ap (λ (w : Rise). w .end) e),
       omega (arith, ap (λ (w : Rise). w .bits) e, s .pre .5),
       λ j p q. n .path-numbers .ensures j q,
-      λ rs y. rising-start (a .f) (a .store .now) (a .head) (a .key) (take (a .head .levels) (a .t5)) (a .m) (a .q) (ltb (a .m) (a .used)) _ (a .blocks .now)
-          (a .gone .now) (a .marks .now) rs e y,
+      (λ rs y. rising-start (a .f) (a .store .now) (a .head) (a .key) (take (a .head .levels) (a .t5)) (a .m) (a .q) (ltb (a .m) (a .used)) _ (a .blocks .now)
+          (a .gone .now) (a .marks .now) rs e y),
+      s .pre .12,
     )
 
 array-copy-out-t : tie.Need-array-copy-out-t Inv-loop μ-loop
@@ -112,6 +113,7 @@ level-turn-requires c κs =
       y .fine (l .w .bits) (l .inv .7),
       omega (arith, ends-in (width (s .args .f)) (l .l) (s .args .head .levels) (l .w .end) _ (inside i) (l .inv .6) (y .within), l .inv .5, p .10),
       omega (arith, l .inv .5, p .11),
+      l .inv .10,
     )
 
 -- the numbers of levels are small
@@ -202,7 +204,8 @@ loop-again c =
       ends-on (width (a .f)) (l .l) (l .w .end) (r .end) (r .bits) _ (l .inv .6) within (v .3 o),
       below-next (a .used) (a .t5) (l .l) (r .bits) fell,
       numbers-above (a .t5) (a .head .levels) (l .l) (r .pointer) (l .numbers) (v .4) (l .inv .8),
-      λ rs y. let z = l .inv .9 rs y in rising-on z (in-path i) here (v .0 (z .reaches) (z .tracked)) (v .4) (in-numbers i) (v .5) o fell joins,
+      (λ rs y. let z = l .inv .9 rs y in rising-on z (in-path i) here (v .0 (z .reaches) (z .tracked)) (v .4) (in-numbers i) (v .5) o fell joins),
+      v .6,
     )
 
 same-length-6 : tie.Need-same-length-6 Inv-loop μ-loop

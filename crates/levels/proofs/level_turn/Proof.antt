@@ -28,7 +28,7 @@ join-level-requires : tie.Need-join-level-requires
 join-level-requires c κs =
     let n = c .before .before .before .before in
     let p = call n .pre in
-    (p .0, p .1, p .2, p .3, omega arith, omega (arith, p .4), p .8, long n, p .7, p .9, p .10, p .11)
+    (p .0, p .1, p .2, p .3, omega arith, omega (arith, p .4), p .8, long n, p .7, p .9, p .10, p .11, p .12)
 
 mul-numbers : tie.Need-mul-numbers
 mul-numbers c =
@@ -49,13 +49,14 @@ returns c =
     (ap (λ w. 132 * a .l + w) (n .node-words .ensures .0)) in
     let same = j .join-level .kept .1 .1 .1 .1 .1 .1 .1 .1 .1 .0 ∙ long n in
     let small = under-node (s .pre .0) .0 in (
-      λ rs y. turned (a .f) (a .key) θ (a .l) _ (a .w) (j .join-level .result) (c .joined .result) hand _ (a .gone .now) _ _
-          (block-here θ (a .blocks .now) hand (a .l) small (s .pre .6) same back) (j .join-level .ensures .0 rs y),
+      (λ rs y. turned (a .f) (a .key) θ (a .l) _ (a .w) (j .join-level .result) (c .joined .result) hand _ (a .gone .now) _ _
+          (block-here θ (a .blocks .now) hand (a .l) small (s .pre .6) same back) (j .join-level .ensures .0 rs y)),
       c .joined .ensures .0,
       c .joined .ensures .1,
       j .join-level .ensures .1,
       refl,
       block-beside θ (a .blocks .now) hand (a .l) small (s .pre .6) same back,
+      j .join-level .ensures .2,
     )
 
 pub level-turn-spec : {M : Type 1} → statement M

@@ -5,7 +5,7 @@ use Prim.Native.Nat.{_+_, _-_, _*_, _≤_, _<_}
 use native.Mathlib.Omega.{arith}
 use lib.ListN.{length, getD, take, drop, set, length-set}
 use Rattle.search.specs.Descent.{noStep}
-use Rattle.removal_plan.specs.Paths.{pathMarks}
+use Rattle.siblings.specs.Paths.{pathMarks}
 use Rattle.levels.proofs.PathFacts.{marks-turn, marks-out}
 use Rattle.levels.proofs.note_path.Statement.{statement}
 use Rattle.levels.proofs.note_path.Tie as tie

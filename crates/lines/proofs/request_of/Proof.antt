@@ -1,4 +1,4 @@
--- Each arm is one clause of the definition; the last two are the kinds from 7 on.
+-- Each arm is one clause of the definition; the last two are the kinds from 8 on.
 use borrow.Author.Needs.{needs}
 use mathlib.Core.Path.{_≡_, sym}
 use Rattle.lines.specs.declared.Request.the-variants.{Wrong}
@@ -35,22 +35,25 @@ returns-7 : tie.Need-returns-7
 unfolding requestOf
 returns-7 c = rw (c .before .before .match .keys7, c .unless-used5 .ensures, c .before .zeros5 .ensures)
 
+returns-8 : tie.Need-returns-8
+unfolding requestOf
+returns-8 c = rw (c .before .before .match .keys8, c .unless-used6 .ensures, c .before .zeros6 .ensures)
+
 wrong : (c : tie.At-match-rest)
     → Wrong ≡ requestOf (c .before .args .kind) (c .before .args .a) (c .before .args .b) (c .before .args .c) (c .before .args .d)
 wrong c =
     let h = c .match .rest in
     sym
-    (wrong-kind _ _ _ _ _ (h .0 .0 .0 .0 .0 .0 .1) (h .0 .0 .0 .0 .0 .1) (h .0 .0 .0 .0 .1) (h .0 .0 .0 .1) (h .0 .0 .1) (h .0 .1) (h .1))
-
-returns-8 : tie.Need-returns-8
-returns-8 c = wrong (c .before)
+    (wrong-kind _ _ _ _ _ (h .0 .0 .0 .0 .0 .0 .0 .1) (h .0 .0 .0 .0 .0 .0 .1) (h .0 .0 .0 .0 .0 .1) (h .0 .0 .0 .0 .1) (h .0 .0 .0 .1) (h .0 .0 .1)
+    (h .0 .1) (h .1))
 
 returns-9 : tie.Need-returns-9
 returns-9 c = wrong (c .before)
 
+returns-10 : tie.Need-returns-10
+returns-10 c = wrong (c .before)
+
 pub request-of-spec : {M : Type 1} → statement M
 request-of-spec =
     tie.close
-    (tie.spec (λ c κs. search needs) (λ c κs. search needs) (λ c κs. search needs) (λ c κs. search needs) (λ c κs. search needs)
-    (λ c κs. search needs) (λ c κs. search needs) (λ c κs. search needs) (λ c κs. search needs) (λ c κs. search needs) returns returns-2
-    returns-3 returns-4 returns-5 returns-6 returns-7 returns-8 returns-9)
+    (tie.spec (λ c κs. search needs) (λ c κs. search needs) (λ c κs. search needs) (λ c κs. search needs) (λ c κs. search needs) (λ c κs. search needs) (λ c κs. search needs) (λ c κs. search needs) (λ c κs. search needs) (λ c κs. search needs) (λ c κs. search needs) (λ c κs. search needs) returns returns-2 returns-3 returns-4 returns-5 returns-6 returns-7 returns-8 returns-9 returns-10)

@@ -6,7 +6,7 @@ use Prim.Native.Nat.{ℕ}
 use types.Run.{OneOf, miss}
 use denote.Enum.Declared.{tagOf}
 use Rattle.lines.specs.declared.Reply.{Reply}
-use Rattle.lines.specs.declared.Reply.the-variants.{SetUpDone, Entered, Found, NextIs, Listed, RangeEnd, Totals, Refused, WrongLine}
+use Rattle.lines.specs.declared.Reply.the-variants.{SetUpDone, Entered, Found, Listed, RangeEnd, Totals, Refused, WrongLine}
 use Rattle.lines.specs.declared.Reply.the-variants.{SetUpLine, EnterLine}
 use Rattle.lines.specs.Reply.{lineSize}
 use Rattle.lines.proofs.Reply.{the-type}
@@ -14,19 +14,18 @@ use Rattle.lines.proofs.size_of.Statement.{statement}
 use Rattle.lines.proofs.size_of.Tie as tie
 
 abbrev others : List ℕ
-others = 0 ∷ 1 ∷ 2 ∷ 3 ∷ 4 ∷ 5 ∷ 6 ∷ 7 ∷ 10 ∷ []
+others = 0 ∷ 1 ∷ 2 ∷ 3 ∷ 4 ∷ 5 ∷ 6 ∷ 9 ∷ []
 
 size-of-others : (r : Reply) → OneOf others (tagOf the-type r) → 45 ≡ lineSize r
 size-of-others (SetUpDone size) h = refl
 size-of-others (Entered key levels nodes pages) h = refl
-size-of-others (Found key price lease last) h = refl
-size-of-others (NextIs key price lease last) h = refl
+size-of-others (Found kind key price lease last) h = refl
 size-of-others (Listed key price lease last) h = refl
 size-of-others (RangeEnd count) h = refl
 size-of-others (Totals count total key) h = refl
 size-of-others (Refused kind answer) h = refl
-size-of-others (SetUpLine θ C N P) h = absurd (miss others 8 tt h)
-size-of-others (EnterLine key price lease last) h = absurd (miss others 9 tt h)
+size-of-others (SetUpLine θ C N P) h = absurd (miss others 7 tt h)
+size-of-others (EnterLine key price lease last) h = absurd (miss others 8 tt h)
 size-of-others WrongLine h = refl
 
 returns : tie.Need-returns

@@ -57,67 +57,52 @@ returns-6 c =
     written-fits _ _ _ _ _ (search needs) (c .before .before .before .before .before .reply5 .given .1)
     (c .before .before .put-fields5 .ensures)
 
-put-fields-requires-6 : tie.Need-put-fields-requires-6
-put-fields-requires-6 c κs = let e = ap lineSize (c .before .before .reply6 .given .1) in search needs
+put-summary-requires : tie.Need-put-summary-requires
+put-summary-requires c κs = let e = ap lineSize (c .before .before .reply6 .given .1) in search needs
 
 returns-7 : tie.Need-returns-7
 unfolding replyLine
 returns-7 c =
     written-fits _ _ _ _ _ (search needs) (c .before .before .before .before .before .reply6 .given .1)
-    (c .before .before .put-fields6 .ensures)
+    (c .before .before .put-summary .ensures)
 
-put-summary-requires : tie.Need-put-summary-requires
-put-summary-requires c κs = let e = ap lineSize (c .before .before .reply7 .given .1) in search needs
+put-fields-requires-6 : tie.Need-put-fields-requires-6
+put-fields-requires-6 c κs = let e = ap lineSize (c .before .before .reply7 .given .1) in search needs
 
 returns-8 : tie.Need-returns-8
 unfolding replyLine
 returns-8 c =
     written-fits _ _ _ _ _ (search needs) (c .before .before .before .before .before .reply7 .given .1)
-    (c .before .before .put-summary .ensures)
+    (c .before .before .put-fields6 .ensures)
 
-put-fields-requires-7 : tie.Need-put-fields-requires-7
-put-fields-requires-7 c κs = let e = ap lineSize (c .before .before .reply8 .given .1) in search needs
+put-request-requires : tie.Need-put-request-requires
+put-request-requires c κs = let e = ap lineSize (c .before .before .reply8 .given .1) in search needs
 
 returns-9 : tie.Need-returns-9
 unfolding replyLine
 returns-9 c =
     written-fits _ _ _ _ _ (search needs) (c .before .before .before .before .before .reply8 .given .1)
-    (c .before .before .put-fields7 .ensures)
+    (c .before .before .put-request .ensures)
 
-put-request-requires : tie.Need-put-request-requires
-put-request-requires c κs = let e = ap lineSize (c .before .before .reply9 .given .1) in search needs
+put-request-requires-2 : tie.Need-put-request-requires-2
+put-request-requires-2 c κs = let e = ap lineSize (c .before .before .reply9 .given .1) in search needs
 
 returns-10 : tie.Need-returns-10
 unfolding replyLine
 returns-10 c =
     written-fits _ _ _ _ _ (search needs) (c .before .before .before .before .before .reply9 .given .1)
-    (c .before .before .put-request .ensures)
+    (c .before .before .put-request2 .ensures)
 
-put-request-requires-2 : tie.Need-put-request-requires-2
-put-request-requires-2 c κs = let e = ap lineSize (c .before .before .reply10 .given .1) in search needs
+put-fields-requires-7 : tie.Need-put-fields-requires-7
+put-fields-requires-7 c κs = let e = ap lineSize (c .before .enum-told .given .1) in search needs
 
 returns-11 : tie.Need-returns-11
 unfolding replyLine
 returns-11 c =
-    written-fits _ _ _ _ _ (search needs) (c .before .before .before .before .before .reply10 .given .1)
-    (c .before .before .put-request2 .ensures)
-
-put-fields-requires-8 : tie.Need-put-fields-requires-8
-put-fields-requires-8 c κs = let e = ap lineSize (c .before .enum-told .given .1) in search needs
-
-returns-12 : tie.Need-returns-12
-unfolding replyLine
-returns-12 c =
     written-fits _ _ _ _ _ (search needs) (c .before .before .before .before .enum-told .given .1)
-    (c .before .before .put-fields8 .ensures)
+    (c .before .before .put-fields7 .ensures)
 
 pub write-spec : {M : Type 1} → statement M
 write-spec =
     tie.close
-    (tie.spec (λ c κs. search needs) returns (λ c. search needs) put-fields-requires (λ c. search needs) put-fields-requires-2
-    (λ c. search needs) put-fields-requires-3 (λ c. search needs) put-fields-requires-4 (λ c. search needs) put-fields-requires-5
-    (λ c. search needs) put-fields-requires-6 (λ c. search needs) put-summary-requires (λ c. search needs) put-fields-requires-7
-    (λ c. search needs) put-request-requires (λ c. search needs) put-request-requires-2 enum-told put-fields-requires-8
-    (λ c. search needs) returns-2 (λ c. search needs) returns-3 (λ c. search needs) returns-4 (λ c. search needs) returns-5
-    (λ c. search needs) returns-6 (λ c. search needs) returns-7 (λ c. search needs) returns-8 (λ c. search needs) returns-9
-    (λ c. search needs) returns-10 (λ c. search needs) returns-11 (λ c. search needs) returns-12)
+    (tie.spec (λ c κs. search needs) returns (λ c. search needs) put-fields-requires (λ c. search needs) put-fields-requires-2 (λ c. search needs) put-fields-requires-3 (λ c. search needs) put-fields-requires-4 (λ c. search needs) put-fields-requires-5 (λ c. search needs) put-summary-requires (λ c. search needs) put-fields-requires-6 (λ c. search needs) put-request-requires (λ c. search needs) put-request-requires-2 enum-told put-fields-requires-7 (λ c. search needs) returns-2 (λ c. search needs) returns-3 (λ c. search needs) returns-4 (λ c. search needs) returns-5 (λ c. search needs) returns-6 (λ c. search needs) returns-7 (λ c. search needs) returns-8 (λ c. search needs) returns-9 (λ c. search needs) returns-10 (λ c. search needs) returns-11)

@@ -1,6 +1,6 @@
 -- One level, or the root's depth word.
 use borrow.Author.Needs.{needs}
-use Rattle.near.proofs.NearLaws.{one-level, root-told}
+use Rattle.near.proofs.Told.{one-level, root-told}
 use Rattle.near.proofs.root_stays.Statement.{statement}
 use Rattle.near.proofs.root_stays.Tie as tie
 

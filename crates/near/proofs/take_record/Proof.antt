@@ -26,10 +26,10 @@ take-out-requires c κs =
     let w = c .before in record-asks (call w .pre .0) (call w .pre .1) (w .before .page-start .ensures .0) (w .page-words .ensures .0)
 
 returns : tie.Need-returns
-returns c k e =
+returns c =
     let t = c .before .before in
     let w = t .before .before in
-    record-out (call w .pre .0) (call w .pre .1) (w .before .page-start .ensures .0) (w .page-words .ensures .0) (t .take-out .ensures) k e
+    record-out (call w .pre .0) (call w .pre .1) (w .before .page-start .ensures .0) (w .page-words .ensures .0) (t .take-out .ensures)
 
 pub take-record-spec : {M : Type 1} → statement M
 take-record-spec =

@@ -48,6 +48,7 @@ join-levels-requires c κs =
       p .6,
       omega (arith, p .9),
       p .10,
+      p .11,
     )
 
 returns : tie.Need-returns

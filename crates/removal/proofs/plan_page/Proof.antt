@@ -16,8 +16,8 @@ use Rattle.search.proofs.BlockLaws.{under-page}
 use Rattle.insert.specs.Enter.{ownItems}
 use Rattle.joins.specs.Joins.{without}
 use Rattle.remove.specs.Remove.{Reach, emptied, pageJoins}
-use Rattle.removal_plan.specs.Marks.{Tracks}
-use Rattle.removal_plan.specs.Pages.{Paged}
+use Rattle.siblings.specs.Marks.{Tracks}
+use Rattle.siblings.specs.Pages.{Paged}
 use Rattle.gather.proofs.GatherLaws.{own-fits, start-used, start-items}
 use Rattle.removal.proofs.PlanLaws.{own-less, start-ok, start-tracks, pages-lost, pages-done}
 use Rattle.removal.proofs.plan_page.Statement.{statement}
@@ -52,7 +52,7 @@ join-pages-requires c κs =
     let n = c .before .before in
     let p = call n .pre in
     let y = p .3 in
-    (p .0, p .2, p .1, omega (arith, size n, own-fits (p .0) (y .some) (y .taken) (y .rule)), p .5, search needs)
+    (p .0, p .2, p .1, omega (arith, size n, own-fits (p .0) (y .some) (y .taken) (y .rule)), p .5, search needs, p .9)
 
 -- the joins are those of the definition
 paged : (j : tie.After-join-pages)
@@ -71,9 +71,10 @@ returns : tie.Need-returns
 returns c =
     let j = c .before .before .before .before .before in
     let a = call (counted j) .args in (
-      λ z. absurd (false≢true z),
-      λ rs y.
-          pages-lost (a .f) (a .store .now) (a .head) (a .key) (a .used) (a .page) rs (paged j rs y) (not-true _ (c .if1 .taken)) _ refl _ _,
+      (λ z. absurd (false≢true z)),
+      (λ rs y.
+          pages-lost (a .f) (a .store .now) (a .head) (a .key) (a .used) (a .page) rs (paged j rs y) (not-true _ (c .if1 .taken)) _ refl _ _),
+      j .join-pages .ensures .6,
     )
 
 -- there is room for the pages that join
@@ -120,10 +121,11 @@ returns-2 c =
     let g = c .before .before .before .before .before in
     let j = joined g in
     let a = call (counted j) .args in (
-      λ z. (omega arith, omega (arith, g .gather-page .ensures .2, few j .0)),
-      λ rs y.
+      (λ z. (omega arith, omega (arith, g .gather-page .ensures .2, few j .0))),
+      (λ rs y.
           pages-done (a .f) (a .store .now) (a .head) (a .key) (a .used) (a .page) rs (paged j rs y) (not-false _ (g .before .before .before .before .if1 .left))
-          (few j .1) (g .gather-page .ensures .3 rs),
+          (few j .1) (g .gather-page .ensures .3 rs)),
+      j .join-pages .ensures .6,
     )
 
 pub plan-page-spec : {M : Type 1} → statement M

@@ -5,7 +5,7 @@ use mathlib.Core.List.{List}
 use Prim.Native.Nat.{ℕ}
 use borrow.Author.Tests.{not-true}
 use Rattle.removal.specs.Removal.{Located, Executed}
-use Rattle.removal.proofs.RemoveLaws.{near-asks, near-done, near-lost}
+use Rattle.removal.proofs.RemoveLaws.{near-asks, near-done, near-same, near-lost}
 use Rattle.removal.proofs.remove_at.Statement.{statement}
 use Rattle.removal.proofs.remove_at.Tie as tie
 
@@ -18,18 +18,26 @@ call c = c .before .before .before
 
 -- nothing is written there
 same : (c : tie.Else1) → near c .take-near .last .0 ≡ call (near c) .args .store .now
-same c = near c .take-near .ensures .2 (c .if1 .left)
+same c =
+    let n = near c in
+    let p = call n .pre in
+    near-same (p .0) (p .1) (n .take-near .ensures .0) (n .take-near .ensures .1) (c .if1 .left)
 
 take-near-requires : tie.Need-take-near-requires
 take-near-requires c κs = let p = c .before .before .pre in near-asks (p .0) (p .1)
 
 returns : tie.Need-returns
-returns c = let n = c .before .before .before in near-done (n .take-near .ensures .1 (c .if1 .taken))
+returns c =
+    let n = c .before .before .before in
+    let p = call n .pre in
+    near-done (p .0) (p .1) (n .take-near .ensures .0) (n .take-near .ensures .1) (c .if1 .taken)
 
 returns-2 : tie.Need-returns-2
 returns-2 c =
     let e = c .before .before in
-    near-lost (near e .take-near .ensures .0 (not-true _ (c .if2 .taken))) (same e)
+    let n = near e in
+    let p = call n .pre in
+    near-lost (p .0) (p .1) (n .take-near .ensures .0) (n .take-near .ensures .1) (not-true _ (c .if2 .taken)) (e .if1 .left)
 
 remove-far-requires : tie.Need-remove-far-requires
 remove-far-requires c κs =

@@ -13,19 +13,18 @@ use Rattle.search.proofs.is_linked.Tie as tie
 
 node-passes-requires : tie.Need-node-passes-requires
 node-passes-requires c κs =
-    let a = c .before in
-    let p = a .before .before .pre in
-    block-tested (p .0) (p .1) (a .node-at .ensures) (c .limits .ensures) 1 _ (λ q. linked-rule _ _ _ _ (p .2 q))
+    let p = c .before .before .pre in
+    block-tested (p .0) (p .1) (c .node-at .ensures) 1 _ (λ q. linked-rule _ _ _ _ (p .2 q))
 
 -- the block, and what its test said of the rule
 abbrev block : tie.After-node-passes → tie.After-node-at
-block c = c .before .before
+block c = c .before
 
 tested : (c : tie.After-node-passes)
     → c .node-passes .result ≡ nodeRule (block c .before .before .args .head) (block c .node-at .result .now) 0 1
 tested c =
     let p = block c .before .before .pre in
-    c .node-passes .ensures ∙ limits-rule (p .0) (p .1) (block c .node-at .ensures) (c .before .limits .ensures) 1
+    c .node-passes .ensures ∙ limits-rule (p .0) (p .1) (block c .node-at .ensures) 1
 
 returns : tie.Need-returns
 returns c =
@@ -48,4 +47,4 @@ returns-2 c =
 pub is-linked-spec : {M : Type 1} → statement M
 is-linked-spec =
     tie.close
-    (tie.spec (λ c κs. search needs) (λ c κs. search needs) node-passes-requires returns shared-slice-read-result returns-2)
+    (tie.spec (λ c κs. search needs) node-passes-requires returns shared-slice-read-result returns-2)
