@@ -101,11 +101,12 @@ module _ (f : Format) where
       let s″ : List ℕ = removeOf f s′ (it .key) .words in
       let g : Holds f s″ S = subst (Holds f s″) (without-insert keyOf it S (contains-false keyOf (it .key) S (a .new))) (r .holds) in
       let C : headOf s″ .capacity ≡ headOf s .capacity = r .kept .within .sizes-same .capacity ∙ t .sizes-same .capacity in
-      let θ : headOf s″ .theta ≡ headOf s .theta = r .kept .within .sizes-same .theta ∙ t .sizes-same .theta in (
-        g,
-        g .tree ∙ ap (λ c. build keyOf c (width f) S) C ∙ sym (h .tree),
-        shapes s″ S g ∙ ap₂ (λ n c. tower n (shape (build keyOf c (width f) S))) θ C ∙ sym (shapes s S h),
-      )
+      let θ : headOf s″ .theta ≡ headOf s .theta = r .kept .within .sizes-same .theta ∙ t .sizes-same .theta in
+      record {
+        holds = g;
+        records = g .tree ∙ ap (λ c. build keyOf c (width f) S) C ∙ sym (h .tree);
+        nodes = shapes s″ S g ∙ ap₂ (λ n c. tower n (shape (build keyOf c (width f) S))) θ C ∙ sym (shapes s S h);
+      }
 
 refused-number : (f : Format) → unlawful f ≡ 0 → ⊥
 unfolding unlawful

@@ -1,6 +1,7 @@
 -- Entries and removals mixed. Document 02, M-113.
 --   Partition used ns taken n == the number n is exactly one of: in use, once; released, once, as one of ns; not taken
 --   BlocksOnce f s S == so is every node block and every page block of a store that holds S
+--   SameTree h t     == the words t hold the same tree as the words of h, block numbers apart
 --   Undone f         == a new key accepted and then removed leaves the tree of before
 use mathlib.Core.Path.{_≡_}
 use mathlib.Core.Logic.{_⊎_}
@@ -30,11 +31,15 @@ module _ (f : Format) (s : List ℕ) (S : List Item) where
       × ((p : ℕ) → 1 ≤ p → p ≤ headOf s .pageBlocks
       → Partition (λ p. occ p (numbers (h .b0))) (releasedPages f s) (headOf s .pagesTaken) p)
 
--- "A new key accepted and then removed, with nothing else entered or removed between, leaves the tree of before." (Refused calls and
--- readings between leave every word.) Both stores hold the tree of S; with `Holds` that is the same tree, block numbers apart.
+module _ {f : Format} {s : List ℕ} {S : List Item} (h : Holds f s S) where
+  -- the same stretches with their records, and the same nodes on each level
+  pub record SameTree (t : List ℕ) : Type 0 where
+    pub holds : Holds f t S
+    pub records : contents (holds .b0) ≡ contents (h .b0)
+    pub nodes : map shape (holds .bs) ≡ map shape (h .bs)
+
+-- "A new key accepted and then removed, with nothing else entered or removed between, leaves the tree of before."
 abbrev pub Undone : Format → Type 0
 Undone f =
     (s : List ℕ) (S : List Item) (it : Item) (h : Holds f s S) → enterOf f s it .reply .number ≡ 0
-    → (g : Holds f (removeOf f (enterOf f s it .words) (it .key) .words) S)
-    × (contents (g .b0) ≡ contents (h .b0))
-    × (map shape (g .bs) ≡ map shape (h .bs))
+    → SameTree h (removeOf f (enterOf f s it .words) (it .key) .words)
