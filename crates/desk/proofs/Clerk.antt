@@ -37,18 +37,18 @@ use Rattle.index.proofs.CallLaws.{Holding, set-up-holding, enter-step, remove-s
 use Rattle.readings.proofs.Promises.{find-reads, next-reads, summary-reads}
 use Rattle.desk.specs.Replies.{told, setUpTold, enterTold, foundTold, summaryTold, listedLines}
 use Rattle.desk.specs.Listing.{partOf}
-use Rattle.desk.specs.Transcript.{answered, opened, largestKey, dumped, outcomeBytes, served, transcript}
+use Rattle.desk.specs.Transcript.{answered, opened, largestKey, dumped, outcomeBytes, served, storeWords, transcript}
 use Rattle.desk.specs.Clerk.{Register, unset, holding, setUpReply, afterSetUp, rangeLines, dumpLines, reckoned, reckonings}
 use Rattle.desk.specs.Clerk.{reckoning, Clerk}
 use Rattle.desk.proofs.ListingLaws.{first-refused, dump-refused}
 use Rattle.desk.proofs.OneListing.{listed-whole, refused-whole, dump-whole}
 
 abbrev Stands : List ℕ → Register → Type 0
-Stands s unset = s ≡ replicate 8192 0
-Stands s (holding m) = Holding Plots 8192 m s
+Stands s unset = s ≡ replicate storeWords 0
+Stands s (holding m) = Holding Plots storeWords m s
 
-stands-long : (s : List ℕ) (r : Register) → Stands s r → length s ≡ 8192
-stands-long s unset e = ap length e ∙ length-replicate {A = ℕ} 8192 0
+stands-long : (s : List ℕ) (r : Register) → Stands s r → length s ≡ storeWords
+stands-long s unset e = ap length e ∙ length-replicate {A = ℕ} storeWords 0
 stands-long s (holding m) h = h .long
 
 abbrev Same : List ℕ → Register → Request → Type 0
@@ -63,8 +63,8 @@ set-up-same θ C N P s r t =
     let n = stands-long s r t in
     by-cases (lawfulSizes θ C N P)
     (λ a.
-    let e : leb (size Plots θ C N P) (length s) ≡ leb (size Plots θ C N P) 8192 = ap (leb (size Plots θ C N P)) n in
-    by-cases (leb (size Plots θ C N P) 8192)
+    let e : leb (size Plots θ C N P) (length s) ≡ leb (size Plots θ C N P) storeWords = ap (leb (size Plots θ C N P)) n in
+    by-cases (leb (size Plots θ C N P) storeWords)
     (λ b.
     let h = set-up-holding Plots θ C N P s a (leb-true (size Plots θ C N P) (length s) (e ∙ b)) in (
       rw (a, e ∙ b, b, setUp, setUpReply),
@@ -74,7 +74,7 @@ set-up-same θ C N P s r t =
     (λ a. (rw (a, setUp, setUpReply), rw (a, setUp, setUpReply, afterSetUp) t))
 
 -- a store that nobody has set up
-zeros-broken : headRule Plots (replicate 8192 0) ≡ false
+zeros-broken : headRule Plots (replicate storeWords 0) ≡ false
 unfolding headRule lawfulSizes headOf
 zeros-broken = refl
 
@@ -105,7 +105,7 @@ module _ (s : List ℕ) (e : headRule Plots s ≡ false) where
   part-broken low high = rw (e, rangeOf)
 
 abbrev zeros : List ℕ
-zeros = replicate 8192 0
+zeros = replicate storeWords 0
 
 unset-same : (q : Request) → Same zeros unset q
 unfolding answered outcomeBytes reckoned told enterTold foundTold summaryTold findReply nextReply
@@ -139,7 +139,7 @@ foundIn (Rattle.index.specs.Calls.size a) = record { number = 0; item = noItem 
 foundIn (Rattle.index.specs.Calls.several a) = record { number = 0; item = noItem }
 foundIn (Rattle.index.specs.Calls.totals a) = record { number = 0; item = noItem }
 
-range-lines : (s : List ℕ) (m : Model) (low high : ℕ) → Holding Plots 8192 m s → high < 2 ^ 32
+range-lines : (s : List ℕ) (m : Model) (low high : ℕ) → Holding Plots storeWords m s → high < 2 ^ 32
     → outcomeBytes s (opened s low high) ≡ rangeLines (m .held) low high
 unfolding rangeLines
 range-lines s m low high h q =
@@ -148,7 +148,7 @@ range-lines s m low high h q =
       | no p ↦ rw (lt-ltb high low (omega arith), rangeLines) (refused-whole s (m .held) (h .holds) high q low (omega arith))
     ]
 
-dump-lines : (s : List ℕ) (m : Model) → Holding Plots 8192 m s → outcomeBytes s (dumped s) ≡ dumpLines m
+dump-lines : (s : List ℕ) (m : Model) → Holding Plots storeWords m s → outcomeBytes s (dumped s) ≡ dumpLines m
 unfolding dumpLines
 dump-lines s m h =
     dump-whole s (m .held) (h .holds)
@@ -156,12 +156,12 @@ dump-lines s m h =
     (λ (z : Sizes). replyLine (SetUpLine (z .theta) (z .capacity) (z .nodeBlocks) (z .pageBlocks)) ++ listedLines true (m .held))
     (h .sizes)
 
-holding-same : (s : List ℕ) (m : Model) → Holding Plots 8192 m s → (q : Request) → All (λ n. n < 2 ^ 32) (fieldsOf q) → Same s (holding m) q
+holding-same : (s : List ℕ) (m : Model) → Holding Plots storeWords m s → (q : Request) → All (λ n. n < 2 ^ 32) (fieldsOf q) → Same s (holding m) q
 unfolding answered outcomeBytes reckoned width enterIn removeIn
 holding-same s m h (SetUp θ C N P) f =
     let a = set-up-same θ C N P s (holding m) h in (ap (λ r. replyLine (setUpTold r)) (a .0), a .1)
 holding-same s m h (Enter k p l d) f =
-    let a = enter-step Plots 8192 (record { key = k; price = p; lease = l; last = d }) m s h in
+    let a = enter-step Plots storeWords (record { key = k; price = p; lease = l; last = d }) m s h in
     (ap (λ r. replyLine (enterTold (countsIn r))) (a .0), a .1)
 holding-same s m h (Find k) f = (ap (λ r. replyLine (foundTold 2 r)) (find-reads Plots s (m .held) (h .holds) k (f .0)), h)
 holding-same s m h (Next k) f = (ap (λ r. replyLine (foundTold 3 r)) (next-reads Plots s (m .held) (h .holds) k (f .0)), h)
@@ -170,7 +170,7 @@ holding-same s m h (Summary low high today) f =
     (ap (λ r. replyLine (summaryTold r)) (summary-reads Plots s (m .held) (h .holds) low high today (f .1 .0)), h)
 holding-same s m h Dump f = (dump-lines s m h, h)
 holding-same s m h (Remove k) f =
-    let a = remove-step Plots 8192 k m s (f .0) h in (ap (λ r. replyLine (foundTold 7 (foundIn r))) (a .0), a .1)
+    let a = remove-step Plots storeWords k m s (f .0) h in (ap (λ r. replyLine (foundTold 7 (foundIn r))) (a .0), a .1)
 holding-same s m h Wrong f = (refl, h)
 
 same : (s : List ℕ) (r : Register) → Stands s r → (q : Request) → All (λ n. n < 2 ^ 32) (fieldsOf q) → Same s r q

@@ -12,7 +12,7 @@ use Rattle.lines.specs.Reply.{replyLine}
 use Rattle.lines.proofs.Promises.{reply-fits}
 use Rattle.desk.specs.declared.Desk.{Desk}
 use Rattle.desk.specs.declared.Listing.{Listing}
-use Rattle.desk.specs.Transcript.{Served, before, ending, served, transcript}
+use Rattle.desk.specs.Transcript.{Served, before, ending, served, storeWords, transcript}
 use Rattle.desk.specs.Serving.{lineOf, restOf, Run, over, call, finished, Delivered, EndPut}
 use Rattle.desk.proofs.LineLaws.{written-long}
 use Rattle.desk.proofs.ServeLaws.{before-twice, rest-quiet}
@@ -26,7 +26,7 @@ whole {bytes = bytes} (call chunk more out out' r step rest) =
 pub delivered : Delivered
 unfolding served transcript
 delivered input bytes t d e empty none run quiet =
-    let s : List ℕ = replicate 8192 0 in
+    let s : List ℕ = replicate storeWords 0 in
     let rest : restOf s d input ≡ served s [] input =
     rest-quiet s d input (ap (λ (l : Listing). l .active) none) ∙ ap (λ (l : List ℕ). served s l input) empty in
     sym (ap (λ (a : Served). a .bytes) (sym rest ∙ whole run ∙ ap (before bytes) (rest-quiet t e [] quiet)))

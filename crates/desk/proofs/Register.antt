@@ -43,7 +43,7 @@ use Rattle.lines.specs.Reply.{lineFeed, replyLine}
 use Rattle.lines.proofs.Promises.{format-then-parse, dump-parses}
 use Rattle.lines.proofs.RequestLaws.{line-printed}
 use Rattle.desk.specs.Replies.{told, setUpTold, enterTold, listedLines}
-use Rattle.desk.specs.Transcript.{answered, outcomeBytes, Served, before, ending, served}
+use Rattle.desk.specs.Transcript.{answered, outcomeBytes, Served, before, ending, served, storeWords}
 use Rattle.desk.specs.Register.{dump, acceptances, Restored}
 use Rattle.desk.proofs.ServeLaws.{served-feed}
 use Rattle.desk.proofs.OneListing.{dump-whole}
@@ -212,5 +212,5 @@ module _ (s t : List ℕ) (S : List Item) (h : Holds Plots s S) (long : length s
 
 pub restored : Restored
 restored s S h long =
-    let r = restored-in s (replicate 8192 0) S h (long ∙ sym (length-replicate {A = ℕ} 8192 0)) in
+    let r = restored-in s (replicate storeWords 0) S h (long ∙ sym (length-replicate {A = ℕ} storeWords 0)) in
     (r .0, r .1 .0, r .1 .1)

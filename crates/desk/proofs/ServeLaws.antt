@@ -316,7 +316,7 @@ part-gets-on s d left put narrow active e len =
 pub serves-start : (s : List ℕ) (d : Desk) (input out : List ℕ) → Serves s d input out s out (record { desk = d; taken = 0; put = 0 })
 serves-start s d input out = record { taken = omega arith; put = omega arith; says = λ more. refl; long = refl; stays = refl }
 
-part-from : (xs : List ℕ) (n : ℕ) → take (length xs - n) (drop n xs) ≡ drop n xs
+pub part-from : (xs : List ℕ) (n : ℕ) → take (length xs - n) (drop n xs) ≡ drop n xs
 part-from xs n = take-all (length xs - n) (drop n xs) (simp length-drop (omega arith))
 
 pub part-long : (xs : List ℕ) (n : ℕ) → length (take (length xs - n) (drop n xs)) ≡ length xs - n

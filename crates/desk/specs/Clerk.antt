@@ -2,7 +2,7 @@
 -- since, the book, and the ascending list.
 --   Register           == nothing set up yet, or what is held
 --   Reckoned           == the bytes replied, and the register after it
---   setUpReply θ C N P == what set-up replies in a slice of 8,192 words; afterSetUp: the register after it
+--   setUpReply θ C N P == what set-up replies in a slice of storeWords words; afterSetUp: the register after it
 --   dumpLines m        == the lines of the register m written out
 --   rangeLines S low high == the lines of the records of S from low to high, and the last line; one line where low is above high
 --   entries r m        == the record r entered in the register: the book's reply
@@ -31,7 +31,7 @@ use Rattle.scan.specs.Range.{ranged}
 use Rattle.readings.specs.Listing.{within, findIn, nextIn, summaryIn}
 use Rattle.index.specs.Model.{Model, fresh, enterIn, removeIn}
 use Rattle.desk.specs.Replies.{setUpTold, enterTold, foundTold, summaryTold, listedLines}
-use Rattle.desk.specs.Transcript.{opened, outcomeBytes, ending, transcript}
+use Rattle.desk.specs.Transcript.{opened, outcomeBytes, ending, storeWords, transcript}
 
 pub data Register : Type 0 where
   unset : Register
@@ -47,7 +47,7 @@ setUpReply θ C N P =
     elim (lawfulSizes θ C N P) [
       | false ↦ record { number = 4; size = 0 }
       | true ↦
-          elim (leb (size Plots θ C N P) 8192) [
+          elim (leb (size Plots θ C N P) storeWords) [
             | false ↦ record { number = 5; size = 0 }
             | true ↦ record { number = 0; size = size Plots θ C N P }
           ]

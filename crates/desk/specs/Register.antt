@@ -18,7 +18,7 @@ use Rattle.store.specs.Head.{size}
 use Rattle.page.specs.Schema.{schemaOf}
 use Rattle.represent.specs.Rep.{Holds}
 use Rattle.insert.specs.Promises.{sizesIn}
-use Rattle.desk.specs.Transcript.{answered, outcomeBytes, served}
+use Rattle.desk.specs.Transcript.{answered, outcomeBytes, served, storeWords}
 
 abbrev pub dump : List ℕ → List ℕ
 dump s = outcomeBytes s (answered s Dump .outcome)
@@ -32,9 +32,9 @@ acceptances z S (it ∷ its) =
 
 abbrev pub Restored : Type 0
 Restored =
-    (s : List ℕ) (S : List Item) → Holds Plots s S → length s ≡ 8192
+    (s : List ℕ) (S : List Item) → Holds Plots s S → length s ≡ storeWords
     → let z = sizesIn s in
-    let a = served (replicate 8192 0) [] (dump s) in
+    let a = served (replicate storeWords 0) [] (dump s) in
     (a .bytes ≡ replyLine (SetUpDone (size Plots (z .theta) (z .capacity) (z .nodeBlocks) (z .pageBlocks))) ++ acceptances z [] S)
     × Holds Plots (a .words) S
     × (sizesIn (a .words) ≡ z)

@@ -28,7 +28,7 @@ use Rattle.lines.specs.Reply.{lineFeed, After, written}
 use Rattle.desk.specs.declared.Desk.{Desk}
 use Rattle.desk.specs.declared.Progress.{Progress}
 use Rattle.desk.specs.Listing.{partBytes, noListing, carried}
-use Rattle.desk.specs.Transcript.{answered, outcomeBytes, Served, before, ending, served, transcript}
+use Rattle.desk.specs.Transcript.{answered, outcomeBytes, Served, before, ending, served, storeWords, transcript}
 
 unfoldable pub lineOf : Desk → List ℕ
 lineOf d = take (d .held) (d .line)
@@ -88,7 +88,7 @@ pub data Run : List ℕ → Desk → List ℕ → List ℕ → List ℕ → Desk
 
 abbrev pub Delivered : Type 0
 Delivered =
-    (input bytes t : List ℕ) (d e : Desk) → lineOf d ≡ [] → d .listing ≡ noListing → Run (replicate 8192 0) d input bytes t e
+    (input bytes t : List ℕ) (d e : Desk) → lineOf d ≡ [] → d .listing ≡ noListing → Run (replicate storeWords 0) d input bytes t e
     → e .listing .active ≡ false → bytes ++ ending (lineOf e) ≡ transcript input
 
 abbrev pub EndPut : Type 0

@@ -7,6 +7,7 @@
 --   Served, served s line input == the bytes replied to the input, on the store s with the bytes of a line so far; and the words at the end
 --   before bytes a       == bytes in front of a
 --   ending line          == the reply to bytes after the last 0A
+--   storeWords           == how many words the store has
 --   transcript input     == the bytes that the program writes
 use mathlib.Core.Bool.{Bool, true, false}
 use mathlib.Core.List.{List, [], _∷_, _++_}
@@ -105,5 +106,8 @@ served s line (b ∷ bs) =
     ]
 
 -- "It reads standard input into a store of 8,192 words, all zero at the start."
+abbrev pub storeWords : ℕ
+storeWords = 8192
+
 unfoldable pub transcript : List ℕ → List ℕ
-transcript input = served (replicate 8192 0) [] input .bytes
+transcript input = served (replicate storeWords 0) [] input .bytes
