@@ -13,9 +13,9 @@ use Prim.Native.String.{String}
 use Prim.Native.String as text
 use lib.Dec.{eqb}
 use Rattle.lines.specs.declared.Request.{Request}
-use Rattle.lines.specs.declared.Request.the-variants.{SetUp, Enter, Find, Summary, Dump, Remove}
+use Rattle.lines.specs.declared.Request.the-variants.{SetUp, Enter, Find, Next, Range, Summary, Dump, Remove, Wrong}
 use Rattle.lines.specs.declared.Reply.{Reply}
-use Rattle.lines.specs.declared.Reply.the-variants.{SetUpDone, Entered, Found, Totals, SetUpLine, EnterLine}
+use Rattle.lines.specs.declared.Reply.the-variants.{SetUpDone, Entered, Found, Listed, RangeEnd, Totals, Refused, SetUpLine, EnterLine, WrongLine}
 use Rattle.lines.specs.Request.{kindOf, fieldsOf, requestLine, parsed}
 use Rattle.lines.specs.Reply.{replyLine}
 
@@ -56,6 +56,16 @@ table =
     ∷ reply (Entered 1073741824 2 3 3) " 1 01073741824         2         3         3\n"
     ∷ reply (Found 2 3221225472 90000 0 0) " 2 03221225472     90000         0         0\n"
     ∷ reply (Totals 3 684496 1073741824) " 5 0         3              6844961073741824\n"
+    -- kinds 3, 4 and 99: "next, 4 range (low, high)"; "Range gives a line a record, then answer 1 with the count."; "A wrong line replies
+    -- kind 99, answer 2. Other fields are 0."
+    ∷ request " 32147483648         0         0         0" (Next 2147483648)
+    ∷ request " 4         13221225472         0         0" (Range 1 3221225472)
+    ∷ request "99         0         0         0         0" Wrong
+    ∷ reply (Found 3 3221225472 90000 0 0) " 3 03221225472     90000         0         0\n"
+    ∷ reply (Listed 1073741824 60000 9131 45999) " 4 01073741824     60000      9131     45999\n"
+    ∷ reply (RangeEnd 3) " 4 1         3         0         0         0\n"
+    ∷ reply (Refused 4 7) " 4 7         0         0         0         0\n"
+    ∷ reply WrongLine "99 2         0         0         0         0\n"
     -- M-101
     ∷ request " 6         0         0         0         0" Dump
     ∷ reply (SetUpLine 1 1 4 4) " 0         1         1         4         4\n"

@@ -1,33 +1,38 @@
 -- The promises about a store that holds a set, from the laws of represented stores.
 use mathlib.Core.Path.{_≡_, refl, sym, ap, _∙_, subst}
-use mathlib.Core.Bool.{true, false}
+use mathlib.Core.Bool.{true, false, _&&_}
 use mathlib.Core.List.{List, [], _∷_}
 use Prim.Native.Nat.{ℕ, _^_, _<_}
 use native.Mathlib.Omega.{arith}
-use lib.Dec.{eqb}
+use lib.Dec.{ltb, eqb}
 use lib.Pow.{pow-pos}
-use borrow.Author.Tests.{ne-eqb, le-ltb}
+use borrow.Author.Tests.{ne-eqb, le-ltb, ltb-true, eqb-false}
 use Rattle.lists.specs.Lists.{All}
 use Rattle.lists.specs.Keyed.{Bounded}
+use Rattle.lists.proofs.Cases.{by-cases}
+use Rattle.lists.proofs.Tests.{and-true}
 use Rattle.lists.proofs.ListLaws.{all-map}
 use Rattle.tree.specs.Trie.{Trie}
 use Rattle.store.specs.declared.Format.{Format}
 use Rattle.store.specs.declared.Item.{Item}
 use Rattle.store.specs.Format.{width}
-use Rattle.store.specs.Head.{headOf}
-use Rattle.page.specs.Page.{above, lawfulItem}
+use Rattle.store.specs.Head.{headOf, pageAt}
+use Rattle.page.specs.Page.{count, keyAt, itemAt, above, firstAbove, lawfulItem}
 use Rattle.page.proofs.Laws.{lawful-key}
 use Rattle.totals.specs.Promises.{EarliestOf}
 use Rattle.totals.proofs.Promises.{earliest-key}
 use Rattle.search.specs.declared.Sought.{Sought}
-use Rattle.search.specs.Find.{soughtReply, checked, findOf, findReply}
+use Rattle.search.specs.declared.Sought.the-variants.{Record, Nothing, Damaged}
+use Rattle.search.specs.Descent.{descent}
+use Rattle.search.specs.Find.{noItem, soundPage, inPage, soughtReply, checked, findOf, findReply}
 use Rattle.search.specs.Next.{nextOf, nextReply}
 use Rattle.page.specs.Schema.{keyOf}
 use Rattle.represent.specs.Rep.{Rep, Holds}
 use Rattle.readings.specs.Listing.{firstWhere, findIn, nextIn, within, summaryIn}
 use Rattle.readings.specs.Clauses.{Clauses}
+use Rattle.readings.specs.Broken.{SampleKeeps}
 use Rattle.readings.specs.Promises.{Sound, FindReads, NextReads, RangeReads, RangedReads, SummaryReads, FindZero, NextZero}
-use Rattle.readings.specs.Promises.{OwnBitsLead, Summarised, SummaryOutright, NoDamage, ClausesHold}
+use Rattle.readings.specs.Promises.{LedTo, OwnBitsLead, Summarised, SummaryOutright, NoDamage, ClausesHold}
 use Rattle.readings.proofs.FirstLaws.{first-none, first-beyond, all-mem, found-own}
 use Rattle.readings.proofs.Records.{records, records-are}
 use Rattle.readings.proofs.ListingLaws.{NextIs, ranged-is, range-is, summary-is, within-sorted, within-all}
@@ -38,7 +43,52 @@ use Rattle.represent.proofs.HeadPasses.{head-passes}
 use Rattle.readings.proofs.Readings.{find-is, next-is}
 use Rattle.readings.proofs.ClauseLaws.{rep-clauses}
 use Rattle.represent.proofs.Promises.{descent-visits}
+use Rattle.represent.proofs.Example.{example-holds}
 use Rattle.represent.proofs.Keyed.{lawful-bounded}
+
+-- where find finds a record, the descent ends at a page that has it
+module _ (f : Format) (s : List ℕ) (it : Item) where
+  abbrev page : ℕ
+  page = descent f s (headOf s) (it .key) .page
+
+  abbrev words : List ℕ
+  words = pageAt f s (headOf s) page
+
+  abbrev isRecord : Sought → ℕ
+  isRecord (Record x) = 0
+  isRecord Nothing = 1
+  isRecord Damaged = 1
+
+  abbrev itemOr : Sought → Item
+  itemOr (Record x) = x
+  itemOr Nothing = it
+  itemOr Damaged = it
+
+  led-to : findOf f s (headOf s) (it .key) ≡ Record it → LedTo f s it
+  unfolding findOf inPage
+  led-to e =
+      by-cases (descent f s (headOf s) (it .key) .ok)
+      (λ a.
+      by-cases (eqb page 0)
+      (λ b. absurd (omega (arith, other (rw (a, b, findOf) at e))))
+      (λ b.
+      by-cases (soundPage f (headOf s) words (it .key) (descent f s (headOf s) (it .key) .used))
+      (λ c.
+      by-cases (ltb (firstAbove f words false (it .key)) (count words) && eqb (keyAt f words (firstAbove f words false (it .key))) (it .key))
+      (λ d.
+      record {
+        sound = a;
+        some = omega (arith, eqb-false page 0 b);
+        place = firstAbove f words false (it .key);
+        inside = ltb-true _ _ (and-true _ _ d .0);
+        there = ap itemOr (rw (a, b, c, d, findOf, inPage) at e);
+      })
+      (λ d. absurd (omega (arith, other (rw (a, b, c, d, findOf, inPage) at e)))))
+      (λ c. absurd (omega (arith, other (rw (a, b, c, findOf) at e))))))
+      (λ a. absurd (omega (arith, other (rw (a, findOf) at e))))
+    where
+      other : {a : Sought} → a ≡ Record it → isRecord a ≡ 0
+      other q = ap isRecord q
 
 module _ (f : Format) (s : List ℕ) (S : List Item) where
   bounded : Holds f s S → Bounded keyOf (2 ^ width f) S
@@ -115,8 +165,7 @@ module _ (f : Format) (s : List ℕ) (S : List Item) where
       (first-beyond true 0 S (all-map (λ it. lawfulItem f it ≡ true) (λ it. 0 < it .key) S (λ it l. lawful-key f it l .0) (h .lawful)))
 
   pub own-bits-lead : OwnBitsLead f s S
-  unfolding findIn
-  own-bits-lead h it m = find-reads h (it .key) (all-mem _ m (bounded h)) ∙ ap soughtReply (found-own it S (h .sorted) m)
+  own-bits-lead h it m = led-to f s it (find-holds h (it .key) (all-mem _ m (bounded h)) ∙ found-own it S (h .sorted) m)
 
   pub no-damage : NoDamage f s S
   no-damage h =
@@ -136,3 +185,7 @@ module _ (f : Format) (s : List ℕ) (S : List Item) where
       go (b ∷ bs) r =
           rep-clauses f s (h .b0) b bs r (pages-pass f s (h .b0) (b ∷ bs) r)
           (λ k low. ap (λ d. d .steps) (descent-visits f s (h .b0) (b ∷ bs) k r low))
+
+-- the sample store holds its three records
+pub sample-keeps : SampleKeeps
+sample-keeps = clauses-hold _ _ _ example-holds

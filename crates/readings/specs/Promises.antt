@@ -5,7 +5,8 @@
 --   SummaryOutright  == a summary that is not refused is that of the held records from low to high
 --   FindZero         == find with the key 0, which no record has, gives none
 --   NextZero         == next with the key 0 gives the first record, or none
---   OwnBitsLead      == the bits of each held record's key lead to it
+--   LedTo f s it     == the descent with the record's key ends at a page that has the record
+--   OwnBitsLead      == so it does for each held record
 --   Sound n          == the answer n is neither 3 nor 9
 --   Undamaged        == no reading of the store is refused with 3 or 9
 --   NoDamage         == a store that holds a set is undamaged
@@ -19,8 +20,10 @@ use Rattle.plot.specs.Plot.{lawfulDay}
 use Rattle.store.specs.declared.Format.{Format}
 use Rattle.store.specs.declared.Item.{Item}
 use Rattle.store.specs.Format.{width}
-use Rattle.store.specs.Head.{headOf}
+use Rattle.store.specs.Head.{headOf, pageAt}
+use Rattle.page.specs.Page.{count, itemAt}
 use Rattle.totals.specs.Promises.{worths, EarliestOf}
+use Rattle.search.specs.Descent.{descent}
 use Rattle.search.specs.Find.{noItem, soughtReply, findReply}
 use Rattle.search.specs.Next.{nextReply}
 use Rattle.scan.specs.Range.{ranged, rangeOf}
@@ -41,6 +44,14 @@ pub record Summarised (its : List Item) (today : ℕ) (a : SummaryReply) : Type 
 pub record Sound (n : ℕ) : Type 0 where
   pub head : n ≡ 3 → ⊥
   pub blocks : n ≡ 9 → ⊥
+
+-- "its own bits lead to each held record"
+pub record LedTo (f : Format) (s : List ℕ) (it : Item) : Type 0 where
+  pub sound : descent f s (headOf s) (it .key) .ok ≡ true
+  pub some : 1 ≤ descent f s (headOf s) (it .key) .page
+  pub place : ℕ
+  pub inside : place < count (pageAt f s (headOf s) (descent f s (headOf s) (it .key) .page))
+  pub there : itemAt f (pageAt f s (headOf s) (descent f s (headOf s) (it .key) .page)) place ≡ it
 
 module _ (f : Format) (s : List ℕ) (S : List Item) where
   abbrev pub FindReads : Type 0
@@ -71,7 +82,7 @@ module _ (f : Format) (s : List ℕ) (S : List Item) where
   NextZero = Holds f s S → nextReply f s 0 ≡ soughtReply (firstOf S)
 
   abbrev pub OwnBitsLead : Type 0
-  OwnBitsLead = Holds f s S → (it : Item) → List·Memᴰ it S → findReply f s (it .key) ≡ record { number = 0; item = it }
+  OwnBitsLead = Holds f s S → (it : Item) → List·Memᴰ it S → LedTo f s it
 
   pub record Undamaged : Type 0 where
     pub find : (k : ℕ) → k < 2 ^ width f → Sound (findReply f s k .number)

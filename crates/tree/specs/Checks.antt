@@ -3,11 +3,11 @@
 --   money    == a balance: price, lease days, last day and today; the answer's number and value
 --   label    == the key of a label: section, row, place and letter; the answer's number and key
 --   figures  == levels, nodes and pages of the tree of some keys
---   replies  == what the book replies to the last of some keys
+--   replies  == what the book replies to some keys, one after another
 --   bound    == L
 --   holds    == the definitions give what the row says
 --   table    == the rows
-use mathlib.Core.Bool.{Bool, _&&_}
+use mathlib.Core.Bool.{Bool, true, false, _&&_}
 use mathlib.Core.List.{List, [], _∷_}
 use Prim.Native.Nat.{ℕ}
 use lib.Dec.{eqb}
@@ -23,7 +23,7 @@ pub data Check : Type 0 where
   money : (price lease last today number value : ℕ) → Check
   label : (section row place letter number key : ℕ) → Check
   figures : (width theta capacity : ℕ) (keys : List ℕ) (levels nodes pages : ℕ) → Check
-  replies : Sizes → (keys : List ℕ) → Reply → Check
+  replies : Sizes → (keys : List ℕ) → List Reply → Check
   bound : (width theta capacity : ℕ) (levels : ℕ) → Check
 
 abbrev perpetual : ℕ → Record
@@ -33,14 +33,16 @@ abbrev records : List ℕ → List Record
 records [] = []
 records (k ∷ ks) = perpetual k ∷ records ks
 
-abbrev last : Reply → List Reply → Reply
-last r [] = r
-last r (x ∷ xs) = last x xs
-
 abbrev sameReply : Reply → Reply → Bool
 sameReply a b =
     eqb (a .number) (b .number) && (eqb (a .key) (b .key)
     && (eqb (a .levels) (b .levels) && (eqb (a .nodes) (b .nodes) && eqb (a .pages) (b .pages))))
+
+abbrev sameReplies : List Reply → List Reply → Bool
+sameReplies [] [] = true
+sameReplies [] (b ∷ rs) = false
+sameReplies (a ∷ qs) [] = false
+sameReplies (a ∷ qs) (b ∷ rs) = sameReply a b && sameReplies qs rs
 
 unfoldable pub holds : Check → Bool
 holds (money price lease last today number value) =
@@ -50,7 +52,7 @@ holds (label section row place letter number key) =
     eqb (r .number) number && eqb (r .key) key
 holds (figures w θ C ks l n p) =
     let t = build (λ (k : ℕ). k) C w ks in eqb (levels θ (shape t)) l && (eqb (nodes θ (shape t)) n && eqb (pages t) p)
-holds (replies s ks r) = sameReply (last (refused 0) (book plotSchema s [] (records ks) .replies)) r
+holds (replies s ks rs) = sameReplies (book plotSchema s [] (records ks) .replies) rs
 holds (bound w θ C l) = eqb (levelBound w θ C) l
 
 abbrev sizes : ℕ → ℕ → ℕ → ℕ → Sizes
@@ -86,8 +88,8 @@ table =
     -- "Keys 4,294,967,294 and 4,294,967,295, θ = 6, C = 1: 6 levels, 76 nodes, 2 pages."
     ∷ figures 32 6 1 topTwo 6 76 2
     -- "With P = 2, N = 75 refuses the second with 10; N = 76 takes it."
-    ∷ replies (sizes 6 1 75 2) topTwo (refused 10)
-    ∷ replies (sizes 6 1 76 2) topTwo (reply 0 4294967295 6 76 2)
+    ∷ replies (sizes 6 1 75 2) topTwo (reply 0 4294967294 1 1 1 ∷ refused 10 ∷ [])
+    ∷ replies (sizes 6 1 76 2) topTwo (reply 0 4294967294 1 1 1 ∷ reply 0 4294967295 6 76 2 ∷ [])
     -- "The same two, θ = 1: 32 levels, 528 nodes."
     ∷ figures 32 1 1 topTwo 32 528 2
     -- "L for θ = 6, C = 64 is 5." M-105: "takes C = 24, still 5"
