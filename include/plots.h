@@ -62,7 +62,8 @@ uint32_t plots_range(const uint32_t *store, size_t store_words, uint32_t low, ui
 uint32_t plots_summary(const uint32_t *store, size_t store_words, uint32_t low, uint32_t high, uint32_t today, uint64_t *reply,
                        size_t reply_words);
 
-/* What is left of a price: price * days left / lease days, rounded down; 0 if perpetual.
+/* What is left of a price: price * days left / lease days, rounded down; 0 if perpetual. Days left are last day - today + 1 where today is
+ * at or before the last day, 0 after it, and at most the lease days. Lease days, last day and today have a record's limits.
  * Reply: the balance in pence. Returns 0 or 6. */
 uint32_t plots_balance(uint32_t price, uint32_t lease, uint32_t last, uint32_t today, uint64_t *reply, size_t reply_words);
 
