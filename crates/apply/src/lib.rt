@@ -13,7 +13,7 @@ ghost use Rattle.apply.specs.Carried.{spot_in, spots_from, Carried, Ready};
 use store::{Format, Head};
 
 // The numbers of a plan. Of its levels, so many from the lowest one on change; a page 0 is null; and so many blocks are released.
-#[derive(Drop)]
+#[derive(Clone, Copy)]
 pub struct Outline {
     pub page: u32,
     pub levels: u32,

@@ -15,7 +15,7 @@ pub const STORE_WORDS: usize = 8192;
 
 // How far input is served: the bytes taken, the bytes put, whether their write went well, and whether the output had no room for a part,
 // so that more may be left.
-#[derive(Drop)]
+#[derive(Clone, Copy)]
 pub struct Step {
     pub desk: Desk,
     pub taken: usize,
@@ -25,14 +25,14 @@ pub struct Step {
 }
 
 // The desk after a chunk of input, and whether all writes went well.
-#[derive(Drop)]
+#[derive(Clone, Copy)]
 pub struct Chunk {
     pub desk: Desk,
     pub ok: bool,
 }
 
 // The desk after a read, what the read answered, whether the writes went well, whether more input may come, and whether all is well.
-#[derive(Drop)]
+#[derive(Clone, Copy)]
 pub struct Turn {
     pub desk: Desk,
     pub got: isize,
@@ -42,14 +42,14 @@ pub struct Turn {
 }
 
 // The last reply: its bytes, and whether its write went well.
-#[derive(Drop)]
+#[derive(Clone, Copy)]
 pub struct Last {
     pub put: usize,
     pub wrote: bool,
 }
 
 // The last turn, how many turns were left, and the last reply.
-#[derive(Drop)]
+#[derive(Clone, Copy)]
 pub struct End {
     pub turn: Turn,
     pub turns: u64,

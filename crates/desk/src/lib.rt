@@ -21,7 +21,7 @@ pub const PART_BYTES: usize = 2925;
 
 // A range that is listed in parts, or, if dump, the register written out: the next key wanted, the high end, and how many records the
 // whole has.
-#[derive(Drop)]
+#[derive(Clone, Copy)]
 pub struct Listing {
     pub active: bool,
     pub dump: bool,
@@ -31,7 +31,7 @@ pub struct Listing {
 }
 
 // What one call of range says: its number, the records written, and the first key not written, 0 if none.
-#[derive(Drop)]
+#[derive(Clone, Copy)]
 pub struct Piece {
     pub number: u32,
     pub count: u32,
@@ -39,14 +39,14 @@ pub struct Piece {
 }
 
 // What the calls of a range in parts give together: the number that refuses one of them, else 0 and the records counted.
-#[derive(Drop)]
+#[derive(Clone, Copy)]
 pub struct Survey {
     pub number: u32,
     pub count: u32,
 }
 
 // What a request is answered with: one line, a listing in parts, or a line and then a listing.
-#[derive(Drop)]
+#[derive(Clone, Copy)]
 pub enum Outcome {
     Line(Reply),
     Parts(Listing),
@@ -55,7 +55,7 @@ pub enum Outcome {
 
 // What is under way between two bytes: the line so far (one byte more than a line has, so that a longer one is seen to be too long), how
 // many bytes of it are held, and a listing that is not at its end.
-#[derive(Drop)]
+#[derive(Clone, Copy)]
 pub struct Desk {
     pub line: [u8; 43],
     pub held: usize,
@@ -63,7 +63,7 @@ pub struct Desk {
 }
 
 // The desk after some bytes of input, how many were taken, and how many bytes of output were put.
-#[derive(Drop)]
+#[derive(Clone, Copy)]
 pub struct Progress {
     pub desk: Desk,
     pub taken: usize,
@@ -322,7 +322,7 @@ fn put_last(dump: bool, count: u32, out: &mut [u8]) -> usize
 }
 
 // What is left of a listing, and how many bytes of it were put.
-#[derive(Drop)]
+#[derive(Clone, Copy)]
 pub struct Listed {
     pub listing: Listing,
     pub put: usize,

@@ -20,7 +20,7 @@ use plot::{BalanceAnswer, KeyAnswer, Label, LabelAnswer, Record};
 use store::SetUpAnswer;
 
 // An answer in numbers: its own number, and the first `count` of four values.
-#[derive(Drop)]
+#[derive(Clone, Copy)]
 struct Answer {
     number: u32,
     count: u32,

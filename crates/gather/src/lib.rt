@@ -14,7 +14,7 @@ ghost use Rattle.gather.specs.Gather.{OwnPage, Holds, start_of, joined_by};
 use store::{Format, Head};
 
 // The page of a stretch after its joins: its number (0: null), and how many pages are released.
-#[derive(Drop)]
+#[derive(Clone, Copy)]
 pub struct Gathered {
     pub page: u32,
     pub lost: usize,

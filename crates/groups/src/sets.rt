@@ -12,7 +12,7 @@ use raw::words;
 use store::{to_index, widen, word};
 
 // A store and the set that is entered: θ, C, N, P, how keys are drawn, how many records, the seed.
-#[derive(Drop)]
+#[derive(Clone, Copy)]
 pub struct Setting {
     pub theta: u32,
     pub capacity: u32,

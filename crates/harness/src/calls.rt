@@ -30,7 +30,7 @@ pub const LABEL_OF: u32 = 8;
 // What the words of an output hold before a call.
 pub const MARK: u32 = 4277009102;
 
-#[derive(Drop)]
+#[derive(Clone, Copy)]
 pub struct Call {
     pub kind: u32,
     pub a: u32,
@@ -40,7 +40,7 @@ pub struct Call {
 }
 
 // The number of the answer, and the values with it: 0 where there is none.
-#[derive(Drop)]
+#[derive(Clone, Copy)]
 pub struct Reply {
     pub number: u32,
     pub a: u64,
@@ -50,7 +50,7 @@ pub struct Reply {
 }
 
 // A reply, and whether every word that the call may not change is as it was.
-#[derive(Drop)]
+#[derive(Clone, Copy)]
 pub struct Outcome {
     pub reply: Reply,
     pub kept: bool,

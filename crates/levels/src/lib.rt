@@ -16,7 +16,7 @@ use siblings::NodeJoins;
 use store::{Format, Head};
 
 // Damage (not ok), or the way up: whether the level below joined, the bits of its stretch and the pointer to it, and the end of the released nodes.
-#[derive(Drop)]
+#[derive(Clone, Copy)]
 pub struct Rise {
     pub ok: bool,
     pub joins: bool,
@@ -26,7 +26,7 @@ pub struct Rise {
 }
 
 // Damage (not ok), or the levels after their joins: so many of them change, from the lowest on; whether level-1 nodes joined; and the end of the released nodes.
-#[derive(Drop)]
+#[derive(Clone, Copy)]
 pub struct LevelJoins {
     pub ok: bool,
     pub changed: u32,

@@ -1,6 +1,6 @@
 -- Reading columns byte by byte: what is left of the columns decides the answer, so each step keeps it.
 use mathlib.Core.Path.{◌≡◌, refl, sym, ap, ◌∙◌}
-use mathlib.Core.Bool.{Bool, true, false, ◌&&◌, false≢true, and-true as and-id}
+use mathlib.Core.Bool.{Bool, true, false, ◌&&◌, false≢true, and-true as and_id}
 use mathlib.Core.List.{List, [], ◌∷◌}
 use Prim.Native.Nat.{ℕ, suc, ◌+◌, ◌-◌, ◌*◌, ◌^◌, ◌≤◌, ◌<◌}
 use native.Mathlib.Nat.{pow-succ', pow-le-pow_right}
@@ -11,7 +11,7 @@ use lib.ListN.{length, drop, get_or, length-drop, drop_of_length-le}
 use lib.Seq.{drop-cons}
 use borrow.Author.Tests.{lt-ltb, le-ltb, le-leb, lt-leb, ne_eqb}
 use Rattle.lists.specs.Lists.{all}
-use Rattle.lists.proofs.Tests.{and-true, untrue}
+use Rattle.lists.proofs.Tests.{and_true, untrue}
 use Rattle.lines.specs.declared.Number.TheVariants.{Is, Not}
 use Rattle.lines.specs.Columns.{blank, nought, digit, skipped, plain, value, number_of, is_number}
 use Rattle.lines.specs.Steps.{taken, spelled_by, number_in}
@@ -114,7 +114,7 @@ leading_zero bs i s h e l =
     ap (λ t. taken t (number_of bs))
     (sym (untrue
     (λ t.
-    let p = and-true (plain (skipped bs)) (ltb (number_of bs) (2 ^ 32)) t in
+    let p = and_true (plain (skipped bs)) (ltb (number_of bs) (2 ^ 32)) t in
     let none = (plain_facts nought (drop (i + 1) bs) (ap plain (sym q) ∙ p.0)).2 refl in
     omega (arith, length-drop (i + 1) bs, ap length none))))
 
@@ -124,4 +124,4 @@ unfolding number_in spelled_by is_number plain number_of
 digits_held bs i s h e =
     let b : ℕ = get_or bs i 0 in
     let q = drop_at_byte bs i b h refl in
-    rw (sym s ∙ q, q, ne_eqb b nought e, and-id (digit b && all digit (drop (i + 1) bs)))
+    rw (sym s ∙ q, q, ne_eqb b nought e, and_id (digit b && all digit (drop (i + 1) bs)))

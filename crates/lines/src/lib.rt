@@ -7,7 +7,7 @@ ghost use Rattle.lines.specs.Reply.{four_fields, request_fields, summary_fields,
 ghost use Rattle.lines.specs.Steps.{spelled_by, number_in, digit_or};
 
 // What a line asks for: the kind with the fields that it uses.
-#[derive(Drop)]
+#[derive(Clone, Copy)]
 pub enum Request {
     SetUp(u32, u32, u32, u32),
     Enter(u32, u32, u32, u32),
@@ -22,7 +22,7 @@ pub enum Request {
 
 // What is replied. Found has the kind of its request before the record: find, next or remove. SetUpLine and EnterLine are lines of a
 // register written out: requests, with no answer.
-#[derive(Drop)]
+#[derive(Clone, Copy)]
 pub enum Reply {
     SetUpDone(u32),
     Entered(u32, u32, u32, u32),
@@ -37,7 +37,7 @@ pub enum Reply {
 }
 
 // What columns hold: a 32-bit number, or anything else.
-#[derive(Drop)]
+#[derive(Clone, Copy)]
 enum Number {
     Is(u32),
     Not,

@@ -15,7 +15,7 @@ use raw::words::put;
 use store::{to_index, widen, word};
 
 // A summary so far: count, total, and of the record that ends first the last day, the price and the key.
-#[derive(Drop)]
+#[derive(Clone, Copy)]
 struct Sheet {
     count: u64,
     total: u64,

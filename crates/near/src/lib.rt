@@ -13,7 +13,7 @@ use search::End;
 use store::{Format, Head};
 
 // Damage (not ok), or whether the removal is done. If not, it is not decided here.
-#[derive(Drop)]
+#[derive(Clone, Copy)]
 pub struct Near {
     pub ok: bool,
     pub done: bool,

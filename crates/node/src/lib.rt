@@ -16,7 +16,7 @@ const ALIGNED: [u32; 64] = [
 
 // What the tests of a node's entries have gathered: `outside` has its top bit set where an entry is outside its limits, `torn` is not 0
 // where two neighbours of one run differ, and `full` is not 0 where a local depth is the node's.
-#[derive(Drop)]
+#[derive(Clone, Copy)]
 struct Faults {
     outside: u32,
     torn: u32,

@@ -9,14 +9,14 @@ use plot::Record;
 use store::{Format, Item};
 
 // A reader stands at a record of a page.
-#[derive(Drop)]
+#[derive(Clone, Copy)]
 pub struct Reader<'a> {
     pub page: &'a [u32],
     pub at: usize,
 }
 
 // What a step reads, and the reader past it.
-#[derive(Drop)]
+#[derive(Clone, Copy)]
 pub struct Read<'a> {
     pub item: Item,
     pub rest: Reader<'a>,
@@ -123,7 +123,7 @@ pub fn lawful_item(f: Format, item: Item) -> bool
 }
 
 // How far a check of records has come: whether all so far are lawful and ascend, the last key, and how many are left.
-#[derive(Drop)]
+#[derive(Clone, Copy)]
 struct Progress {
     good: bool,
     key: u64,

@@ -5,7 +5,7 @@ ghost use Rattle.plot.specs.Money.{days_left, amount, reply, balance_reply};
 ghost use Rattle.plot.specs.Label.{key_reply, key_of_reply, label_reply, label_of_reply, convert_reply};
 
 // What is held of a plot: its key, the price in pence, the lease days (0: perpetual) and the last day.
-#[derive(Drop)]
+#[derive(Clone, Copy)]
 pub struct Record {
     pub key: u32,
     pub price: u32,
@@ -13,14 +13,14 @@ pub struct Record {
     pub last: u32,
 }
 
-#[derive(Drop)]
+#[derive(Clone, Copy)]
 pub enum BalanceAnswer {
     Pence(u32),
     OutsideLimits,
 }
 
 // Where a plot lies: section, row, place, and the letter of a plot between two places (0: none, 1 to 15: A to O).
-#[derive(Drop)]
+#[derive(Clone, Copy)]
 pub struct Label {
     pub section: u32,
     pub row: u32,
@@ -28,13 +28,13 @@ pub struct Label {
     pub letter: u32,
 }
 
-#[derive(Drop)]
+#[derive(Clone, Copy)]
 pub enum KeyAnswer {
     Key(u32),
     NoKey,
 }
 
-#[derive(Drop)]
+#[derive(Clone, Copy)]
 pub enum LabelAnswer {
     Labelled(Label),
     NoLabel,

@@ -20,7 +20,7 @@ use search::{End, FindAnswer, Step};
 use store::{Format, Head, Item};
 
 // What find says of a key: damage (not ok), or whether its record is held, its number in its page and the record.
-#[derive(Drop)]
+#[derive(Clone, Copy)]
 pub struct Seat {
     pub ok: bool,
     pub held: bool,
@@ -29,7 +29,7 @@ pub struct Seat {
 }
 
 // The page half of a plan: damage, or the bits of the key's stretch after its joins, its page (0: null), and how many pages are released.
-#[derive(Drop)]
+#[derive(Clone, Copy)]
 pub struct PagePart {
     pub ok: bool,
     pub bits: u32,
@@ -38,7 +38,7 @@ pub struct PagePart {
 }
 
 // A plan, or damage.
-#[derive(Drop)]
+#[derive(Clone, Copy)]
 pub struct Draft {
     pub ok: bool,
     pub outline: Outline,

@@ -73,7 +73,7 @@ fn end_of(store: &[u32], f: Format, head: Head, r: Span, high: u64) -> usize
     end
 }
 
-#[derive(Drop)]
+#[derive(Clone, Copy)]
 pub enum RangeAnswer {
     Listed(u64, u64),
     RangeHeadBroken,
@@ -82,7 +82,7 @@ pub enum RangeAnswer {
 }
 
 // How a range ends: whether no damage was met, how many records it writes, and the first key not written, 0 if none.
-#[derive(Drop)]
+#[derive(Clone, Copy)]
 pub struct Listing {
     pub ok: bool,
     pub count: u64,
@@ -207,13 +207,13 @@ pub fn range(store: &[u32], f: Format, low: u64, high: u64, out: &mut [u32]) -> 
     RangeAnswer::Listed(l.count, l.more)
 }
 
-#[derive(Drop)]
+#[derive(Clone, Copy)]
 pub struct Summing {
     pub ok: bool,
     pub totals: Totals,
 }
 
-#[derive(Drop)]
+#[derive(Clone, Copy)]
 pub enum SummaryAnswer {
     Summed(u64, u64, u64),
     SummaryHeadBroken,

@@ -15,7 +15,7 @@ ghost use Rattle.search.specs.Span.{no_span, first_row, reached_rows, reached_sp
 use store::{Format, Head, Item};
 
 // One node on a key's path: its number, the key's entry in it, that entry's local depth, and the bits used before the node.
-#[derive(Drop)]
+#[derive(Clone, Copy)]
 pub struct Step {
     pub node: u32,
     pub entry: u32,
@@ -24,7 +24,7 @@ pub struct Step {
 }
 
 // What a visit of a node on the path gives.
-#[derive(Drop)]
+#[derive(Clone, Copy)]
 pub struct Visit {
     pub ok: bool,
     pub entry: u32,
@@ -33,7 +33,7 @@ pub struct Visit {
 }
 
 // The way of a key down: whether every node on it is sound, the page (0: null), the bits used, and the step of each level, level 1 first.
-#[derive(Drop)]
+#[derive(Clone, Copy)]
 pub struct Descent {
     pub ok: bool,
     pub page: u32,
@@ -42,7 +42,7 @@ pub struct Descent {
 }
 
 // The terminal node of a key: whether every node on the way is sound, and the bits used before the node.
-#[derive(Drop)]
+#[derive(Clone, Copy)]
 pub struct Terminal {
     pub ok: bool,
     pub node: u32,
@@ -51,7 +51,7 @@ pub struct Terminal {
 
 // Where the way of a key ends: whether every node on it is sound, the terminal node and the bits used before it, the page (0: null) and the
 // bits used before that.
-#[derive(Drop)]
+#[derive(Clone, Copy)]
 pub struct End {
     pub ok: bool,
     pub node: u32,
@@ -64,7 +64,7 @@ pub struct End {
 // met. The terminal node of the key that they follow is `node`, reached after the `used` bits. After the last record next goes on with the
 // node's run that begins at entry `behind`; 0: not known. (No two fields of one width are neighbours: a copy would take them as one word,
 // and wait for their two stores.)
-#[derive(Drop)]
+#[derive(Clone, Copy)]
 pub struct Span {
     pub from: usize,
     pub page: u32,
@@ -76,7 +76,7 @@ pub struct Span {
     pub ok: bool,
 }
 
-#[derive(Drop)]
+#[derive(Clone, Copy)]
 pub enum Sought {
     Record(Item),
     Nothing,
@@ -84,20 +84,20 @@ pub enum Sought {
 }
 
 // Where the way on from an entry leads: to a page, past the last one, or to damage.
-#[derive(Drop)]
+#[derive(Clone, Copy)]
 pub enum Reached {
     Page(u32),
     Past,
     Broken,
 }
 
-#[derive(Drop)]
+#[derive(Clone, Copy)]
 pub enum Hop {
     Ends(Reached),
     On(u32),
 }
 
-#[derive(Drop)]
+#[derive(Clone, Copy)]
 pub enum FindAnswer {
     Found(Item),
     NotFound,

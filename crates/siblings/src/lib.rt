@@ -18,7 +18,7 @@ use search::Visit;
 use store::{Format, Head};
 
 // What the descent to a sibling gives: damage, or a longer prefix, or the pointer to the sibling.
-#[derive(Drop)]
+#[derive(Clone, Copy)]
 pub struct Found {
     pub ok: bool,
     pub found: bool,
@@ -262,7 +262,7 @@ fn links_ok(
 }
 
 // The page beside a stretch: damage, or none, or the pointer to it (0: null) and the count of its records.
-#[derive(Drop)]
+#[derive(Clone, Copy)]
 pub struct Mate {
     pub ok: bool,
     pub found: bool,
@@ -271,7 +271,7 @@ pub struct Mate {
 }
 
 // Damage (not ok), or how often the pages of a removal join.
-#[derive(Drop)]
+#[derive(Clone, Copy)]
 pub struct PageJoins {
     pub ok: bool,
     pub n: usize,
@@ -543,7 +543,7 @@ fn join_hand(
 
 // Damage (not ok), or a level after its joins: the number of the node in hand, the bits used before it, the last node of those joined, and
 // the end of the released ones.
-#[derive(Drop)]
+#[derive(Clone, Copy)]
 pub struct NodeJoins {
     pub ok: bool,
     pub number: u32,

@@ -107,7 +107,7 @@ pub fn settle(part: &mut [u32], theta: u32, depth: u32, level: u32, back: u32, f
 }
 
 // A run of entries: where it begins, and how many they are.
-#[derive(Drop)]
+#[derive(Clone, Copy)]
 pub struct Run {
     pub start: usize,
     pub n: usize,

@@ -8,13 +8,13 @@ ghost use Rattle.store.specs.Head.{lawful_sizes, lawful_counts, released_of, nam
 ghost use Rattle.store.specs.Released.{node_form, page_form, node_next, page_next, passed, member, link_ok, nodes_ok, pages_ok};
 ghost use Rattle.store.specs.SetUp.{marked, set_up, reply};
 
-#[derive(Drop)]
+#[derive(Clone, Copy)]
 pub enum Format {
     Plots,
 }
 
 // A record of any format: its key, and what else it holds (0 where a format has no such word).
-#[derive(Drop)]
+#[derive(Clone, Copy)]
 pub struct Item {
     pub key: u64,
     pub price: u32,
@@ -23,7 +23,7 @@ pub struct Item {
 }
 
 // The first eight words. (A field that definitions name has no underscore.)
-#[derive(Drop)]
+#[derive(Clone, Copy)]
 pub struct Head {
     pub theta: u32,
     pub capacity: u32,
@@ -36,7 +36,7 @@ pub struct Head {
 }
 
 // The words 8 to 11 of the head: the last released node and page, and how many are released of each.
-#[derive(Drop)]
+#[derive(Clone, Copy)]
 pub struct Released {
     pub node: u32,
     pub page: u32,
@@ -44,7 +44,7 @@ pub struct Released {
     pub pages: u32,
 }
 
-#[derive(Drop)]
+#[derive(Clone, Copy)]
 pub enum SetUpAnswer {
     Done(u32),
     OutsideLimits,

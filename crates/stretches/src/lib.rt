@@ -8,7 +8,7 @@ use raw::words;
 use raw::words::put;
 use store::{to_index, widen, word};
 
-#[derive(Drop)]
+#[derive(Clone, Copy)]
 pub struct Counts {
     pub levels: u32,
     pub nodes: u32,
@@ -16,14 +16,14 @@ pub struct Counts {
 }
 
 // What a row is made of: the words of an element below, and the most records (level 0) or prefix bits that a stretch may hold.
-#[derive(Drop)]
+#[derive(Clone, Copy)]
 struct Rule {
     words: u32,
     most: u32,
 }
 
 // A sweep along the keys: where the next stretch starts, the first element at or after that, and the stretches that have any.
-#[derive(Drop)]
+#[derive(Clone, Copy)]
 struct Sweep {
     start: u64,
     from: u32,

@@ -6,7 +6,7 @@ ghost use Rattle.totals.specs.Totals.{Room, no_totals, worth, ahead, earlier, up
 use store::Item;
 
 // How many records, their balances together, and of the leased one that ends first the key (0: none), the day and the price.
-#[derive(Drop)]
+#[derive(Clone, Copy)]
 pub struct Totals {
     pub count: u64,
     pub total: u64,

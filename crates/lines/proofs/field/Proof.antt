@@ -11,11 +11,11 @@ use Rattle.lines.proofs.field.Tie as tie
 
 returns : tie.Need-returns
 returns c =
-    let a = c.before.before.before.args in
+    let a = c.args in
     let e : a.at + a.w - a.at ≡ a.w = omega arith in
-    c.number_in_lem.ensures
+    c.number_in.ensures
     ∙ ap number_in (ap (λ k. take k (drop a.at a.line.now)) e ∙ sym (part_in_lem a.line.now a.at a.w (search rules)))
 
-pub field-spec : {M : Type 1} → statement M
-field-spec =
+pub field_spec : {M : Type 1} → statement M
+field_spec =
     tie.close (tie.spec (λ c. search rules) (λ c. search rules) (λ c. search rules) (λ c. search rules) (λ c κs. search rules) returns)

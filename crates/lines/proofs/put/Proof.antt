@@ -10,41 +10,41 @@ use Rattle.lines.proofs.WriteLaws.{put_first, put_more, put_done}
 use Rattle.lines.proofs.put.Statement.{statement}
 use Rattle.lines.proofs.put.Tie as tie
 
-abbrev invariant-loop : tie.invariant-loop
+abbrev invariant-loop : tie.invariant-loop-k
 invariant-loop out₀ at w number k₀ n₀ out k n =
     (k < w) × (length out ≡ length out₀) × (replaced at k (padded k n) out ≡ replaced at k₀ (padded k₀ n₀) out₀)
 
-abbrev decreases-loop : tie.decreases-loop
+abbrev decreases-loop : tie.decreases-loop-k
 decreases-loop out₀ at w number k₀ n₀ out k n = k
 
 -- a store keeps the length
 kept : (c : tie.After-shown invariant-loop decreases-loop)
-    → length c.before.before.loop.out ≡ length c.before.before.before.before.args.out.now
-kept c = c.before.before.loop.invariant.1 ∙ simp length-set
+    → length c.loop-k.out ≡ length c.args.out.now
+kept c = c.loop-k.invariant.1 ∙ simp length-set
 
-loop_holds : tie.Need-loop-init invariant-loop decreases-loop
+loop_holds : tie.Need-loop-k-init invariant-loop decreases-loop
 loop_holds c = (search rules, refl, refl)
 
-slice_write_out_2 : tie.Need-slice-write-out-2 invariant-loop decreases-loop
+slice_write_out_2 : tie.Need-bounds-out-at-in-loop-k invariant-loop decreases-loop
 slice_write_out_2 c = let e = kept c in search rules
 
-loop_again : tie.Need-loop-preserved invariant-loop decreases-loop
+loop_again : tie.Need-loop-k-preserved invariant-loop decreases-loop
 loop_again c =
-    let a = c.before.before.before.before.args in
-    let l = c.before.before.loop in
+    let a = c.args in
+    let l = c.loop-k in
     let e = kept c in (
       search rules,
       simp length-set e,
       put_more a.at l.k l.n c.shown.result l.out (search rules) (omega arith) c.shown.ensures ∙ l.invariant.2,
     )
 
-same_length : tie.Need-same-length invariant-loop decreases-loop
-same_length c = c.before.loop.invariant.1 ∙ simp length-set
+same_length : tie.Need-shape_of-out invariant-loop decreases-loop
+same_length c = c.loop-k.invariant.1 ∙ simp length-set
 
 returns : tie.Need-returns invariant-loop decreases-loop
 returns c =
-    let a = c.before.before.before.args in
-    let l = c.before.loop in
+    let a = c.args in
+    let l = c.loop-k in
     let z : l.k ≡ 0 = search rules in
     sym (put_done a.at l.n l.out)
     ∙ ap (λ j. replaced a.at j (padded j l.n) l.out) (sym z)

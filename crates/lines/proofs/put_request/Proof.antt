@@ -7,7 +7,7 @@ use Rattle.lines.proofs.WriteLaws.{request_put}
 use Rattle.lines.proofs.put_request.Statement.{statement}
 use Rattle.lines.proofs.put_request.Tie as tie
 
-same_length : tie.Need-same-length
+same_length : tie.Need-shape_of-out
 same_length c = simp length-set (omega arith)
 
 returns : tie.Need-returns
@@ -15,8 +15,8 @@ returns c =
     let p = c.before.before in
     let q = p.before.before.before.before in
     let r = q.before.before.before.before in
-    (refl, request_put _ _ _ _ _ _ _ _ _ (search rules) r.put.ensures q.put_two.ensures p.put-two2.ensures)
+    (refl, request_put _ _ _ _ _ _ _ _ _ (search rules) r.put.ensures q.put_two.ensures p.put_two-2.ensures)
 
-pub put-request-spec : {M : Type 1} → statement M
-put-request-spec =
+pub put_request_spec : {M : Type 1} → statement M
+put_request_spec =
     tie.close (tie.spec (λ c κs. search rules) (λ c κs. search rules) (λ c κs. search rules) (λ c. search rules) same_length returns)

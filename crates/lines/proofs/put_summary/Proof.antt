@@ -7,7 +7,7 @@ use Rattle.lines.proofs.WriteLaws.{summary_put}
 use Rattle.lines.proofs.put_summary.Statement.{statement}
 use Rattle.lines.proofs.put_summary.Tie as tie
 
-same_length : tie.Need-same-length
+same_length : tie.Need-shape_of-out
 same_length c = simp length-set (omega arith)
 
 returns : tie.Need-returns
@@ -17,11 +17,11 @@ returns c =
     let r = q.before.before.before.before in
     let t = r.before.before.before.before in (
       refl,
-      summary_put _ _ _ _ _ _ _ _ (search rules) t.put_two.ensures r.put.ensures q.put2.ensures p.put3.ensures,
+      summary_put _ _ _ _ _ _ _ _ (search rules) t.put_two.ensures r.put.ensures q.put-2.ensures p.put-3.ensures,
     )
 
-pub put-summary-spec : {M : Type 1} → statement M
-put-summary-spec =
+pub put_summary_spec : {M : Type 1} → statement M
+put_summary_spec =
     tie.close
     (tie.spec (λ c κs. search rules) (λ c κs. search rules) (λ c κs. search rules) (λ c κs. search rules) (λ c. search rules) same_length
     returns)

@@ -4,7 +4,7 @@ use Rattle.lines.proofs.put_two.Statement.{statement}
 use Rattle.lines.proofs.put_two.Tie as tie
 
 returns : tie.Need-returns
-returns c = rw c.before.before.before.before.before.before.put.ensures at c.before.before.put2.ensures
+returns c = rw c.put.ensures at c.put-2.ensures
 
-pub put-two-spec : {M : Type 1} → statement M
-put-two-spec = tie.close (tie.spec (λ c κs. search rules) (λ c. search rules) (λ c κs. search rules) (λ c. search rules) returns)
+pub put_two_spec : {M : Type 1} → statement M
+put_two_spec = tie.close (tie.spec (λ c κs. search rules) (λ c. search rules) (λ c κs. search rules) (λ c. search rules) returns)

@@ -7,11 +7,11 @@ use Rattle.lines.proofs.ColumnLaws.{digit_or_zero, digit_or_pos}
 use Rattle.lines.proofs.shown.Statement.{statement}
 use Rattle.lines.proofs.shown.Tie as tie
 
-returns : tie.Need-returns
-returns c = sym (ap digit_or c.if1.true ∙ digit_or_zero)
+returns : tie.Need-returns-then-n-eq0
+returns c = sym (ap digit_or c.if-n-eq0.true ∙ digit_or_zero)
 
-returns_2 : tie.Need-returns-2
-returns_2 c = sym (digit_or_pos c.before.args.n (omega arith))
+returns_2 : tie.Need-returns
+returns_2 c = sym (digit_or_pos c.args.n (omega arith))
 
-pub shown-spec : {M : Type 1} → statement M
-shown-spec = tie.close (tie.spec returns (λ c. search rules) (λ c. search rules) returns_2)
+pub shown_spec : {M : Type 1} → statement M
+shown_spec = tie.close (tie.spec returns (λ c. search rules) (λ c. search rules) returns_2)

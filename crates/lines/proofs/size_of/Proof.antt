@@ -28,14 +28,14 @@ size_of_others (SetUpLine θ C N P) h = absurd (miss others 7 tt h)
 size_of_others (EnterLine key price lease last) h = absurd (miss others 8 tt h)
 size_of_others WrongLine h = refl
 
-returns : tie.Need-returns
-returns c = sym (ap line_size c.before.reply.given.1)
+returns : tie.Need-returns-in-SetUpLine
+returns c = sym (ap line_size c.in-SetUpLine.is)
 
-returns_2 : tie.Need-returns-2
-returns_2 c = sym (ap line_size c.before.reply2.given.1)
+returns_2 : tie.Need-returns-in-EnterLine
+returns_2 c = sym (ap line_size c.in-EnterLine.is)
 
-returns_3 : tie.Need-returns-3
-returns_3 c = size_of_others c.before.args.reply c.match.keys3
+returns_3 : tie.Need-returns-in_default
+returns_3 c = size_of_others c.args.reply c.in_default.keys3
 
-pub size-of-spec : {M : Type 1} → statement M
-size-of-spec = tie.close (tie.spec (λ c. search rules) (λ c. search rules) returns returns_2 returns_3)
+pub size_of_spec : {M : Type 1} → statement M
+size_of_spec = tie.close (tie.spec (λ c. search rules) (λ c. search rules) returns returns_2 returns_3)

@@ -6,101 +6,101 @@ use Rattle.lines.proofs.WriteLaws.{written_fits, written_short}
 use Rattle.lines.proofs.write.Statement.{statement}
 use Rattle.lines.proofs.write.Tie as tie
 
-returns : tie.Need-returns
+returns : tie.Need-returns-then-out-size_of
 returns c = written_short _ _ (search rules)
 
-enum_told : tie.Need-enum-told
+enum_told : tie.Need-enum_told-1
 enum_told c = search rules
 
-put_fields_requires : tie.Need-put-fields-requires
-put_fields_requires c κs = let e = ap line_size c.before.before.reply.given.1 in search rules
+put_fields_requires : tie.Need-put_fields-requires
+put_fields_requires c κs = let e = ap line_size c.in-SetUpDone.is in search rules
 
-returns_2 : tie.Need-returns-2
+returns_2 : tie.Need-returns-in-SetUpDone
 unfolding reply_line
 returns_2 c =
-    written_fits _ _ _ _ _ (search rules) c.before.before.before.before.before.reply.given.1
-    c.before.before.put-fields.ensures
+    written_fits _ _ _ _ _ (search rules) c.in-SetUpDone.is
+    c.put_fields.ensures
 
-put_fields_requires_2 : tie.Need-put-fields-requires-2
-put_fields_requires_2 c κs = let e = ap line_size c.before.before.reply2.given.1 in search rules
+put_fields_requires_2 : tie.Need-put_fields-requires-in-Entered
+put_fields_requires_2 c κs = let e = ap line_size c.in-Entered.is in search rules
 
-returns_3 : tie.Need-returns-3
+returns_3 : tie.Need-returns-in-Entered
 unfolding reply_line
 returns_3 c =
-    written_fits _ _ _ _ _ (search rules) c.before.before.before.before.before.reply2.given.1
-    c.before.before.put-fields2.ensures
+    written_fits _ _ _ _ _ (search rules) c.in-Entered.is
+    c.put_fields-in-Entered.ensures
 
-put_fields_requires_3 : tie.Need-put-fields-requires-3
-put_fields_requires_3 c κs = let e = ap line_size c.before.before.reply3.given.1 in search rules
+put_fields_requires_3 : tie.Need-put_fields-requires-in-Found
+put_fields_requires_3 c κs = let e = ap line_size c.in-Found.is in search rules
 
-returns_4 : tie.Need-returns-4
+returns_4 : tie.Need-returns-in-Found
 unfolding reply_line
 returns_4 c =
-    written_fits _ _ _ _ _ (search rules) c.before.before.before.before.before.reply3.given.1
-    c.before.before.put-fields3.ensures
+    written_fits _ _ _ _ _ (search rules) c.in-Found.is
+    c.put_fields-in-Found.ensures
 
-put_fields_requires_4 : tie.Need-put-fields-requires-4
-put_fields_requires_4 c κs = let e = ap line_size c.before.before.reply4.given.1 in search rules
+put_fields_requires_4 : tie.Need-put_fields-requires-in-Listed
+put_fields_requires_4 c κs = let e = ap line_size c.in-Listed.is in search rules
 
-returns_5 : tie.Need-returns-5
+returns_5 : tie.Need-returns-in-Listed
 unfolding reply_line
 returns_5 c =
-    written_fits _ _ _ _ _ (search rules) c.before.before.before.before.before.reply4.given.1
-    c.before.before.put-fields4.ensures
+    written_fits _ _ _ _ _ (search rules) c.in-Listed.is
+    c.put_fields-in-Listed.ensures
 
-put_fields_requires_5 : tie.Need-put-fields-requires-5
-put_fields_requires_5 c κs = let e = ap line_size c.before.before.reply5.given.1 in search rules
+put_fields_requires_5 : tie.Need-put_fields-requires-in-RangeEnd
+put_fields_requires_5 c κs = let e = ap line_size c.in-RangeEnd.is in search rules
 
-returns_6 : tie.Need-returns-6
+returns_6 : tie.Need-returns-in-RangeEnd
 unfolding reply_line
 returns_6 c =
-    written_fits _ _ _ _ _ (search rules) c.before.before.before.before.before.reply5.given.1
-    c.before.before.put-fields5.ensures
+    written_fits _ _ _ _ _ (search rules) c.in-RangeEnd.is
+    c.put_fields-in-RangeEnd.ensures
 
-put_summary_requires : tie.Need-put-summary-requires
-put_summary_requires c κs = let e = ap line_size c.before.before.reply6.given.1 in search rules
+put_summary_requires : tie.Need-put_summary-requires
+put_summary_requires c κs = let e = ap line_size c.in-Totals.is in search rules
 
-returns_7 : tie.Need-returns-7
+returns_7 : tie.Need-returns-in-Totals
 unfolding reply_line
 returns_7 c =
-    written_fits _ _ _ _ _ (search rules) c.before.before.before.before.before.reply6.given.1
-    c.before.before.put-summary.ensures
+    written_fits _ _ _ _ _ (search rules) c.in-Totals.is
+    c.put_summary.ensures
 
-put_fields_requires_6 : tie.Need-put-fields-requires-6
-put_fields_requires_6 c κs = let e = ap line_size c.before.before.reply7.given.1 in search rules
+put_fields_requires_6 : tie.Need-put_fields-requires-in-Refused
+put_fields_requires_6 c κs = let e = ap line_size c.in-Refused.is in search rules
 
-returns_8 : tie.Need-returns-8
+returns_8 : tie.Need-returns-in-Refused
 unfolding reply_line
 returns_8 c =
-    written_fits _ _ _ _ _ (search rules) c.before.before.before.before.before.reply7.given.1
-    c.before.before.put-fields6.ensures
+    written_fits _ _ _ _ _ (search rules) c.in-Refused.is
+    c.put_fields-in-Refused.ensures
 
-put_request_requires : tie.Need-put-request-requires
-put_request_requires c κs = let e = ap line_size c.before.before.reply8.given.1 in search rules
+put_request_requires : tie.Need-put_request-requires
+put_request_requires c κs = let e = ap line_size c.in-SetUpLine.is in search rules
 
-returns_9 : tie.Need-returns-9
+returns_9 : tie.Need-returns-in-SetUpLine
 unfolding reply_line
 returns_9 c =
-    written_fits _ _ _ _ _ (search rules) c.before.before.before.before.before.reply8.given.1
-    c.before.before.put-request.ensures
+    written_fits _ _ _ _ _ (search rules) c.in-SetUpLine.is
+    c.put_request.ensures
 
-put_request_requires_2 : tie.Need-put-request-requires-2
-put_request_requires_2 c κs = let e = ap line_size c.before.before.reply9.given.1 in search rules
+put_request_requires_2 : tie.Need-put_request-requires-in-EnterLine
+put_request_requires_2 c κs = let e = ap line_size c.in-EnterLine.is in search rules
 
-returns_10 : tie.Need-returns-10
+returns_10 : tie.Need-returns-in-EnterLine
 unfolding reply_line
 returns_10 c =
-    written_fits _ _ _ _ _ (search rules) c.before.before.before.before.before.reply9.given.1
-    c.before.before.put-request2.ensures
+    written_fits _ _ _ _ _ (search rules) c.in-EnterLine.is
+    c.put_request-in-EnterLine.ensures
 
-put_fields_requires_7 : tie.Need-put-fields-requires-7
-put_fields_requires_7 c κs = let e = ap line_size c.before.enum_told.given.1 in search rules
+put_fields_requires_7 : tie.Need-put_fields-requires-in-WrongLine
+put_fields_requires_7 c κs = let e = ap line_size c.in-WrongLine.is in search rules
 
-returns_11 : tie.Need-returns-11
+returns_11 : tie.Need-returns-in-WrongLine
 unfolding reply_line
 returns_11 c =
-    written_fits _ _ _ _ _ (search rules) c.before.before.before.before.enum_told.given.1
-    c.before.before.put-fields7.ensures
+    written_fits _ _ _ _ _ (search rules) c.in-WrongLine.is
+    c.put_fields-in-WrongLine.ensures
 
 pub write_spec : {M : Type 1} → statement M
 write_spec =

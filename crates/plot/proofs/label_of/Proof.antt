@@ -5,12 +5,12 @@ use Rattle.plot.proofs.Laws.{label_refused, label_given}
 use Rattle.plot.proofs.label_of.Statement.{statement}
 use Rattle.plot.proofs.label_of.Tie as tie
 
-returns : tie.Need-returns
+returns : tie.Need-returns-then-key-lt16777216
 returns c = label_refused (omega arith)
 
-returns_2 : tie.Need-returns-2
+returns_2 : tie.Need-returns
 unfolding section_of row_of place_of letter_of
 returns_2 c = label_given (omega arith) (omega arith)
 
-pub label-of-spec : {M : Type 1} → statement M
-label-of-spec = tie.close (tie.spec returns returns_2)
+pub label_of_spec : {M : Type 1} → statement M
+label_of_spec = tie.close (tie.spec returns returns_2)

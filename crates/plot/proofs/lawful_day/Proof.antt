@@ -8,5 +8,5 @@ returns : tie.Need-returns
 unfolding lawful_day
 returns c = refl
 
-pub lawful-day-spec : {M : Type 1} → statement M
-lawful-day-spec = tie.close (tie.spec returns)
+pub lawful_day_spec : {M : Type 1} → statement M
+lawful_day_spec = tie.close (tie.spec returns)

@@ -10,8 +10,8 @@ use Rattle.plot.proofs.lawful_record.Tie as tie
 returns : tie.Need-returns
 unfolding lawful is_word
 returns c =
-    let r = c.before.before.args.«record» in
-    rw (c.lawful-term.ensures, lt-ltb r.key (2 ^ 32) (search rules), lt-ltb r.price (2 ^ 32) (search rules))
+    let r = c.args.«record» in
+    rw (c.lawful_term.ensures, lt-ltb r.key (2 ^ 32) (search rules), lt-ltb r.price (2 ^ 32) (search rules))
 
-pub lawful-record-spec : {M : Type 1} → statement M
-lawful-record-spec = tie.close (tie.spec (λ c κs. search rules) returns)
+pub lawful_record_spec : {M : Type 1} → statement M
+lawful_record_spec = tie.close (tie.spec (λ c κs. search rules) returns)

@@ -15,8 +15,8 @@ picked false zero days day = refl
 returns : tie.Need-returns
 unfolding lawful_term
 returns c =
-    let a = c.before.args in
-    rw c.lawful-day.ensures (picked (eqb a.lease 0) (eqb a.last 0) (leb a.lease largest_lease) (lawful_day a.last))
+    let a = c.args in
+    rw c.lawful_day.ensures (picked (eqb a.lease 0) (eqb a.last 0) (leb a.lease largest_lease) (lawful_day a.last))
 
-pub lawful-term-spec : {M : Type 1} → statement M
-lawful-term-spec = tie.close (tie.spec (λ c κs. search rules) returns)
+pub lawful_term_spec : {M : Type 1} → statement M
+lawful_term_spec = tie.close (tie.spec (λ c κs. search rules) returns)

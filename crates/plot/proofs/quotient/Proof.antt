@@ -15,20 +15,20 @@ module _ (c : tie.Start) where
   whole : c.args.product / c.args.by < 2 ^ 32
   whole = quotient_below _ _ c.requires.0 c.requires.2
 
-mul_result : tie.Need-overflow-mul-result
+mul_result : tie.Need-overflow_mul-result
 mul_result c = record { fits = omega (arith, c.requires.1) }
 
-add_result : tie.Need-overflow-add-result
+add_result : tie.Need-overflow_add-result
 add_result c = record { fits = omega (arith, c.requires.1, c.requires.2) }
 
-sub_result : tie.Need-overflow-sub-result
+sub_result : tie.Need-overflow_sub-result
 sub_result c = omega (arith, raised c)
 
-cast_result : tie.Need-overflow-cast-result
+cast_result : tie.Need-overflow_cast-result
 cast_result c = record { fits = omega (arith, raised c, whole c) }
 
 returns : tie.Need-returns
 returns c = omega (arith, raised c)
 
-pub quotient-spec : {M : Type 1} → statement M
-quotient-spec = tie.close (tie.spec mul_result add_result (λ c. search rules) sub_result cast_result returns)
+pub quotient_spec : {M : Type 1} → statement M
+quotient_spec = tie.close (tie.spec mul_result add_result (λ c. search rules) sub_result cast_result returns)

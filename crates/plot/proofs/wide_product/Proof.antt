@@ -4,8 +4,8 @@ use Rattle.plot.proofs.Laws.{product_below}
 use Rattle.plot.proofs.wide_product.Statement.{statement}
 use Rattle.plot.proofs.wide_product.Tie as tie
 
-mul_result : tie.Need-overflow-mul-result
+mul_result : tie.Need-overflow_mul-result
 mul_result c = record { fits = product_below 32 (search rules) (search rules) }
 
-pub wide-product-spec : {M : Type 1} → statement M
-wide-product-spec = tie.close (tie.spec mul_result (λ c. search rules))
+pub wide_product_spec : {M : Type 1} → statement M
+wide_product_spec = tie.close (tie.spec mul_result (λ c. search rules))
