@@ -122,9 +122,17 @@ def main():
     fields = {it for it in fields if ODD.search(it)}
     every = declared | fields
     problems, out = [], {}
+
+    def turned(word, before, after, ending):
+        """A function of src/, a field and what stands behind a dot get no `_lem`."""
+        if ending == ".rt" or before.endswith(".") or word in of_records and (after == " = " and re.search(r"[{;\s]$", before)):
+            return plain(word)
+        return spelled(word)
+
     for p, t in texts.items():
         ending = os.path.splitext(p)[1]
         code = code_of(t, ending)
+        t0 = t
         lent = from_libraries(code, crates)
         mine = (every | bound.get(p, set())) - lent
         is_function = bool(FUNCTION_FILE.search(p))
@@ -136,8 +144,7 @@ def main():
             before = text[max(0, m.start() - 6) : m.start()]
             if before.endswith(("tie.", "goal.")):
                 return word
-            # behind a dot a proof of a function names what Rattle makes, but for fields that are declared
-            return spelled(word)
+            return turned(word, before, text[m.end() : m.end() + 3], ending)
 
         def in_comment(text):
             def quoted(m):

@@ -497,7 +497,7 @@ pub fn serve(store: &mut [u32], d: Desk, input: &[u8], out: &mut [u8]) -> Progre
     let mut desk = d;
     let mut taken: usize = 0;
     let mut put: usize = 0;
-    while goes_on_lem(desk, input.len() - taken, out.len() - put) {
+    while goes_on(desk, input.len() - taken, out.len() - put) {
         let t = turn(store, desk, &input[taken..], &mut out[put..]);
         desk = t.desk;
         taken += t.taken;
@@ -507,7 +507,7 @@ pub fn serve(store: &mut [u32], d: Desk, input: &[u8], out: &mut [u8]) -> Progre
 }
 
 // Whether there is something to do, and room for it.
-fn goes_on_lem(d: Desk, left: usize, room: usize) -> bool
+fn goes_on(d: Desk, left: usize, room: usize) -> bool
     ensures { result ≡ goes_on d left room }
 {
     if room < PART_BYTES {

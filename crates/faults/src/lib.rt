@@ -268,7 +268,7 @@ const DEEP: [[u32; 10]; 3] = [
 fn put_node(store: &mut [u32], n: u32, depth: u32, pointer: u32)
     ensures { store.new ≡ node_put store.old n depth pointer }
 {
-    let at = blocks::node_at_lem(store, n);
+    let at = blocks::node_at(store, n);
     let entries = store::pow2(depth % 7);
     words::put(store, at, depth);
     words::put(store, at + 1, n);

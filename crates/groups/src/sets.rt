@@ -175,7 +175,7 @@ fn entry(store: &mut [u32], expected: Reply, plot: Record, tally: &mut [u64])
 }
 
 // A range, with the records that it lists; the first key not written.
-fn part_in_lem(store: &mut [u32], list: &[u32], out: &mut [u32], call: Call, tally: &mut [u64]) -> u32
+fn part_in(store: &mut [u32], list: &[u32], out: &mut [u32], call: Call, tally: &mut [u64]) -> u32
     ensures { let q = part_in list.now (both store.old tally.old) out.old call in
         (result ≡ q.next) × (store.new ≡ q.store) × (out.new ≡ q.out) × (tally.new ≡ q.tally) }
 {
@@ -200,7 +200,7 @@ fn part(store: &mut [u32], list: &[u32], call: Call, tally: &mut [u64]) -> u32
         (result ≡ q.next) × (store.new ≡ q.store) × (tally.new ≡ q.tally) }
 {
     let mut out = [0u32; 1024];
-    part_in_lem(store, list, &mut out, call, tally)
+    part_in(store, list, &mut out, call, tally)
 }
 
 // A reading, compared with the list's.

@@ -139,7 +139,7 @@ module _ (f : Format) (s : List ℕ) (b0 : Trie Stretch) (bs : List (Trie ℕ)) 
       (λ y o e.
       let i = released_node_lem f s b0 bs r y o in
       node_formed f s r.sized y (node_next s y) i.0 (omega (arith, i.1, r.nodes_fit)) e)
-      r.released_nodes_lem.each
+      r.released_nodes.each
 
   nodes_once : (x : ℕ) → 0 + count x (chain_of (node_next s) (released_of s).nodes (released_of s).node) ≤ 1
   unfolding released_nodes
@@ -152,7 +152,7 @@ module _ (f : Format) (s : List ℕ) (b0 : Trie Stretch) (bs : List (Trie ℕ)) 
   pub rep_nodes_ok : (n : ℕ) → nodes_ok s n ≡ true
   unfolding nodes_ok released_nodes
   rep_nodes_ok n =
-      chain_passes (node_form s) (node_next s) (head_of s).nodes_taken n (released_of s).nodes (released_of s).node [] r.released_nodes_lem.ends
+      chain_passes (node_form s) (node_next s) (head_of s).nodes_taken n (released_of s).nodes (released_of s).node [] r.released_nodes.ends
       (λ x o.
       let i = released_node_lem f s b0 bs r x o in (
         all_at (λ y. node_form s y ≡ true) (chain_of (node_next s) (released_of s).nodes (released_of s).node) x nodes_form o
@@ -170,7 +170,7 @@ module _ (f : Format) (s : List ℕ) (b0 : Trie Stretch) (bs : List (Trie ℕ)) 
       (λ y o e.
       let i = released_page_lem f s b0 bs r y o in
       page_formed f s r.sized y (page_next f s y) i.0 (omega (arith, i.1, r.pages_fit)) e)
-      r.released_pages_lem.each
+      r.released_pages.each
 
   pages_once : (x : ℕ) → 0 + count x (chain_of (page_next f s) (released_of s).pages (released_of s).page) ≤ 1
   unfolding released_pages
@@ -183,7 +183,7 @@ module _ (f : Format) (s : List ℕ) (b0 : Trie Stretch) (bs : List (Trie ℕ)) 
   pub rep_pages_ok : (n : ℕ) → pages_ok f s n ≡ true
   unfolding pages_ok released_pages
   rep_pages_ok n =
-      chain_passes (page_form f s) (page_next f s) (head_of s).pages_taken n (released_of s).pages (released_of s).page [] r.released_pages_lem.ends
+      chain_passes (page_form f s) (page_next f s) (head_of s).pages_taken n (released_of s).pages (released_of s).page [] r.released_pages.ends
       (λ x o.
       let i = released_page_lem f s b0 bs r x o in (
         all_at (λ y. page_form f s y ≡ true) (chain_of (page_next f s) (released_of s).pages (released_of s).page) x pages_form o

@@ -200,7 +200,7 @@ module _ (f : Format) (θ C : ℕ) (it : Item) (lawful : lawful_item f it ≡ tr
   put_ends : (w.page ≡ 0 → ⊥) → 1 ≤ length w.path → Ends f it (put_items f C s w.page rs)
   put_ends some long =
       let low : 1 ≤ w.page = omega arith in
-      let high : w.page ≤ (head_of s).page_blocks = omega (arith, y.page_in_lem, y.pages.fits) in
+      let high : w.page ≤ (head_of s).page_blocks = omega (arith, y.page_in, y.pages.fits) in
       let t : List ℕ = put_items f C s w.page rs in
       let e : head_of t ≡ head_of s = put_head_lem f C s w.page rs y.sized low high y.capacity small in
       let k = items_kept f C s w.page rs y.sized low high y.capacity small in

@@ -125,7 +125,7 @@ module _ (f : Format) (θ C : ℕ) (it : Item) where
         (far_q f θ C key d w y full) (room_q f θ C key d w y full)
         (sound_moved f θ key s q.words 0 w.path w.page more pages.rooted.root pages.rooted.levels same g.sound) some
         y.apart (subst (λ n. Off n w.path) (sym (stays f θ C key d w y g.behind)) g.behind)
-        (omega (arith, g.used_is, left)) step.left_in_lem step.right_in
+        (omega (arith, g.used_is, left)) step.left_in step.right_in
 
     page_is : reached_by f θ key w.path q.left q.right ≡ elim (bit b key) [ true ↦ q.right | false ↦ q.left ]
     page_is =

@@ -304,7 +304,7 @@ module _ (f : Format) (θ C k : ℕ) where
     pub halves : Parts f s w.page y.page_numbers parted_now
     halves =
         parts f C s w.page y.page_numbers (side key_of false b w.items) (side key_of true b w.items) y.sized y.capacity
-        (y.some (omega (arith, full, positive f θ C k (suc d) w y))) y.page_in_lem y.pages
+        (y.some (omega (arith, full, positive f θ C k (suc d) w y))) y.page_in y.pages
         (omega (arith, y.page_enough, one_page f θ C k d w y full))
         (omega (arith, full, length_sides key_of b w.items)) (page_step f θ C k d w y full)
 
@@ -388,7 +388,7 @@ module _ (f : Format) (θ C k : ℕ) where
         let fits : length rs ≤ C = omega (arith, length_insert key_of it w.items, room_at_last f θ C k w y) in
         let z : Paged f s (put_items f C s w.page rs) w.page y.page_numbers =
         items_paged f C s rs y.sized y.capacity fits w.page y.page_numbers (omega arith)
-        (omega (arith, y.page_in_lem, y.pages.fits)) y.pages.fits in
+        (omega (arith, y.page_in, y.pages.fits)) y.pages.fits in
         both_framed f s _ _ w.path w.page (behind_in s w.path) y.numbers y.page_numbers z
         (noded_none _ w.path (behind_in s w.path) y.numbers (omega (arith, y.nodes.fits, z.taken, z.sizes.nodes)))
         (omega (arith, led_behind s w.path y.led, y.nodes.fits))

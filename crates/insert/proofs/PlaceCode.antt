@@ -109,7 +109,7 @@ module _ (f : Format) (s : List ℕ) (h : Head) (it : Item) {e : End} {d : Desce
 
     high : d.page ≤ (head_of s).page_blocks
     unfolding way_of
-    high = omega (arith, y.page_in_lem, y.pages.fits)
+    high = omega (arith, y.page_in, y.pages.fits)
 
     small : length items < C
     small = room_at_last f h.theta C it.key way y

@@ -122,7 +122,7 @@ module _ (f : Format) (k : ℕ) (s : List ℕ) (h : Head) (d : Descent) (c : Car
       record {
         sized = fine.sized;
         low = some;
-        high = fine.page_in_lem;
+        high = fine.page_in;
         number = o.n;
         rest = o.ns;
         supply = subst (PageSupply f s) o.is fine.pages;
@@ -158,7 +158,7 @@ module _ (f : Format) (k : ℕ) (s : List ℕ) (h : Head) (d : Descent) (c : Car
   unfolding way_of
   levels_q =
       (parts f C s d.page fine.page_numbers (side key_of false b w.items) (side key_of true b w.items) fine.sized refl some
-      fine.page_in_lem fine.pages page_there
+      fine.page_in fine.pages page_there
       (omega (arith, full, length_sides key_of b w.items)) (page_step f θ C k y.more w fine full)).paged.rooted.levels
       ∙ ap (λ (x : Head). x.levels) (sym c.head_is)
 

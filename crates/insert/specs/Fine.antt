@@ -184,7 +184,7 @@ pub record Fine (f : Format) (θ C k d : ℕ) (w : Way) : Type 0 where
   -- a path has room for 32 steps
   pub short : length w.path ≤ 32
   pub sum_in : sum (depths w.path) ≤ w.used
-  pub page_in_lem : w.page ≤ (head_of w.words).pages_taken
+  pub page_in : w.page ≤ (head_of w.words).pages_taken
   pub some : 1 ≤ length w.items → 1 ≤ w.page
   pub image : (w.page ≡ 0 → ⊥) → page_of f w.words w.page ≡ page_image f C w.items
   pub lawful : All (λ it. lawful_item f it ≡ true) w.items

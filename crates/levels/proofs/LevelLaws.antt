@@ -65,7 +65,7 @@ module _ (f : Format) (s : List ℕ) (h : Head) (k level : ℕ) (t : Step) (m q 
       (sym b)
       (record {
         ok_is = refl;
-        spot_is_lem = λ o. spot_start rs e g;
+        spot_is = λ o. spot_start rs e g;
         gone_are = λ o. sym (append-nil (take at gone));
         tracked = λ o. y;
       })
@@ -116,9 +116,9 @@ pub turned : (f : Format) (k θ l : ℕ) (z : NodesR) (w : Rise) (r : NodeJoins)
 turned f k θ l z w r b hand blocks gone gone' marks e y =
     record {
       ok_is = y.ok_is;
-      number_is = λ o. ap (λ (x : Spot). x.number) (y.spot_is_lem o);
-      used_is = λ o. ap (λ (x : Spot). x.used) (y.spot_is_lem o);
-      block_is = λ o. ap (λ (x : Spot). x.block) (y.spot_is_lem o) ∙ sym e;
+      number_is = λ o. ap (λ (x : Spot). x.number) (y.spot_is o);
+      used_is = λ o. ap (λ (x : Spot). x.used) (y.spot_is o);
+      block_is = λ o. ap (λ (x : Spot). x.block) (y.spot_is o) ∙ sym e;
       gone_are = λ o. y.gone_are o;
       tracked = λ o. y.tracked o;
     }
@@ -284,7 +284,7 @@ module _ {f : Format} {s : List ℕ} {h : Head} {k : ℕ} {ts : List Step} {whol
       let us_long : length us ≡ length ts - suc l = lib.ListN.length-drop (suc l) ts in
       record {
         ok_is = ok_is ∙ o ∙ ap (λ (x : Levels). x.ok) (sym is);
-        levels_are_lem = λ _.
+        levels_are = λ _.
             subst (LevelsAre s h.theta (l + 1) numbers' blocks' h.levels) (sym spots_are)
             (record {
               long = length-append y.done xs ∙ omega (arith, y.long, map_long s us, us_long, size, low);
@@ -338,7 +338,7 @@ rising_out {f} {s} {h} {k} {ts} {whole} {l} {w} {numbers} {blocks} {gone} {marks
     let spots_are : whole.spots ≡ y.done = ap (λ (x : Levels). x.spots) is in
     record {
       ok_is = ap (λ (x : Levels). x.ok) (sym is);
-      levels_are_lem = λ _.
+      levels_are = λ _.
           subst (LevelsAre s h.theta l numbers blocks h.levels) (sym spots_are)
           (record {
             long = y.long ∙ sym e;
@@ -376,7 +376,7 @@ pub levelled_lost : (s : List ℕ) (h : Head) (ts : List Step) (z : Levels) (r :
 levelled_lost s h ts z r numbers blocks gone o e =
     record {
       ok_is = o ∙ sym e;
-      levels_are_lem = λ q. absurd (false≢true (sym o ∙ q));
+      levels_are = λ q. absurd (false≢true (sym o ∙ q));
       gone_are = λ q. absurd (false≢true (sym o ∙ q));
       linked_is = λ q. absurd (false≢true (sym o ∙ q));
     }

@@ -47,6 +47,6 @@ pub record Turned (f : Format) (k θ l : ℕ) (z : NodesR) (w r : Rise) (blocks 
 
 pub record Levelled (s : List ℕ) (h : Head) (ts : List Step) (z : Levels) (r : LevelJoins) (numbers blocks gone : List ℕ) : Type 0 where
   pub ok_is : r.ok ≡ z.ok
-  pub levels_are_lem : r.ok ≡ true → LevelsAre s h.theta r.changed numbers blocks h.levels z.spots
+  pub levels_are : r.ok ≡ true → LevelsAre s h.theta r.changed numbers blocks h.levels z.spots
   pub gone_are : r.ok ≡ true → z.released ≡ take r.end gone
   pub linked_is : r.ok ≡ true → r.linked ≡ ltb (first_spot z.spots).used (first_used ts)

@@ -139,7 +139,7 @@ fn take_node(
     ensures { (hand.new ≡ covered (width f) head.theta key t.used m q (node_at store.now head t.node))
         × HandFine f head.theta m t.used hand.new }
 {
-    let node = store::node_at_lem(store, f, head, t.node);
+    let node = store::node_at(store, f, head, t.node);
     split::copy(hand, node);
     siblings::cover_hand(hand, f, head.theta, key, t.used, m, q);
 }

@@ -187,7 +187,7 @@ near_done {f} {s} {h} k u ok low some one fits root rs a =
     (subst (λ zs. kept_levels (map (spot_at s) zs) ≡ map (spot_at s) zs) (path_first k u ok) kept) a
     ∙ ap (stayed s (d k u ok).page its) (sym (path_first k u ok)) in (
       ap (λ (x : Plan). x.ok) plan,
-      writes_under u (d k u ok).page its ts some (omega (arith, (down k u ok).page_in_lem, (under_counts u).filled)) fits (path_in_lem k u ok)
+      writes_under u (d k u ok).page its ts some (omega (arith, (down k u ok).page_in, (under_counts u).filled)) fits (path_in_lem k u ok)
           (top_node s ts h.levels (path_long k u ok) (under_levels u).0 ∙ path_top k u ok) (path_long k u ok)
           ∙ ap (written_by f s h) (sym plan),
     )

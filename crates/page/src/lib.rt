@@ -142,7 +142,7 @@ fn begin(n: usize) -> Progress
 }
 
 // Whether the check goes on: to the last record, so that no branch waits for a test.
-fn goes_on_lem(p: Progress) -> bool
+fn goes_on(p: Progress) -> bool
     ensures { result ≡ goes_on p }
 {
     p.left > 0
@@ -185,7 +185,7 @@ fn in_order(page: &[u32], f: Format, n: usize) -> bool
 {
     let mut p = begin(n);
     let mut reader = open(page, 0);
-    while goes_on_lem(p) {
+    while goes_on(p) {
         let q = advance(reader, f);
         p = checked(p, f, q.item);
         reader = q.rest;

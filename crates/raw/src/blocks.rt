@@ -30,7 +30,7 @@ fn words_of(count: u32, words: u32) -> usize
 }
 
 // The first word of a node block.
-pub fn node_at_lem(store: &[u32], n: u32) -> usize
+pub fn node_at(store: &[u32], n: u32) -> usize
     ensures { (result ≡ node_block store.now n) × (result < 2 ^ 34) }
 {
     16 + words_of(words::difference(n, 1), node_words(word(store, 0)))
@@ -59,7 +59,7 @@ pub fn start_of(store: &[u32], kind: u32, n: u32) -> usize
         return 0;
     }
     if kind == NODE {
-        return node_at_lem(store, n);
+        return node_at(store, n);
     }
     page_at(store, n)
 }

@@ -38,7 +38,7 @@ fn node_word(store: &[u32], n: u32, i: usize) -> u32
     requires { i < 4 }
     ensures { result ≡ node_word store.now n i }
 {
-    word(store, blocks::node_at_lem(store, n) + i)
+    word(store, blocks::node_at(store, n) + i)
 }
 
 // The entries of a node: 2^H.
@@ -68,8 +68,8 @@ fn pair_children(x: &[u32], y: &[u32], twins: &mut [u32], queue: &mut [u32], a: 
         let q = paired_from x y a (word twins.old a) (both twins.old queue.old) 0 (entries_of x a) in
         (twins.new ≡ q.twins) × (queue.new ≡ q.queue) }
 {
-    let ax = blocks::node_at_lem(x, a);
-    let ay = blocks::node_at_lem(y, word(twins, to_index(a)));
+    let ax = blocks::node_at(x, a);
+    let ay = blocks::node_at(y, word(twins, to_index(a)));
     let n = entries(x, a);
     let mut j: usize = 0;
     while j < n {
@@ -134,8 +134,8 @@ fn same_pointer(x: &[u32], y: &[u32], twins: &[u32], level: u32, p: u32, q: u32)
 fn same_entries(x: &[u32], y: &[u32], twins: &[u32], a: u32, b: u32) -> bool
     ensures { result ≡ same_entries x.now y.now twins.now a b }
 {
-    let ax = blocks::node_at_lem(x, a);
-    let ay = blocks::node_at_lem(y, b);
+    let ax = blocks::node_at(x, a);
+    let ay = blocks::node_at(y, b);
     let level = node_word(x, a, LEVEL);
     let n = entries(x, a);
     let mut j: usize = 0;
@@ -215,7 +215,7 @@ fn apart(twins: &[u32], nodes: u32) -> bool
 }
 
 // Whether two heads are the same but for the root.
-fn same_head_lem(x: &[u32], y: &[u32]) -> bool
+fn same_head(x: &[u32], y: &[u32]) -> bool
     ensures { result ≡ same_head x.now y.now }
 {
     if !words::same(x, 0, y, 0, 6) {

@@ -73,7 +73,7 @@ module _ {f : Format} {s : List ℕ} {h : Head} {k i : ℕ} (y : Located f s h k
           let H = head_facts f s y.under.rule in
           (descent_down f s (head_of s) k H.counts.levels_low
           (omega (arith, H.counts.levels, levels_within f (head_of s).theta (head_of s).capacity H.limits.theta_low)) H.counts.root_low
-          H.counts.root ok).page_in_lem
+          H.counts.root ok).page_in
 
       page_in_lem : (g : Head) → g ≡ head_of s → (descent f s g k).ok ≡ true → (descent f s g k).page ≤ g.pages_taken
       page_in_lem g e = subst (λ x. (descent f s x k).ok ≡ true → (descent f s x k).page ≤ x.pages_taken) (sym e) at
@@ -202,7 +202,7 @@ module _ (s : List ℕ) (h : Head) (ts : List Step) {z : Levels} {j : LevelJoins
   levels_lost o r e nodes =
       record {
         ok_is = e ∙ sym o ∙ y.ok_is;
-        levels_are_lem = λ q. absurd (false≢true (sym e ∙ q));
+        levels_are = λ q. absurd (false≢true (sym e ∙ q));
         each = λ q. absurd (false≢true (sym e ∙ q));
         linked_is = λ q. absurd (false≢true (sym e ∙ q));
         nodes_are = λ q. absurd (false≢true (sym e ∙ q));
@@ -219,11 +219,11 @@ module _ (s : List ℕ) (h : Head) (ts : List Step) {z : Levels} {j : LevelJoins
         outline = record { page = p; levels = kept; changed = changed; linked = j.linked; pages = q; nodes = end };
       }) numbers blocks nodes
   levels_done o {kept} a few b {changed} c =
-      let w = y.levels_are_lem o in
+      let w = y.levels_are o in
       let size = a z.spots w in
       record {
         ok_is = sym o ∙ y.ok_is;
-        levels_are_lem = λ q. size;
+        levels_are = λ q. size;
         each = λ q. kept_carried s h.theta j.changed changed numbers blocks h.levels z.spots w (omega (arith, few, size)) (c ∙ ap (min j.changed) size);
         linked_is = λ q. y.linked_is o;
         nodes_are = λ q.
@@ -303,7 +303,7 @@ module _ (f : Format) (s : List ℕ) (h : Head) (k : ℕ) (d : Descent) where
           (record {
             page = v.page_is ∙ sym (y.page_is o);
             image = λ n. y.items_are o;
-            levels = w.levels_are_lem e;
+            levels = w.levels_are e;
             each = w.each e;
             linked = w.linked_is e;
             pages_are = y.pages_are o ∙ ap (λ n. take n pages) (sym v.pages_is);

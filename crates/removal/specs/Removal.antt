@@ -49,7 +49,7 @@ pub record PagesDone (f : Format) (C k : ℕ) (z : Pages) (r : PagePart) (items 
 
 pub record LevelsDone (s : List ℕ) (h : Head) (ts : List Step) (z : Levels) (r : Draft) (numbers blocks nodes : List ℕ) : Type 0 where
   pub ok_is : r.ok ≡ z.ok
-  pub levels_are_lem : r.ok ≡ true → r.outline.levels ≡ length (kept_levels z.spots)
+  pub levels_are : r.ok ≡ true → r.outline.levels ≡ length (kept_levels z.spots)
   pub each : r.ok ≡ true → (l : ℕ) → l < length (kept_levels z.spots)
       → LevelIs s h.theta r.outline.changed numbers blocks l (get_or (kept_levels z.spots) l no_spot)
   pub linked_is : r.ok ≡ true → r.outline.linked ≡ ltb (first_spot z.spots).used (first_used ts)

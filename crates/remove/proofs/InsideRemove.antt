@@ -98,7 +98,7 @@ module _ (f : Format) (s : List ℕ) (H : Headed f s) where
   InNode n = (1 ≤ n) × (n ≤ h.nodes_taken)
 
   pub record SpotIn (x : Spot) : Type 0 where
-    pub number_in_lem : InNode x.number
+    pub number_in : InNode x.number
     pub long : length x.block ≡ node_words h.theta
     pub forward_in : forward_word x.block 0 ≤ h.nodes_taken
 
@@ -173,7 +173,7 @@ module _ (f : Format) (s : List ℕ) (H : Headed f s) where
 
   -- nodes
   pub record NodesIn (g : NodesR) : Type 0 where
-    pub spot_in_lem : SpotIn g.spot
+    pub spot_in : SpotIn g.spot
     pub released_in : In h.nodes_taken g.released
 
   pub in_append : (m : ℕ) (xs ys : List ℕ) → In m xs → In m ys → In m (xs ++ ys)
@@ -186,23 +186,23 @@ module _ (f : Format) (s : List ℕ) (H : Headed f s) where
   unfolding both_nodes
   both_in k m q g true p reached i n b =
       record {
-        spot_in_lem = record {
-          number_in_lem = n;
+        spot_in = record {
+          number_in = n;
           long = cover_long h.theta _ _ _ _;
           forward_in = omega (
             arith,
             cover_forward h.theta (joined h.theta (node_of s p) g.spot.block)
                 (Rattle.lists.specs.Bits.bits (width f - (g.spot.used - 1)) k) (m - (g.spot.used - 1)) q,
             joined_forward h.theta (node_of s p) g.spot.block,
-            i.spot_in_lem.forward_in,
+            i.spot_in.forward_in,
           );
         };
-        released_in = in_append h.nodes_taken g.released (g.spot.number ∷ []) i.released_in (i.spot_in_lem.number_in_lem, tt);
+        released_in = in_append h.nodes_taken g.released (g.spot.number ∷ []) i.released_in (i.spot_in.number_in, tt);
       }
   both_in k m q g false p reached i n b =
       record {
-        spot_in_lem = record {
-          number_in_lem = i.spot_in_lem.number_in_lem;
+        spot_in = record {
+          number_in = i.spot_in.number_in;
           long = cover_long h.theta _ _ _ _;
           forward_in = omega (
             arith,
@@ -231,7 +231,7 @@ module _ (f : Format) (s : List ℕ) (H : Headed f s) where
         | inl x ↦
             elim (bool_cases z.found) [
               | inr y ↦ subst NodesIn (sym (turn_none f s h k level m q n g z refl x y))
-                  (record { spot_in_lem = i.spot_in_lem; released_in = i.released_in })
+                  (record { spot_in = i.spot_in; released_in = i.released_in })
               | inl y ↦
                   let p : ℕ = z.pointer in
                   let e = enters_node level some p (sibling_in k g.spot.used level g.reached x y) in
@@ -242,7 +242,7 @@ module _ (f : Format) (s : List ℕ) (H : Headed f s) where
                         (max (Rattle.node.specs.Node.depth_word g.spot.block 0) (Rattle.node.specs.Node.depth_word (node_of s p) 0)))
                         h.theta)) [
                           | inr u ↦ subst NodesIn (sym (turn_tall f s h k level m q n g z refl x y t u))
-                              (record { spot_in_lem = i.spot_in_lem; released_in = i.released_in })
+                              (record { spot_in = i.spot_in; released_in = i.released_in })
                           | inl u ↦
                               elim (bool_cases (not (eqb level 1) || links_ok s h g.spot p (on_left (width f) k g.spot.used))) [
                                 | inr w ↦ absurd (false≢true
@@ -277,7 +277,7 @@ module _ (f : Format) (s : List ℕ) (H : Headed f s) where
   spots_at : (ts : List Step) → All StepFine ts → All SpotIn (map (spot_at s) ts)
   spots_at [] a = tt
   spots_at (t ∷ ts) a =
-      (record { number_in_lem = a.0.0; long = node_long t.node a.0.0; forward_in = a.0.1 }, spots_at ts a.1)
+      (record { number_in = a.0.0; long = node_long t.node a.0.0; forward_in = a.0.1 }, spots_at ts a.1)
 
   pub levels_in : (k level : ℕ) (ts : List Step) (m q : ℕ) (joins : Bool) (reached : List Reach) → 1 ≤ level → All StepFine ts
       → (levels_from f s h k level ts m q joins reached).ok ≡ true → LevelsIn (levels_from f s h k level ts m q joins reached)
@@ -292,7 +292,7 @@ module _ (f : Format) (s : List ℕ) (H : Headed f s) where
             elim (bool_cases (ltb g.spot.used t.used)) [
               | inr y ↦
                   subst LevelsIn (sym (levels_stay f s h k level t ts m q reached joins g refl x y))
-                  (record { spots_in = (i.spot_in_lem, spots_at ts a.1); released_in = i.released_in })
+                  (record { spots_in = (i.spot_in, spots_at ts a.1); released_in = i.released_in })
               | inl y ↦
                   let up : Levels = levels_from f s h k (suc level) ts g.spot.used g.spot.number true g.reached in
                   let eq = levels_go f s h k level t ts m q reached joins g refl x y up refl in
@@ -301,7 +301,7 @@ module _ (f : Format) (s : List ℕ) (H : Headed f s) where
                   (ap (λ (l : Levels). l.ok) (sym eq) ∙ ok) in
                   subst LevelsIn (sym eq)
                   (record {
-                    spots_in = (i.spot_in_lem, j.spots_in);
+                    spots_in = (i.spot_in, j.spots_in);
                     released_in =
                         in_append h.nodes_taken g.released up.released i.released_in j.released_in;
                   })
@@ -311,8 +311,8 @@ module _ (f : Format) (s : List ℕ) (H : Headed f s) where
       start_in : NodesIn (start_of f s h k level t ts m q reached)
       start_in =
           record {
-            spot_in_lem = record {
-              number_in_lem = a.0.0;
+            spot_in = record {
+              number_in = a.0.0;
               long = cover_long h.theta _ _ _ _;
               forward_in = omega (
                 arith,
@@ -330,12 +330,12 @@ module _ (f : Format) (s : List ℕ) (H : Headed f s) where
 
   -- pages
   pub record PagesIn (g : Pages) : Type 0 where
-    pub page_in_lem : g.page ≤ h.pages_taken
+    pub page_in : g.page ≤ h.pages_taken
     pub fits : length g.items ≤ h.capacity
     pub released_in : In h.pages_taken g.released
 
   abbrev stuck_in : (g : Pages) → PagesIn g → (reached : List Reach) → PagesIn (stuck_pages g reached)
-  stuck_in g i reached = record { page_in_lem = i.page_in_lem; fits = i.fits; released_in = i.released_in }
+  stuck_in g i reached = record { page_in = i.page_in; fits = i.fits; released_in = i.released_in }
 
   either_in : (l r : ℕ) → l ≤ h.pages_taken → r ≤ h.pages_taken → (either_page l r ≤ h.pages_taken) × In h.pages_taken (lost_page l r)
   either_in l r a b =
@@ -354,16 +354,16 @@ module _ (f : Format) (s : List ℕ) (H : Headed f s) where
       → length g.items + length its ≤ h.capacity → PagesIn (both_pages g bt p its reached)
   unfolding both_pages
   both_pages_in g true p its reached i a b =
-      let w = either_in p g.page a i.page_in_lem in
+      let w = either_in p g.page a i.page_in in
       record {
-        page_in_lem = w.0;
+        page_in = w.0;
         fits = omega (arith, b, length-append its g.items);
         released_in = in_append h.pages_taken g.released (lost_page p g.page) i.released_in w.1;
       }
   both_pages_in g false p its reached i a b =
-      let w = either_in g.page p i.page_in_lem a in
+      let w = either_in g.page p i.page_in a in
       record {
-        page_in_lem = w.0;
+        page_in = w.0;
         fits = omega (arith, b, length-append g.items its);
         released_in = in_append h.pages_taken g.released (lost_page g.page p) i.released_in w.1;
       }
@@ -401,5 +401,5 @@ module _ (f : Format) (s : List ℕ) (H : Headed f s) where
   pub emptied_in : (used p : ℕ) (its : List Item) (reached : List Reach) → 1 ≤ p → p ≤ h.pages_taken → length its ≤ h.capacity
       → PagesIn (emptied used p its reached)
   unfolding emptied
-  emptied_in used p [] reached a b c = record { page_in_lem = omega arith; fits = c; released_in = ((a, b), tt) }
-  emptied_in used p (x ∷ xs) reached a b c = record { page_in_lem = b; fits = c; released_in = tt }
+  emptied_in used p [] reached a b c = record { page_in = omega arith; fits = c; released_in = ((a, b), tt) }
+  emptied_in used p (x ∷ xs) reached a b c = record { page_in = b; fits = c; released_in = tt }

@@ -88,7 +88,7 @@ module _ (f : Format) where
   shapes : (s : List ℕ) (S : List Item) (h : Holds f s S)
       → map shape h.bs ≡ tower (head_of s).theta (shape (build key_of (head_of s).capacity (width f) S))
   shapes s S h =
-      h.rep.directory.levels_are_lem
+      h.rep.directory.levels_are
       ∙ ap (tower (head_of s).theta) (shape_relabel (λ x. x.0) h.b0 ∙ sym (shape_relabel (λ x. x.1) h.b0) ∙ ap shape h.tree)
 
   undone_by : (unlawful f ≡ 0 → ⊥) → Undone f

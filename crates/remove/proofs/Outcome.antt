@@ -391,7 +391,7 @@ module _ (f : Format) (s : List ℕ) (b0 : Trie Stretch) (b : Trie ℕ) (cs : Li
       new_shapes =
           ap (λ (ds : List Shape). shape b' ∷ ds) trim.shapes
           ∙ ap trimmed (new_cuts f s b0 all r k low 0 u w all (x ∷ xs) st)
-          ∙ ap₂ (λ (n : ℕ) (c : Shape). trimmed (cuts n θ c)) (sym (length-map all shape) ∙ ap length r.directory.levels_are_lem)
+          ∙ ap₂ (λ (n : ℕ) (c : Shape). trimmed (cuts n θ c)) (sym (length-map all shape) ∙ ap length r.directory.levels_are)
           (shape_collapsed m q u key)
           ∙ sym (tower_cuts θ m (shape u) key (sizes_limits _ _ _ _ r.sized.sizes).theta_low)
           ∙ ap (tower θ) (sym (shape_collapsed m q u key))
@@ -559,7 +559,7 @@ module _ (f : Format) (s : List ℕ) (b0 : Trie Stretch) (b : Trie ℕ) (cs : Li
             };
             positive = omega (arith, sum 0, r.directory.positive, r.directory.spare_positive);
             spare_positive = omega (arith, sum 0, r.directory.positive, r.directory.spare_positive);
-            levels_are_lem = new_shapes;
+            levels_are = new_shapes;
           }
 
       -- blocks that were never taken

@@ -172,7 +172,7 @@ module _ (f : Format) (s : List ℕ) (rule : head_rule f s ≡ true) (k : ℕ) (
   start_in : PagesIn f s H start
   start_in =
       emptied_in f s H de.used de.page (without key_of k (own_items f s h de.page)) (path_reach (width f) k ts)
-      (omega (arith, F.some)) D.page_in_lem
+      (omega (arith, F.some)) D.page_in
       (omega (arith, own_fits, length_filter (λ (x : Item). not (eqb x.key k)) (own_items f s h de.page)))
 
   abbrev q : Plan
@@ -220,10 +220,10 @@ module _ (f : Format) (s : List ℕ) (rule : head_rule f s ≡ true) (k : ℕ) (
           capacity = H.limits.capacity_low;
           own = elim (ℕ_discrete g.page 0) [
             | yes e ↦ inl e
-            | no e ↦ inr (omega (arith, e), omega (arith, G.page_in_lem, H.counts.filled), G.fits)
+            | no e ↦ inr (omega (arith, e), omega (arith, G.page_in, H.counts.filled), G.fits)
           ];
           spots = all_map (SpotIn f s H) _ (kept_levels l.spots)
-              (λ x w. (w.number_in_lem.0, omega (arith, w.number_in_lem.1, H.counts.taken), w.long))
+              (λ x w. (w.number_in.0, omega (arith, w.number_in.1, H.counts.taken), w.long))
               (kept_all (SpotIn f s H) l.spots L.spots_in);
           link = λ e. omega (arith, first_in (kept_levels l.spots) (kept_all (SpotIn f s H) l.spots L.spots_in), H.counts.taken);
           pages = in_wide h.pages_taken h.page_blocks g.released H.counts.filled G.released_in;
@@ -232,7 +232,7 @@ module _ (f : Format) (s : List ℕ) (rule : head_rule f s ≡ true) (k : ℕ) (
               (in_backwards h.nodes_taken [] (numbers_of (drop (length (kept_levels l.spots)) l.spots)) tt
               (numbers_all h.nodes_taken (drop (length (kept_levels l.spots)) l.spots)
               (all_map (SpotIn f s H) (λ x. (1 ≤ x.number) × (x.number ≤ h.nodes_taken))
-              (drop (length (kept_levels l.spots)) l.spots) (λ x w. w.number_in_lem)
+              (drop (length (kept_levels l.spots)) l.spots) (λ x w. w.number_in)
               (drop_all (SpotIn f s H) (length (kept_levels l.spots)) l.spots L.spots_in)))));
         })
 

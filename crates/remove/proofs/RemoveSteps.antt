@@ -334,7 +334,7 @@ module _ (f : Format) (s : List ℕ) (S : List Item) (b0 : Trie Stretch) (b : Tr
               let e : G.page ≡ 0 = omega arith in
               ap (λ (i : ℕ). count i ps) e ∙ r.pages.spare_positive
         ])
-        (refl, r.released_pages_lem)
+        (refl, r.released_pages)
 
     pages_now : released_pages f t ≡ backwards ps G.released
     unfolding released_pages
@@ -380,7 +380,7 @@ module _ (f : Format) (s : List ℕ) (S : List Item) (b0 : Trie Stretch) (b : Tr
           gone_apart f s b0 b cs r k low G.used G.page x xs freed_nodes st parts p spots_are nodes_are linked_is D n,
         ))
         (chain_apart f s b0 b cs r k low G.used G.page x xs freed_nodes st parts p spots_are nodes_are linked_is D)
-        (refl, r.released_nodes_lem)
+        (refl, r.released_nodes)
 
     nodes_now : released_nodes t ≡ backwards ns gone
     unfolding released_nodes
@@ -415,8 +415,8 @@ module _ (f : Format) (s : List ℕ) (S : List Item) (b0 : Trie Stretch) (b : Tr
               free_page n (omega (arith, a, K.filled)) (omega (arith, e, K.within.sizes_same.pages))
               ∙ r.free_pages n (omega (arith, a, K.filled)) (omega (arith, e, K.within.sizes_same.pages))
               ∙ ap (λ i. replicate (page_words f i) 0) (sym K.within.sizes_same.capacity);
-          released_nodes_lem = nodes_chain.1;
-          released_pages_lem = pages_chain.1;
+          released_nodes = nodes_chain.1;
+          released_pages = pages_chain.1;
         }
 
     pub new_holds : Holds f t S'

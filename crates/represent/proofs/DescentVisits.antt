@@ -101,7 +101,7 @@ module _ (f : Format) (s : List ℕ) (b0 : Trie Stretch) (bs : List (Trie ℕ)) 
   rep_levels deep =
       omega (
         arith,
-        sym (length-map bs shape) ∙ ap length r.directory.levels_are_lem,
+        sym (length-map bs shape) ∙ ap length r.directory.levels_are,
         tower_length h.theta (shape (numbers b0)) (sizes_limits _ _ _ _ r.sized.sizes).theta_low,
         height_shape (numbers b0),
         height_relabel (λ (x : Stretch). x.0) b0,

@@ -64,7 +64,7 @@ example_holds =
           };
           positive = refl;
           spare_positive = refl;
-          levels_are_lem = refl;
+          levels_are = refl;
         };
         pages = record {
           each = (

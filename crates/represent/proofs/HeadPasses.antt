@@ -70,7 +70,7 @@ module _ (f : Format) (s : List ℕ) (S : List Item) (w : Holds f s S) where
   levels_are_lem =
       top_level h.theta (node_at s h) h.root h.levels 0 (numbers w.b0) w.bs r.directory.nodes
       ∙ omega (arith, length-map w.bs shape)
-      ∙ ap length r.directory.levels_are_lem
+      ∙ ap length r.directory.levels_are
       ∙ ap (levels h.theta) shape_is
 
   -- 2^f ≤ C, which is at most the largest capacity
@@ -127,8 +127,8 @@ rep_chains f s b0 (b ∷ bs) r =
     record {
       nodes = omega (arith, all_nodes f s b0 (b ∷ bs) r, leaves_low (shape b));
       pages = omega (arith, all_pages f s b0 (b ∷ bs) r);
-      node = chain_named _ (node_next s) _ _ r.released_nodes_lem.ends (released_node_lem f s b0 (b ∷ bs) r);
-      page = chain_named _ (page_next f s) _ _ r.released_pages_lem.ends (released_page_lem f s b0 (b ∷ bs) r);
+      node = chain_named _ (node_next s) _ _ r.released_nodes.ends (released_node_lem f s b0 (b ∷ bs) r);
+      page = chain_named _ (page_next f s) _ _ r.released_pages.ends (released_page_lem f s b0 (b ∷ bs) r);
     }
 
 yes_leb : {a b : ℕ} → a ≤ b → true ≡ leb a b
@@ -151,7 +151,7 @@ pub counts_are_the_trees : CountsAreTheTrees
 counts_are_the_trees f s S w = (
   levels_are_lem f s S w,
   rep_nodes f s w.b0 w.bs w.rep
-      ∙ ap all_leaves w.rep.directory.levels_are_lem
+      ∙ ap all_leaves w.rep.directory.levels_are
       ∙ ap (nodes (head_of s).theta) (shape_is f s S w),
   rep_pages f s w.b0 w.bs w.rep ∙ ap pages w.tree,
 )

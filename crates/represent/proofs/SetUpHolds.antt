@@ -143,7 +143,7 @@ module _ (f : Format) (θ C N P : ℕ) (z : List ℕ) (law : lawful_sizes θ C N
         };
         positive = refl;
         spare_positive = refl;
-        levels_are_lem = refl;
+        levels_are = refl;
       }
 
   none_nodes : released_nodes s ≡ []

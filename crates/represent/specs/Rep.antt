@@ -79,7 +79,7 @@ module _ (θ : ℕ) (node : ℕ → List ℕ) where
     pub positive : occs 0 bs ≡ 0
     pub spare_positive : spare 0 ≡ 0
     -- the levels are those of "the tree of a set"
-    pub levels_are_lem : map shape bs ≡ tower θ (shape u)
+    pub levels_are : map shape bs ≡ tower θ (shape u)
 
 -- M-106: "Head words 8 and 9 .. name the last released node and page; words 10 and 11 count the released nodes and pages", each released
 -- block has "the next one" in it, "or 0 just for the last counted"; "other words are zero"
@@ -130,9 +130,9 @@ module _ (f : Format) (s : List ℕ) where
     pub directory : Directory (head_of s).theta (node_at s (head_of s)) (head_of s).root (head_of s).levels (head_of s).nodes_taken
         (λ n. count n (released_nodes s)) (numbers b0) bs
     pub pages : Pages f s (head_of s) b0
-    pub released_nodes_lem : Chained (node_at s (head_of s)) (released_node (head_of s).theta) (node_next s) (released_of s).nodes
+    pub released_nodes : Chained (node_at s (head_of s)) (released_node (head_of s).theta) (node_next s) (released_of s).nodes
         (released_of s).node
-    pub released_pages_lem : Chained (page_at f s (head_of s)) (released_page f (head_of s).capacity) (page_next f s) (released_of s).pages
+    pub released_pages : Chained (page_at f s (head_of s)) (released_page f (head_of s).capacity) (page_next f s) (released_of s).pages
         (released_of s).page
     -- "Words not in use are zero."
     pub free_nodes : (n : ℕ) → (head_of s).nodes_taken < n → n ≤ (head_of s).node_blocks

@@ -151,7 +151,7 @@ fn passes(
     if !checked {
         return true;
     }
-    let node = store::node_at_lem(store, f, head, n);
+    let node = store::node_at(store, f, head, n);
     if !node_passes(
         node,
         head.theta,
@@ -171,7 +171,7 @@ fn own_entry(store: &[u32], f: Format, head: Head, key: u64, n: u32, used: u32) 
         × (used + depth_word store.now (node_start head n) ≤ width f) }
     ensures { result ≡ own_visit f store.now head key n used }
 {
-    let node = store::node_at_lem(store, f, head, n);
+    let node = store::node_at(store, f, head, n);
     let i = node::entry_number(f, key, used, node[0]);
     Visit {
         ok: true,
@@ -445,7 +445,7 @@ fn is_linked(store: &[u32], f: Format, head: Head, m: u32, n: u32, checked: bool
     requires { (Under f store.now head) × (InUse head m) × (checked ≡ false → linked head store.now m n ≡ true) }
     ensures { result ≡ linked head store.now m n }
 {
-    let node = store::node_at_lem(store, f, head, m);
+    let node = store::node_at(store, f, head, m);
     if !node_passes(
         node,
         head.theta,
@@ -465,7 +465,7 @@ fn go_on(store: &[u32], f: Format, head: Head, n: u32, left: u32, checked: bool)
         × (checked ≡ false → onward head store.now n left ≡ Ends Broken → ⊥) }
     ensures { result ≡ onward head store.now n left }
 {
-    let node = store::node_at_lem(store, f, head, n);
+    let node = store::node_at(store, f, head, n);
     let m = node[3];
     if m == 0 {
         return Hop::Ends(Reached::Past);
@@ -484,7 +484,7 @@ fn pointer_from(store: &[u32], f: Format, head: Head, n: u32, i: usize) -> u32
     requires { (Under f store.now head) × (TerminalNode head store.now n) × (i < 2 ^ 40) }
     ensures { result ≡ pointer_from store.now head n i }
 {
-    let node = store::node_at_lem(store, f, head, n);
+    let node = store::node_at(store, f, head, n);
     first_pointer(node, node[0], i)
 }
 
@@ -529,7 +529,7 @@ fn run_behind(store: &[u32], f: Format, head: Head, n: u32, v: Visit) -> usize
     requires { (Under f store.now head) × (TerminalNode head store.now n) }
     ensures { (result ≡ run_behind store.now head n v.depth v.entry) × (result < 2 ^ 33) }
 {
-    let node = store::node_at_lem(store, f, head, n);
+    let node = store::node_at(store, f, head, n);
     run_after(node[0], v.depth, v.entry)
 }
 

@@ -108,7 +108,7 @@ module _ (f : Format) (s : List ℕ) (h : Head) (k level m q : ℕ) where
     unfolding node_joins
     noding_out z =
         let e : whole ≡ j.now_in = sym j.rest ∙ ap (λ n. node_joins f s h k level m q n j.now_in) z in
-        rw e record { ok_is = sym j.fine; spot_is_lem = λ o. j.spot; gone_are = λ o. j.gone_are; tracked = λ o. j.tracked }
+        rw e record { ok_is = sym j.fine; spot_is = λ o. j.spot; gone_are = λ o. j.gone_are; tracked = λ o. j.tracked }
 
     module _ (some : 1 ≤ left) {r : Found} {more : List ℕ} (y : Decided f s h k level j.now_in r more) where
       turn : whole ≡ node_joins f s h k level m q (suc (left - 1)) j.now_in
@@ -119,7 +119,7 @@ module _ (f : Format) (s : List ℕ) (h : Head) (k level m q : ℕ) where
           rw (turn ∙ y.lost o m q (left - 1))
           record {
             ok_is = e;
-            spot_is_lem = λ b. absurd (false≢true (sym e ∙ b));
+            spot_is = λ b. absurd (false≢true (sym e ∙ b));
             gone_are = λ b. absurd (false≢true (sym e ∙ b));
             tracked = λ b. absurd (false≢true (sym e ∙ b));
           }
@@ -128,7 +128,7 @@ module _ (f : Format) (s : List ℕ) (h : Head) (k level m q : ℕ) where
         pub noding_none : r.found ≡ false → Noded f k whole ends hand gone₀ at gone more
         noding_none a =
             rw (turn ∙ y.none ok a m q (left - 1))
-            record { ok_is = refl; spot_is_lem = λ b. j.spot; gone_are = λ b. j.gone_are; tracked = λ b. y.tracked ok }
+            record { ok_is = refl; spot_is = λ b. j.spot; gone_are = λ b. j.gone_are; tracked = λ b. y.tracked ok }
 
         pub noding_on : r.found ≡ true → h ≡ head_of s → {b : Bool} → b ≡ on_left (width f) k left → {number' last' lost : ℕ} {hand' gone' : List ℕ}
             → Picked b number' r.pointer number → Picked b last' last r.pointer → Picked b lost number r.pointer

@@ -74,6 +74,6 @@ pub record HandFine (f : Format) (θ m used : ℕ) (ws : List ℕ) : Type 0 wher
 
 pub record Noded (f : Format) (k : ℕ) (z : NodesR) (r : NodeJoins) (hand gone : List ℕ) (at : ℕ) (gone' marks : List ℕ) : Type 0 where
   pub ok_is : r.ok ≡ z.ok
-  pub spot_is_lem : r.ok ≡ true → z.spot ≡ spot_is r.number r.used r.last hand
+  pub spot_is : r.ok ≡ true → z.spot ≡ spot_is r.number r.used r.last hand
   pub gone_are : r.ok ≡ true → take r.end gone' ≡ take at gone ++ z.released
   pub tracked : r.ok ≡ true → Tracks (width f) k z.reached marks

@@ -500,7 +500,7 @@ fn node_turn(
     if !z.found {
         return not_found(true);
     }
-    let node = store::node_at_lem(store, f, head, z.pointer);
+    let node = store::node_at(store, f, head, z.pointer);
     let deeper = node::larger(hand[0], node[0]);
     if deeper >= head.theta {
         return not_found(true);
@@ -536,7 +536,7 @@ fn join_hand(
         (paired head.theta (node_at store.now head p) hand.old left))
         × HandFine f head.theta m used hand.new }
 {
-    let node = store::node_at_lem(store, f, head, p);
+    let node = store::node_at(store, f, head, p);
     join_pair(node, hand, head.theta, left, spare);
     cover_hand(hand, f, head.theta, key, used, m, q);
 }

@@ -115,7 +115,7 @@ round_carries θ I O A B pos s u (b ∷ bs) key a c ok d fits =
           one_for_one = one_same (O.cap s) _ _ _ z.0.changed.cap_same labels_are d.one_for_one;
           positive = omega (arith, labels_are 0, d.positive, d.spare_positive);
           spare_positive = omega (arith, labels_are 0, d.positive, d.spare_positive);
-          levels_are_lem = carried_levels θ (O.free s) u (b ∷ bs) key a c pos d.levels_are_lem;
+          levels_are = carried_levels θ (O.free s) u (b ∷ bs) key a c pos d.levels_are;
         };
         changed = z.0.changed;
       },
@@ -135,7 +135,7 @@ aim_keeps θ I O A B s u b bs key q ok d =
         one_for_one = one_same (O.cap s) _ _ _ z.changed.cap_same (λ x. omega (arith, ap (count x) z.changed.now)) d.one_for_one;
         positive = d.positive;
         spare_positive = ap (count 0) z.changed.now ∙ d.spare_positive;
-        levels_are_lem = d.levels_are_lem ∙ ap (tower θ) (sym (shape_aim u key q));
+        levels_are = d.levels_are ∙ ap (tower θ) (sym (shape_aim u key q));
       };
       changed = z.changed;
     }

@@ -58,7 +58,7 @@ directory_frame θ node node' root root' levels levels' cap cap' ns ns' u (b ∷
       one_for_one = rw (c, q) d.one_for_one;
       positive = d.positive;
       spare_positive = rw q d.spare_positive;
-      levels_are_lem = d.levels_are_lem;
+      levels_are = d.levels_are;
     }
   where
     same : (n : ℕ) → 1 ≤ occs n (b ∷ bs) → node' n ≡ node n
@@ -80,7 +80,7 @@ module _ (θ : ℕ) (node : ℕ → List ℕ) (root levels taken cap : ℕ) (ns 
         one_for_one = one_wide (λ n. occs n bs) ns taken cap fits d.one_for_one;
         positive = d.positive;
         spare_positive = omega (arith, count_append 0 ns ms, d.spare_positive, up_from_low (cap - taken) taken 0 (omega arith));
-        levels_are_lem = d.levels_are_lem;
+        levels_are = d.levels_are;
       }
 
   directory_narrow : Directory θ node root levels cap (λ n. count n (ns ++ ms)) u bs
@@ -92,7 +92,7 @@ module _ (θ : ℕ) (node : ℕ → List ℕ) (root levels taken cap : ℕ) (ns 
         one_for_one = one_narrow (λ n. occs n bs) ns taken cap fits d.one_for_one;
         positive = d.positive;
         spare_positive = omega (arith, count_append 0 ns ms, d.spare_positive);
-        levels_are_lem = d.levels_are_lem;
+        levels_are = d.levels_are;
       }
 
 -- the blocks of a represented store that may be taken
@@ -106,7 +106,7 @@ module _ (f : Format) (s : List ℕ) (b0 : Trie Stretch) (bs : List (Trie ℕ)) 
         supplied = record {
           fits = r.nodes_fit;
           inside = λ x o. let i = released_node_lem f s b0 bs r x o in (i.0, omega (arith, i.1, r.nodes_fit));
-          chained = r.released_nodes_lem;
+          chained = r.released_nodes;
           unused = r.free_nodes;
         };
       }
@@ -117,7 +117,7 @@ module _ (f : Format) (s : List ℕ) (b0 : Trie Stretch) (bs : List (Trie ℕ)) 
       record {
         fits = r.pages_fit;
         inside = λ x o. let i = released_page_lem f s b0 bs r x o in (i.0, omega (arith, i.1, r.pages_fit));
-        chained = r.released_pages_lem;
+        chained = r.released_pages;
         unused = r.free_pages;
       }
 
@@ -220,8 +220,8 @@ module _ (f : Format) (s : List ℕ) (b0 b0' : Trie Stretch) (bs : List (Trie �
           pages =
               pages_frame f s₁ s₂ (head_of s₁) (head_of s₂) b0' sizes_now.capacity filled_now chain_now (λ x low high. page_now x)
               p.pages;
-          released_nodes_lem = nodes_now.1.chained;
-          released_pages_lem = supply_now.chained;
+          released_nodes = nodes_now.1.chained;
+          released_pages = supply_now.chained;
           free_nodes = nodes_now.1.unused;
           free_pages = supply_now.unused;
         }

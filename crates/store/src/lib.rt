@@ -341,7 +341,7 @@ pub fn page_start(f: Format, head: Head, p: u32) -> usize
 }
 
 // The words of a node block in use, in place.
-pub fn node_at_lem(store: &[u32], f: Format, head: Head, n: u32) -> &[u32]
+pub fn node_at(store: &[u32], f: Format, head: Head, n: u32) -> &[u32]
     requires { (Under f store.now head) × (InUse head n) }
     ensures { result.now ≡ node_at store.now head n }
 {

@@ -124,7 +124,7 @@ fn depth_at(row: &[u32], rule: Rule, from: u32, start: u32) -> u32
 }
 
 // The first element at or after a key.
-fn from_on_lem(row: &[u32], words: u32, from: u32, key: u64) -> u32
+fn from_on(row: &[u32], words: u32, from: u32, key: u64) -> u32
     ensures { result ≡ from_on row.now words from key }
 {
     let n = word(row, 0);
@@ -157,7 +157,7 @@ fn step(below: &[u32], rule: Rule, sweep: Sweep, above: &mut [u32]) -> Sweep
     let depth = depth_at(below, rule, sweep.from, start);
     append(above, start, depth);
     let end = end_of(start, depth);
-    let from = from_on_lem(below, rule.words, sweep.from, end);
+    let from = from_on(below, rule.words, sweep.from, end);
     Sweep {
         start: end,
         from,

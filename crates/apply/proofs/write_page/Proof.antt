@@ -13,11 +13,11 @@ returns c = (λ e. refl, λ e. absurd (e c.if1.true))
 
 fits : (c : tie.After-page-words)
     → let a = c.before.before.before.before.before.args in
-    (c.before.page_start_lem.result + c.page-words.result ≤ length a.store.now) × (length a.items.now ≡ c.page-words.result)
+    (c.before.page_start.result + c.page-words.result ≤ length a.store.now) × (length a.items.now ≡ c.page-words.result)
 fits c =
     let start = c.before.before.before.before.before in
     let p = start.requires.3 c.before.before.if1.false in
-    (omega (arith, p.0, c.before.page_start_lem.ensures.0, c.page-words.ensures.0), omega (arith, p.1, c.page-words.ensures.0))
+    (omega (arith, p.0, c.before.page_start.ensures.0, c.page-words.ensures.0), omega (arith, p.1, c.page-words.ensures.0))
 
 mul_copy : tie.Need-overflow-mul-copy
 mul_copy c = let r = fits c in search rules
@@ -39,8 +39,8 @@ returns_2 c =
     let start = at.before.before.before.before in
     let a = start.args in (
       λ e. absurd (at.before.if1.false e),
-      λ e. page_back a.store.now a.head start.requires.0 a.f a.p at.page_start_lem.result w.page-words.result _ _
-          at.page_start_lem.ensures.0 w.page-words.ensures.0 call.copy.ensures,
+      λ e. page_back a.store.now a.head start.requires.0 a.f a.p at.page_start.result w.page-words.result _ _
+          at.page_start.ensures.0 w.page-words.ensures.0 call.copy.ensures,
     )
 
 pub write-page-spec : {M : Type 1} → statement M

@@ -1,7 +1,7 @@
 -- Each way out is one case of the test.
 use Rattle.desk.proofs.ServeLaws.{no_room, listing_goes, input_goes}
-use Rattle.desk.proofs.goes_on_lem.Statement.{statement}
-use Rattle.desk.proofs.goes_on_lem.Tie as tie
+use Rattle.desk.proofs.goes_on.Statement.{statement}
+use Rattle.desk.proofs.goes_on.Tie as tie
 
 returns : tie.Need-returns
 returns c = no_room c.before.args.d c.before.args.left _ c.if1.true

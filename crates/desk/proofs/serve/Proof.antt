@@ -48,7 +48,7 @@ turn_requires : tie.Need-turn-requires invariant-loop decreases-loop
 turn_requires c κs =
     let t = c.before.before.before in
     let l = (begun t).loop in
-    let r = goes_on_room l.desk _ _ (sym t.before.goes_on_lem.ensures ∙ t.if1.true) in
+    let r = goes_on_room l.desk _ _ (sym t.before.goes_on.ensures ∙ t.if1.true) in
     (omega (arith, r.0, part_long_lem l.out l.put), more (part_long_lem (call (begun t)).args.input.now l.taken) r.1)
 
 -- a turn stays within the input and the output, and gets on
@@ -78,7 +78,7 @@ returns c =
     let l = c.before.before in
     let s = l.loop.invariant.0 in
     let a = (call l).args in
-    let over = sym c.before.goes_on_lem.ensures ∙ c.if1.false in
+    let over = sym c.before.goes_on.ensures ∙ c.if1.false in
     (s, serves_over a.input.now a.out.now l.loop.out _ (within l).2 s.taken s.put over)
 
 pub serve-spec : {M : Type 1} → statement M

@@ -12,7 +12,7 @@ returns c =
     let o = y.before in
     let b = o.before.before in
     let n = b.before in
-    broken_is _ _ _ n.before.cell.ensures n.cell2.ensures b.start_of_lem.ensures.0 o.cell3.ensures
+    broken_is _ _ _ n.before.cell.ensures n.cell2.ensures b.start_of.ensures.0 o.cell3.ensures
     y.to-index.ensures.0 x.cell4.ensures p.put.ensures
 
 pub break-word-spec : {M : Type 1} → statement M

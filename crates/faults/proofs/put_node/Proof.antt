@@ -33,7 +33,7 @@ returns c =
     let q = l.before.before.before in
     let p = q.before.before.before.before in
     let k = p.before.before in
-    node_put_lem _ _ _ _ k.before.node_at_lem.ensures.0 k.pow2.ensures.0 p.put.ensures q.put2.ensures
+    node_put_lem _ _ _ _ k.before.node_at.ensures.0 k.pow2.ensures.0 p.put.ensures q.put2.ensures
     (entries_out _ _ _ _ l.loop.j _ l.loop.invariant.1 c.loop-test.false)
 
 pub put-node-spec : {M : Type 1} → statement M

@@ -27,10 +27,10 @@ page_at_requires c κs = under_page c.before.before.before.before.requires.0
 copy_requires : tie.Need-copy-requires
 copy_requires c κs =
     let p = c.before.before.before.before.before.requires in
-    ap length c.page_at_lem.ensures ∙ page_long p.0 p.1.some p.1.taken ∙ sym p.2
+    ap length c.page_at.ensures ∙ page_long p.0 p.1.some p.1.taken ∙ sym p.2
 
 copied : (y : tie.After-copy) → let a = (call y).args in y.copy.new.0 ≡ page_at a.f a.store.now a.head a.page
-copied y = y.copy.ensures ∙ y.before.page_at_lem.ensures
+copied y = y.copy.ensures ∙ y.before.page_at.ensures
 
 take_out_requires : tie.Need-take-out-requires
 take_out_requires c κs =

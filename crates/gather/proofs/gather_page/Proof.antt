@@ -45,11 +45,11 @@ loop_holds c =
     let p = (call y).requires in (
       omega arith,
       omega arith,
-      y.first_page_lem.ensures.2,
+      y.first_page.ensures.2,
       refl,
       refl,
       p.7,
-      λ rs. gathering_start _ _ _ _ a.used a.page rs _ _ _ _ (y.first_page_lem.ensures.3 a.key a.used rs p.6) p.8,
+      λ rs. gathering_start _ _ _ _ a.used a.page rs _ _ _ _ (y.first_page.ensures.3 a.key a.used rs p.6) p.8,
     )
 
 on_left_requires : tie.Need-on-left-requires invariant-loop decreases-loop
@@ -75,10 +75,10 @@ gather_turn_requires c κs =
     let i = l.loop.inv in (
       p.0,
       (all_next _ (next o) i.5).0,
-      i.3 ∙ y.first_page_lem.ensures.0 ∙ p.9,
+      i.3 ∙ y.first_page.ensures.0 ∙ p.9,
       gathering_room _ _ _ _ (i.6 []) (next o),
-      omega (arith, i.2, i.4, y.first_page_lem.ensures.1, p.10, o.before.loop-test.true),
-      omega (arith, i.4, y.first_page_lem.ensures.1, p.11),
+      omega (arith, i.2, i.4, y.first_page.ensures.1, p.10, o.before.loop-test.true),
+      omega (arith, i.4, y.first_page.ensures.1, p.11),
     )
 
 sub_left : tie.Need-overflow-sub-left invariant-loop decreases-loop
@@ -99,7 +99,7 @@ loop_again c =
       t.gather-turn.ensures.0 ∙ i.3,
       t.gather-turn.ensures.1 ∙ i.4,
       (all_next _ (next o) i.5).1,
-      λ rs. gathering_on _ _ _ _ (i.6 rs) (next o) o.on_left_lem.ensures t.gather-turn.ensures.3,
+      λ rs. gathering_on _ _ _ _ (i.6 rs) (next o) o.on_left.ensures t.gather-turn.ensures.3,
     )
 
 returns : tie.Need-returns invariant-loop decreases-loop
@@ -108,8 +108,8 @@ returns c =
     let y = first l in
     let s = call y in
     let i = l.loop.invariant in (
-      i.3 ∙ y.first_page_lem.ensures.0,
-      i.4 ∙ y.first_page_lem.ensures.1,
+      i.3 ∙ y.first_page.ensures.0,
+      i.4 ∙ y.first_page.ensures.1,
       omega (arith, i.2, i.0),
       λ rs. gathering_out _ _ _ _ (i.6 rs) (rest_out s.args.n l.loop.j s.args.mates.now s.pre.4 (omega (arith, c.loop-test.false))),
     )

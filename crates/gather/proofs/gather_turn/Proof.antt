@@ -36,8 +36,8 @@ add_page_requires c κs =
     let e = there c in
     let p = (call e).pre in (
       p.2,
-      ap length c.page_at_lem.ensures ∙ page_long p.0 (some e) p.1.taken,
-      omega (arith, p.3, ap count c.page_at_lem.ensures, own_count p.0 (some e) p.1.taken (p.1.rule e.if1.left)),
+      ap length c.page_at.ensures ∙ page_long p.0 (some e) p.1.taken,
+      omega (arith, p.3, ap count c.page_at.ensures, own_count p.0 (some e) p.1.taken (p.1.rule e.if1.left)),
     )
 
 -- the records of both
@@ -47,7 +47,7 @@ both : (d : tie.After-add-page) → let a = (call (there d.before)).args in
 both d g y =
     let e = there d.before in
     let p = (call e).pre in
-    d.add-page.ensures g.items _ y.items_are (d.before.page_at_lem.ensures ∙ own_image p.0 (some e) p.1.taken (p.1.rule e.if1.left))
+    d.add-page.ensures g.items _ y.items_are (d.before.page_at.ensures ∙ own_image p.0 (some e) p.1.taken (p.1.rule e.if1.left))
 
 returns_2 : tie.Need-returns-2
 returns_2 c =

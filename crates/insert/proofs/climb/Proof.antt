@@ -120,8 +120,8 @@ loop_again c =
     let p = full (halved c) in
     let l = p.before.loop in (
       g.split_at.auto.0 ∙ l.inv.0,
-      climb_on _ _ _ _ _ _ _ _ _ _ _ _ _ l.inv.1 p.loop-test.taken c.in_half_lem.result _ _ _ (halved c).if1.false
-          g.split_at.ensures.0 g.split_at.ensures.1 g.split_at.ensures.2 c.in_half_lem.ensures,
+      climb_on _ _ _ _ _ _ _ _ _ _ _ _ _ l.inv.1 p.loop-test.taken c.in_half.result _ _ _ (halved c).if1.false
+          g.split_at.ensures.0 g.split_at.ensures.1 g.split_at.ensures.2 c.in_half.ensures,
     )
 
 -- the path has a place for a root

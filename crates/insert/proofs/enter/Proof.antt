@@ -61,7 +61,7 @@ sound : (c : tie.Else3)
     let a = (call d).args in
     let h = d.before.before.head_of.result in
     undamaged a.f a.store.now h a.item.key (descent a.f a.store.now h a.item.key) ≡ true
-sound c = passed (c.before.way_ok.ensures _ (way c).end_of_lem.ensures.0) c.if3.false
+sound c = passed (c.before.way_ok.ensures _ (way c).end_of.ensures.0) c.if3.false
 
 -- the records of the key's own page
 held : (c : tie.After-held-at)
@@ -74,7 +74,7 @@ held c =
     let a = (call d).args in
     c.held_at.ensures
     ∙ ap (λ (e : End). contains key_of a.item.key (own_items a.f a.store.now d.before.before.head_of.result e.page))
-    d.end_of_lem.ensures.0
+    d.end_of.ensures.0
 
 -- the key is new
 accepted : (c : tie.Else4)
@@ -97,19 +97,19 @@ end_of_requires c κs = record { rule = ruled c.before.before.before.before.befo
 way_ok_requires : tie.Need-way-ok-requires
 way_ok_requires c κs =
     let l = begun_limits (begun c.before) in
-    (l.1, l.3, c.before.end_of_lem.ensures.1)
+    (l.1, l.3, c.before.end_of.ensures.1)
 
 returns_3 : tie.Need-returns-3
 returns_3 c =
     let w = c.before in
     let d = w.before.before in
-    refuses (begun_damaged (begun d) (failed (w.way_ok.ensures _ d.end_of_lem.ensures.0) c.if3.true))
+    refuses (begun_damaged (begun d) (failed (w.way_ok.ensures _ d.end_of.ensures.0) c.if3.true))
 
 held_at_requires : tie.Need-held-at-requires
 held_at_requires c κs =
     let d = way c.before in
     let l = begun_limits (begun d) in
-    (l.1, l.3, end_sound _ _ _ _ _ d.end_of_lem.ensures.0 (sound c.before))
+    (l.1, l.3, end_sound _ _ _ _ _ d.end_of.ensures.0 (sound c.before))
 
 returns_4 : tie.Need-returns-4
 returns_4 c =
@@ -126,13 +126,13 @@ enter_full_requires c κs = accepted c.before.before.before.before
 roomy : (c : tie.Else5)
     → let d = way (whole (new c)) in
     let a = (call d).args in
-    length (own_items a.f a.store.now d.before.before.head_of.result d.end_of_lem.result.page) < d.before.before.head_of.result.capacity
+    length (own_items a.f a.store.now d.before.before.head_of.result d.end_of.result.page) < d.before.before.head_of.result.capacity
 roomy c = leb-false _ _ (sym c.before.page-full.ensures ∙ c.if5.false)
 
 enter_null_requires : tie.Need-enter-null-requires
 enter_null_requires c κs =
     let n = new c.before.before.before in
-    (accepted n, (way (whole n)).end_of_lem.ensures.0, c.before.if6.true)
+    (accepted n, (way (whole n)).end_of.ensures.0, c.before.if6.true)
 
 -- past all tests
 tested : (c : tie.Else6)
@@ -142,14 +142,14 @@ tested : (c : tie.Else6)
     Tested a.f a.store.now a.item h (descent a.f a.store.now h a.item.key) (record { rounds = 0; nodes = 0; pages = 0 })
 tested c =
     let n = new c.before.before in
-    room_tested (accepted n) (way (whole n)).end_of_lem.ensures.0 c.if6.false (roomy c.before.before)
+    room_tested (accepted n) (way (whole n)).end_of.ensures.0 c.if6.false (roomy c.before.before)
 
 placing : (c : tie.Else6)
     → let d = way (whole (new c.before.before)) in
     let a = (call d).args in
     let h = d.before.before.head_of.result in
-    Placing a.f a.store.now h d.end_of_lem.result a.item (descent a.f a.store.now h a.item.key)
-placing c = tested_placing (tested c) (no_need _) (no_blocks _ _) refl (way (whole (new c.before.before))).end_of_lem.ensures.0
+    Placing a.f a.store.now h d.end_of.result a.item (descent a.f a.store.now h a.item.key)
+placing c = tested_placing (tested c) (no_need _) (no_blocks _ _) refl (way (whole (new c.before.before))).end_of.ensures.0
 
 page_start_requires : tie.Need-page-start-requires
 page_start_requires c κs = let l = begun_limits (tested c).begun in (l.1, l.3)
@@ -159,9 +159,9 @@ putting : (c : tie.After-page-start)
     → let d = way (whole (new c.before.before.before)) in
     let a = (call d).args in
     let h = d.before.before.head_of.result in
-    Putting a.f a.store.now c.page_start_lem.result h.capacity a.item h d.end_of_lem.result
+    Putting a.f a.store.now c.page_start.result h.capacity a.item h d.end_of.result
     (descent a.f a.store.now h a.item.key)
-putting c = record { placing = placing c.before; some = c.before.if6.false; begins = c.page_start_lem.ensures.0; capacity_is = refl }
+putting c = record { placing = placing c.before; some = c.before.if6.false; begins = c.page_start.ensures.0; capacity_is = refl }
 
 put_own_requires : tie.Need-put-own-requires
 put_own_requires c κs = record { head = _; end = _; way = _; putting = putting c.before }
@@ -170,14 +170,14 @@ entered_requires : tie.Need-entered-requires
 entered_requires c κs =
     let p = c.before.before.before in
     let a = p.before.before in
-    (omega (arith, p.put_own_lem.auto.0, head_whole _ _ (tested a.before).begun.rule), (p.put_own_lem.ensures _ _ _ (putting a)).0)
+    (omega (arith, p.put_own.auto.0, head_whole _ _ (tested a.before).begun.rule), (p.put_own.ensures _ _ _ (putting a)).0)
 
 returns_7 : tie.Need-returns-7
 returns_7 c =
     let p = c.before.before.before.before in
     let a = p.before.before in
     let x = (call (way (whole (new a.before.before.before)))).args in
-    enters (still (tested a.before) (no_need _) (no_blocks _ _)) (p.put_own_lem.ensures _ _ _ (putting a)).1 c.entered.result
+    enters (still (tested a.before) (no_need _) (no_blocks _ _)) (p.put_own.ensures _ _ _ (putting a)).1 c.entered.result
     (c.entered.ensures x.f x.item refl)
 
 pub enter_spec : {M : Type 1} → statement M

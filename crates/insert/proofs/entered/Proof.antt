@@ -7,7 +7,7 @@ use Rattle.insert.proofs.entered.Tie as tie
 returns : tie.Need-returns
 returns c f it e =
     let r = c.before.before in
-    entered_is f it _ e r.before.before.requires.1 r.released_of_lem.ensures c.before.less.ensures c.less2.ensures
+    entered_is f it _ e r.before.before.requires.1 r.released_of.ensures c.before.less.ensures c.less2.ensures
 
 pub entered-spec : {M : Type 1} → statement M
 entered-spec = tie.close (tie.spec (λ c κs. search rules) (λ c κs. search rules) (λ c κs. search rules) returns)

@@ -10,13 +10,13 @@ use Rattle.insert.proofs.in_half.Statement.{statement}
 use Rattle.insert.proofs.in_half.Tie as tie
 
 sub_bit_set : tie.Need-overflow-sub-bit-set
-sub_bit_set c = omega (arith, c.width_of_lem.ensures.0, c.before.requires)
+sub_bit_set c = omega (arith, c.width_of.ensures.0, c.before.requires)
 
 sub_bit_set_2 : tie.Need-overflow-sub-bit-set-2
-sub_bit_set_2 c = omega (arith, c.width_of_lem.ensures.0, c.before.requires)
+sub_bit_set_2 c = omega (arith, c.width_of.ensures.0, c.before.requires)
 
 bit_set_requires : tie.Need-bit-set-requires
-bit_set_requires c κs = omega (arith, c.width_of_lem.ensures.0, width_within c.before.args.f)
+bit_set_requires c κs = omega (arith, c.width_of.ensures.0, width_within c.before.args.f)
 
 add_t18 : tie.Need-overflow-add-t18
 add_t18 c = let s = c.before.before.before in omega (arith, s.requires, width_within s.args.f)
@@ -26,8 +26,8 @@ returns c =
     let w = c.before.before in
     let s = w.before in
     let a = s.args in
-    half_place a.f a.theta a.key a.t a.m _ (w.width_of_lem.result - 1 - a.t.used)
-    (omega (arith, w.width_of_lem.ensures.0, s.requires))
+    half_place a.f a.theta a.key a.t a.m _ (w.width_of.result - 1 - a.t.used)
+    (omega (arith, w.width_of.ensures.0, s.requires))
     (⊎_elim (λ h. inl (sym c.before.bit-set.ensures ∙ h.0.taken, h.1))
     (λ h. inr (sym c.before.bit-set.ensures ∙ h.0.left, h.1))
     c.if1.branch)

@@ -19,7 +19,7 @@ read p = p.before.before.before.before
 
 -- the link behind the node
 link : (w : tie.After-word) → let a = (call w).args in w.word.result ≡ word a.store.now (node_start a.head a.n + 3)
-link w = word_of (call w).args.store.now _ _ 3 w.word.ensures w.before.node_start_lem.ensures.0
+link w = word_of (call w).args.store.now _ _ 3 w.word.ensures w.before.node_start.ensures.0
 
 -- the level and the back link of the node behind it
 level_is : (c : tie.After-word2)

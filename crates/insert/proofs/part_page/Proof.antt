@@ -28,13 +28,13 @@ page_at_requires c κs = let l = limits c.before.before in (l.1, l.2)
 
 low_count_requires : tie.Need-low-count-requires
 low_count_requires c κs =
-    let q = c.before.before.before.requires in part_asks _ _ _ _ _ q.0 q.1 _ c.page_at_lem.ensures
+    let q = c.before.before.before.requires in part_asks _ _ _ _ _ q.0 q.1 _ c.page_at.ensures
 
 returns : tie.Need-returns
 returns c =
     let x = c.before in
     let q = (call x).requires in
-    (q.0, part_low _ _ _ _ _ q.0 q.1 _ _ x.before.page_at_lem.ensures x.low_count.ensures.1 c.if1.true)
+    (q.0, part_low _ _ _ _ _ q.0 q.1 _ _ x.before.page_at.ensures x.low_count.ensures.1 c.if1.true)
 
 returns_2 : tie.Need-returns-2
 returns_2 c =
@@ -42,7 +42,7 @@ returns_2 c =
     let x = n.before.before in
     let q = (call x).requires in (
       q.0,
-      part_high _ _ _ _ _ q.0 q.1 _ _ x.before.page_at_lem.ensures x.low_count.ensures.1 n.before.if1.false
+      part_high _ _ _ _ _ q.0 q.1 _ _ x.before.page_at.ensures x.low_count.ensures.1 n.before.if1.false
           (c.if2.true ∙ n.count_of.ensures.0),
     )
 
@@ -67,8 +67,8 @@ halve_page_requires c κs =
     let t = taken to.before in
     let x = counted t.before.before in
     let q = (call x).pre in
-    part_ready _ _ _ _ _ q.0 q.1 _ _ x.before.page_at_lem.ensures x.low_count.ensures.1 _ _ _ _ _ t.take-page.ensures.1
-    t.take-page.ensures.2 t.take-page.ensures.0 to.before.page_start_lem.ensures.0 to.page-start2.ensures.0 x.low_count.ensures.0
+    part_ready _ _ _ _ _ q.0 q.1 _ _ x.before.page_at.ensures x.low_count.ensures.1 _ _ _ _ _ t.take-page.ensures.1
+    t.take-page.ensures.2 t.take-page.ensures.0 to.before.page_start.ensures.0 to.page-start2.ensures.0 x.low_count.ensures.0
 
 returns_3 : tie.Need-returns-3
 returns_3 c =
@@ -78,8 +78,8 @@ returns_3 c =
     let r = t.before.before in
     let x = counted r in
     let q = (call x).pre in
-    part_both _ _ _ _ _ q.0 q.1 _ _ x.before.page_at_lem.ensures x.low_count.ensures.1 _ _ _ _ _ t.take-page.ensures.1
-    t.take-page.ensures.2 t.take-page.ensures.0 to.before.page_start_lem.ensures.0 to.page-start2.ensures.0 _ r.before.before.if1.left
+    part_both _ _ _ _ _ q.0 q.1 _ _ x.before.page_at.ensures x.low_count.ensures.1 _ _ _ _ _ t.take-page.ensures.1
+    t.take-page.ensures.2 t.take-page.ensures.0 to.before.page_start.ensures.0 to.page-start2.ensures.0 _ r.before.before.if1.left
     (λ e. r.if2.left (e ∙ sym r.before.count_of.ensures.0)) x.low_count.ensures.0 u.halve-page.ensures
 
 pub part-page-spec : {M : Type 1} → statement M

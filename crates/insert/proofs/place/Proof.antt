@@ -20,8 +20,8 @@ page_start_requires c κs = let l = place_limits _ _ _ _ c.before.before.before.
 putting : (c : tie.After-page-start) (d : Descent)
     → let a = c.before.before.before.before.args in
     Placing a.f a.store.now a.head a.e a.item d
-    → Putting a.f a.store.now c.page_start_lem.result a.head.capacity a.item a.head a.e d
-putting c d p = record { placing = p; some = c.before.if1.false; begins = c.page_start_lem.ensures.0; capacity_is = refl }
+    → Putting a.f a.store.now c.page_start.result a.head.capacity a.item a.head a.e d
+putting c d p = record { placing = p; some = c.before.if1.false; begins = c.page_start.ensures.0; capacity_is = refl }
 
 put_own_requires : tie.Need-put-own-requires
 put_own_requires c κs =
@@ -32,7 +32,7 @@ returns_2 : tie.Need-returns-2
 returns_2 c =
     let p = c.before.before in
     let a = p.before.before in
-    let put = p.put_own_lem.ensures in
+    let put = p.put_own.ensures in
     ((put _ _ _ (putting a _ a.before.before.before.before.requires.0.placing)).0, λ d q. (put _ _ d (putting a d q)).1)
 
 pub place-spec : {M : Type 1} → statement M

@@ -13,14 +13,14 @@ returns c = plan_null _ _ _ _ _ c.if1.true c.before.before.before.requires.2
 returns_2 : tie.Need-returns-2
 returns_2 c =
     let p = c.before.before.before in
-    plan_room _ _ _ _ _ p.before.if1.false p.page_at_lem.ensures p.before.before.before.before.requires.7
+    plan_room _ _ _ _ _ p.before.if1.false p.page_at.ensures p.before.before.before.before.requires.7
     c.before.before.count_of.ensures.0 c.before.to-index.ensures.0 c.if2.true
 
 rounds_for_requires : tie.Need-rounds-for-requires
 rounds_for_requires c κs =
     let p = c.before.before.before in
     let pre = p.before.before.before.before.requires in
-    let e = p.page_at_lem.ensures in
+    let e = p.page_at.ensures in
     let o = own_test_lem _ _ _ _ _ pre.7 in
     let r = own_rule _ _ _ _ _ _ p.before.if1.false e o in
     (pre.5, own_agrees _ _ _ _ _ _ p.before.if1.false e o, (rule_facts _ _ _ r).some, filled _ _ _ r (rw e (page_lent _ _ _ _)))
@@ -38,7 +38,7 @@ returns_3 : tie.Need-returns-3
 returns_3 c =
     let q = c.before.before.before in
     let p = q.before.before.before in
-    plan_full _ _ _ _ _ p.before.if1.false p.page_at_lem.ensures p.before.before.before.before.requires.7
+    plan_full _ _ _ _ _ p.before.if1.false p.page_at.ensures p.before.before.before.before.requires.7
     q.before.before.count_of.ensures.0 q.before.to-index.ensures.0 q.if2.false c.before.before.rounds-for.ensures
     c.nodes-for.ensures
 

@@ -24,18 +24,18 @@ add_if1 : tie.Need-overflow-add-if1
 add_if1 c =
     let r = c.before.before in
     let p = r.before.before.requires in
-    omega (arith, (under_chains p r.released_of_lem.ensures).nodes, (under_counts p).taken, (under_limits p).nodes)
+    omega (arith, (under_chains p r.released_of.ensures).nodes, (under_counts p).taken, (under_limits p).nodes)
 
 -- the nodes left, as the code counts them
 nodes_are : (r : tie.After-released-of) → let a = r.before.before.args in
-    r.released_of_lem.result.nodes + (a.head.node_blocks - a.head.nodes_taken) ≡ nodes_left a.store.now
+    r.released_of.result.nodes + (a.head.node_blocks - a.head.nodes_taken) ≡ nodes_left a.store.now
 nodes_are r =
-    ap₂ (λ (x : Released) (h : Head). x.nodes + (h.node_blocks - h.nodes_taken)) r.released_of_lem.ensures r.before.before.requires.head
+    ap₂ (λ (x : Released) (h : Head). x.nodes + (h.node_blocks - h.nodes_taken)) r.released_of.ensures r.before.before.requires.head
 
 pages_are : (r : tie.After-released-of) → let a = r.before.before.args in
-    r.released_of_lem.result.pages + (a.head.page_blocks - a.head.pages_taken) ≡ pages_left a.store.now
+    r.released_of.result.pages + (a.head.page_blocks - a.head.pages_taken) ≡ pages_left a.store.now
 pages_are r =
-    ap₂ (λ (x : Released) (h : Head). x.pages + (h.page_blocks - h.pages_taken)) r.released_of_lem.ensures r.before.before.requires.head
+    ap₂ (λ (x : Released) (h : Head). x.pages + (h.page_blocks - h.pages_taken)) r.released_of.ensures r.before.before.requires.head
 
 returns : tie.Need-returns
 returns c =
@@ -51,7 +51,7 @@ add_result : tie.Need-overflow-add-result
 add_result c =
     let r = c.before.before.before.before.before.before in
     let p = r.before.before.requires in
-    omega (arith, (under_chains p r.released_of_lem.ensures).pages, (under_counts p).filled, (under_limits p).pages)
+    omega (arith, (under_chains p r.released_of.ensures).pages, (under_counts p).filled, (under_limits p).pages)
 
 returns_2 : tie.Need-returns-2
 returns_2 c =

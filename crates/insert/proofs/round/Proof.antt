@@ -85,8 +85,8 @@ climb_requires c κs =
     let i = c.before in
     let g = i.before.before.before.before.split-first.ensures in
     let q = (full (halved i)).requires in
-    let r = round_climbs _ _ _ _ _ _ _ q.0 q.2 i.in_half_lem.result _ _ _ (halved i).if1.false g.0 g.1 g.2
-    i.in_half_lem.ensures q.3 in
+    let r = round_climbs _ _ _ _ _ _ _ q.0 q.2 i.in_half.result _ _ _ (halved i).if1.false g.0 g.1 g.2
+    i.in_half.ensures q.3 in
     (r.0, q.1, r.1, r.2)
 
 returns_2 : tie.Need-returns-2
@@ -96,8 +96,8 @@ returns_2 c =
     let g = i.before.before.before.before.split-first.ensures in
     let q = (full (halved i)).requires in
     let e = u.climb.ensures in
-    let r = round_ends _ _ _ _ _ _ _ q.0 q.2 i.in_half_lem.result _ _ _ u.climb.result.head u.climb.result.steps _
-    (halved i).if1.false g.0 g.1 g.2 i.in_half_lem.ensures e.1 e.2 in
+    let r = round_ends _ _ _ _ _ _ _ q.0 q.2 i.in_half.result _ _ _ u.climb.result.head u.climb.result.steps _
+    (halved i).if1.false g.0 g.1 g.2 i.in_half.ensures e.1 e.2 in
     (e.0, r.0, r.1)
 
 pub round-spec : {M : Type 1} → statement M

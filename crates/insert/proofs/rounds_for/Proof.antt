@@ -25,16 +25,16 @@ decreases-loop page f key used w u₀ u = w - u
 loop_holds : tie.Need-loop-init invariant-loop decreases-loop
 loop_holds c =
     let p = c.before.before in
-    (search rules, omega (arith, p.requires.0, c.width_of_lem.ensures), p.requires.1, omega arith)
+    (search rules, omega (arith, p.requires.0, c.width_of.ensures), p.requires.1, omega arith)
 
 keys_agree_requires : tie.Need-keys-agree-requires invariant-loop decreases-loop
 keys_agree_requires c κs =
     let p = c.before.before.before.before.requires in
-    (omega (arith, c.loop-test.true, c.before.before.width_of_lem.ensures.0), p.2, p.3)
+    (omega (arith, c.loop-test.true, c.before.before.width_of.ensures.0), p.2, p.3)
 
 -- a bit is left
 below : (c : tie.After-keys-agree invariant-loop decreases-loop) → let p = c.before.before in p.loop.u < width p.before.before.before.args.f
-below c = omega (arith, c.before.loop-test.true, c.before.before.before.width_of_lem.ensures.0)
+below c = omega (arith, c.before.loop-test.true, c.before.before.before.width_of.ensures.0)
 
 returns : tie.Need-returns invariant-loop decreases-loop
 returns c =
@@ -55,7 +55,7 @@ loop_again c =
 returns_2 : tie.Need-returns-2 invariant-loop decreases-loop
 returns_2 c =
     rounds_out c.before.before.before.before.args.f _ _ _ _ c.before.loop.invariant.3
-    (omega (arith, c.loop-test.false, c.before.before.width_of_lem.ensures.0))
+    (omega (arith, c.loop-test.false, c.before.before.width_of.ensures.0))
 
 pub rounds-for-spec : {M : Type 1} → statement M
 rounds-for-spec =

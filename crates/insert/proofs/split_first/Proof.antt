@@ -20,7 +20,7 @@ behind : (c : tie.After-word)
 behind c =
     let s = c.before.before.before.before in
     let a = s.args in
-    c.word.ensures ∙ ap (λ i. word a.store.now (i + 3)) c.before.node_start_lem.ensures.0
+    c.word.ensures ∙ ap (λ i. word a.store.now (i + 3)) c.before.node_start.ensures.0
     ∙ forward_own a.f a.store.now (place_of a.f a.key a.t) s.requires.2 a.head s.requires.0
 
 node_start_requires : tie.Need-node-start-requires

@@ -56,7 +56,7 @@ returns_2 : tie.Need-returns-2
 returns_2 c =
     let p = c.before.before.before.before in
     let s = p.before.before.before in
-    take_last s.args.store.now s.args.head _ _ s.requires.1 c.before.node_start_lem.ensures.0 c.word.ensures p.if1.false
+    take_last s.args.store.now s.args.head _ _ s.requires.1 c.before.node_start.ensures.0 c.word.ensures p.if1.false
 
 pub take-node-spec : {M : Type 1} → statement M
 take-node-spec =

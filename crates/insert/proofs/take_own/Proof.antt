@@ -40,13 +40,13 @@ page_words_requires : tie.Need-page-words-requires
 page_words_requires c κs = (next (taken c)).1
 
 -- the new page lies in the words
-inside : (w : tie.After-page-words) → w.before.page_start_lem.result + w.page-words.result ≤ length (taken w.before).take-page.new.0
+inside : (w : tie.After-page-words) → w.before.page_start.result + w.page-words.result ≤ length (taken w.before).take-page.new.0
 inside w =
     let a = w.before in
     let t = taken a in
     let n = call t in
     let e = t.take-page.ensures in
-    first_inside _ _ _ _ n.pre.0.placing n.pre.1 _ _ _ e.1 e.2 e.0 _ _ a.page_start_lem.ensures.0
+    first_inside _ _ _ _ n.pre.0.placing n.pre.1 _ _ _ e.1 e.2 e.0 _ _ a.page_start.ensures.0
     w.page-words.ensures.0
 
 write_first_requires : tie.Need-write-first-requires
@@ -56,7 +56,7 @@ write_first_requires c κs =
     let t = taken a in
     let n = call t in
     let e = t.take-page.ensures in
-    first_asks _ _ _ _ n.pre.0.placing n.pre.1 _ _ _ e.1 e.2 e.0 _ _ a.page_start_lem.ensures.0
+    first_asks _ _ _ _ n.pre.0.placing n.pre.1 _ _ _ e.1 e.2 e.0 _ _ a.page_start.ensures.0
     w.page-words.ensures.0
 
 aim_block_requires : tie.Need-aim-block-requires
@@ -67,7 +67,7 @@ aim_block_requires c κs =
     let t = taken a in
     let n = call t in
     let e = t.take-page.ensures in
-    aim_asks _ _ _ _ n.pre.0.placing n.pre.1 _ _ _ e.1 e.2 e.0 _ _ a.page_start_lem.ensures.0
+    aim_asks _ _ _ _ n.pre.0.placing n.pre.1 _ _ _ e.1 e.2 e.0 _ _ a.page_start.ensures.0
     w.page-words.ensures.0 _ y.write-first.ensures n.pre.2
 
 returns : tie.Need-returns
@@ -79,10 +79,10 @@ returns c =
     let t = taken a in
     let n = call t in
     let e = t.take-page.ensures in (
-      (aim_done _ _ _ _ n.pre.0.placing n.pre.1 _ _ _ e.1 e.2 e.0 _ _ a.page_start_lem.ensures.0
+      (aim_done _ _ _ _ n.pre.0.placing n.pre.1 _ _ _ e.1 e.2 e.0 _ _ a.page_start.ensures.0
           w.page-words.ensures.0 _ y.write-first.ensures _ x.aim-block.ensures).0,
       λ d p.
-          (aim_done _ _ _ _ p n.pre.1 _ _ _ e.1 e.2 e.0 _ _ a.page_start_lem.ensures.0 w.page-words.ensures.0 _
+          (aim_done _ _ _ _ p n.pre.1 _ _ _ e.1 e.2 e.0 _ _ a.page_start.ensures.0 w.page-words.ensures.0 _
           y.write-first.ensures _ x.aim-block.ensures).1,
     )
 

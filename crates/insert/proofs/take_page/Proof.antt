@@ -56,7 +56,7 @@ returns_2 : tie.Need-returns-2
 returns_2 c =
     let p = c.before.before.before.before in
     let s = p.before.before.before in
-    page_last s.args.f s.args.store.now s.args.head _ _ s.requires.1 c.before.page_start_lem.ensures.0 c.word.ensures p.if1.false
+    page_last s.args.f s.args.store.now s.args.head _ _ s.requires.1 c.before.page_start.ensures.0 c.word.ensures p.if1.false
 
 pub take-page-spec : {M : Type 1} → statement M
 take-page-spec =

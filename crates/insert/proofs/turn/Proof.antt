@@ -30,14 +30,14 @@ left c = turn_bit _ c.args.key _ _ _ c.requires.0 c.requires.2
 
 -- its number
 bit_is : (w : tie.After-width-of)
-    → let a = (call w).args in w.width_of_lem.result - 1 - a.course.down.used ≡ width a.f - suc a.course.down.used
-bit_is w = omega (arith, w.width_of_lem.ensures.0)
+    → let a = (call w).args in w.width_of.result - 1 - a.course.down.used ≡ width a.f - suc a.course.down.used
+bit_is w = omega (arith, w.width_of.ensures.0)
 
 sub_bit : tie.Need-overflow-sub-bit
-sub_bit c = omega (arith, c.width_of_lem.ensures.0, left (call c))
+sub_bit c = omega (arith, c.width_of.ensures.0, left (call c))
 
 sub_bit_2 : tie.Need-overflow-sub-bit-2
-sub_bit_2 c = omega (arith, c.before.width_of_lem.ensures.0, left (call c.before))
+sub_bit_2 c = omega (arith, c.before.width_of.ensures.0, left (call c.before))
 
 part_page_requires : tie.Need-part-page-requires
 part_page_requires c κs =
@@ -53,7 +53,7 @@ round_requires c κs =
     (r.0, q.1, r.1, r.2)
 
 bit_set_requires : tie.Need-bit-set-requires
-bit_set_requires c κs = let w = wide (halved c.before.before) in omega (arith, w.width_of_lem.ensures.0, width_within (call w).args.f)
+bit_set_requires c κs = let w = wide (halved c.before.before) in omega (arith, w.width_of.ensures.0, width_within (call w).args.f)
 
 add_t14 : tie.Need-overflow-add-t14
 add_t14 c = let s = call (wide (halved (followed c.before.before.before.before))) in omega (arith, left s, width_within s.args.f)

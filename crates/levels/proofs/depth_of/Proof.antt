@@ -24,7 +24,7 @@ returns_2 c =
     let s = i.before.before.before.before in
     let a = s.args in
     let high : a.changed ≤ a.l = omega (arith, e.if1.false) in
-    λ x y. c.word3.ensures ∙ ap (word a.store.now) n.node_start_lem.ensures.0
+    λ x y. c.word3.ensures ∙ ap (word a.store.now) n.node_start.ensures.0
     ∙ ap (λ m. word a.store.now (node_start a.head m)) (w.word2.ensures ∙ ap (word a.numbers.now) i.to-index.ensures.0)
     ∙ depth_stays _ _ _ _ _ _ x s.requires.0 high (s.requires.3 _ high (omega arith)) y
 

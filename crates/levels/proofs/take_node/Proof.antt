@@ -19,11 +19,11 @@ copy_requires : tie.Need-copy-requires
 copy_requires c κs =
     let n = c.before in
     let p = (call n).requires in
-    block_long p.0 p.1 n.node_at_lem.ensures ∙ sym p.3
+    block_long p.0 p.1 n.node_at.ensures ∙ sym p.3
 
 -- the node in hand as found
 found : (v : tie.After-copy) → let s = call v.before.before in v.copy.new.0 ≡ node_at s.args.store.now s.args.head s.args.t.node
-found v = v.copy.ensures ∙ v.before.before.node_at_lem.ensures
+found v = v.copy.ensures ∙ v.before.before.node_at.ensures
 
 cover_hand_requires : tie.Need-cover-hand-requires
 cover_hand_requires c κs =

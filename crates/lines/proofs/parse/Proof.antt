@@ -16,7 +16,7 @@ enum_told c = search rules
 
 returns_2 : tie.Need-returns-in_default
 returns_2 c =
-    sym (parsed_wrong _ (λ f. number_not _ (sym c.field.ensures ∙ c.in_default.is) f.kind-1))
+    sym (parsed_wrong _ (λ f. number_not _ (sym c.field.ensures ∙ c.in_default.is) f.kind))
 
 returns_3 : tie.Need-returns-in_default-field
 unfolding field_of

@@ -1,7 +1,7 @@
 -- Each arm is one clause of the definition; the last two are the kinds from 8 on.
 use borrow.Author.Rules.{rules}
-use mathlib.Core.Path.{◌≡◌, sym}
-use Rattle.lines.specs.declared.Request.TheVariants.{Wrong}
+use mathlib.Core.Path.{sym}
+use native.Mathlib.Omega.{arith}
 use Rattle.lines.specs.Request.{request_of}
 use Rattle.lines.proofs.RequestLaws.{wrong_kind}
 use Rattle.lines.proofs.request_of.Statement.{statement}
@@ -39,19 +39,15 @@ returns_8 : tie.Need-returns-in-7
 unfolding request_of
 returns_8 c = rw (c.in-7.is, c.unless_used-in-7.ensures, c.zeros-in-7.ensures)
 
-wrong : (c : tie.In_default-1)
-    → Wrong ≡ request_of c.args.kind c.args.a c.args.b c.args.c c.args.d
-wrong c =
-    let h = c.in_default-1.rest in
-    sym
-    (wrong_kind _ _ _ _ _ h.0.0.0.0.0.0.0.1 h.0.0.0.0.0.0.1 h.0.0.0.0.0.1 h.0.0.0.0.1 h.0.0.0.1 h.0.0.1
-    h.0.1 h.1)
-
 returns_9 : tie.Need-returns-in-8-to-99
-returns_9 c = wrong c
+returns_9 c =
+    sym
+    (wrong_kind _ _ _ _ _ (λ e. omega arith) (λ e. omega arith) (λ e. omega arith) (λ e. omega arith) (λ e. omega arith) (λ e. omega arith) (λ e. omega arith) (λ e. omega arith))
 
 returns_10 : tie.Need-returns-in_default
-returns_10 c = wrong c
+returns_10 c =
+    sym
+    (wrong_kind _ _ _ _ _ (λ e. omega arith) (λ e. omega arith) (λ e. omega arith) (λ e. omega arith) (λ e. omega arith) (λ e. omega arith) (λ e. omega arith) (λ e. omega arith))
 
 pub request_of_spec : {M : Type 1} → statement M
 request_of_spec =

@@ -8,7 +8,7 @@ returns : tie.Need-returns
 returns c = one_level _ _ c.if1.true
 
 returns_2 : tie.Need-returns-2
-returns_2 c = root_told _ _ c.before.before.if1.false c.before.node_start_lem.ensures.0 c.word.ensures
+returns_2 c = root_told _ _ c.before.before.if1.false c.before.node_start.ensures.0 c.word.ensures
 
 pub root-stays-spec : {M : Type 1} → statement M
 root-stays-spec = tie.close (tie.spec returns (λ c κs. search rules) (λ c κs. search rules) returns_2)

@@ -68,7 +68,7 @@ returns_4 c =
     let n = t.before.before in
     let v = n.before.before.before in
     apart_told _ _ _ _ _ _ v.before.sibling-key.ensures.0 v.visit-node.ensures (omega (arith, n.if1.false)) t.own-ok.ensures
-    (not-false _ g.before.if3.false) t.before.if2.false g.page_at_lem.ensures c.before.count_of.ensures.0 c.to-index.ensures.0
+    (not-false _ g.before.if3.false) t.before.if2.false g.page_at.ensures c.before.count_of.ensures.0 c.to-index.ensures.0
 
 pub stays-apart-spec : {M : Type 1} → statement M
 stays-apart-spec =

@@ -22,7 +22,7 @@ page_at_requires c κs = under_page c.before.before.requires.0
 -- the count of the key's page
 counted : (n : tie.After-count-of)
     → let a = (call n).args in n.count_of.result ≡ get_or (page_at a.f a.store.now a.head a.e.page) 0 0
-counted n = n.count_of.ensures.0 ∙ ap (λ x. get_or x 0 0) n.before.page_at_lem.ensures
+counted n = n.count_of.ensures.0 ∙ ap (λ x. get_or x 0 0) n.before.page_at.ensures
 
 sub_nothing_joins : tie.Need-overflow-sub-nothing-joins
 sub_nothing_joins c = let n = c.before in let e = counted n in let l = (call n).requires.3.inside in search rules

@@ -18,18 +18,18 @@ page_words_requires : tie.Need-page-words-requires
 page_words_requires c κs = (under_page c.before.before.requires.0).1
 
 -- the page lies in the words
-inside : (c : tie.After-page-words) → c.before.page_start_lem.result + c.page-words.result ≤ length (call c).args.store.now
-inside c = record_inside (call c).requires.0 (call c).requires.1 c.before.page_start_lem.ensures.0 c.page-words.ensures.0
+inside : (c : tie.After-page-words) → c.before.page_start.result + c.page-words.result ≤ length (call c).args.store.now
+inside c = record_inside (call c).requires.0 (call c).requires.1 c.before.page_start.ensures.0 c.page-words.ensures.0
 
 take_out_requires : tie.Need-take-out-requires
 take_out_requires c κs =
-    let w = c.before in record_asks (call w).requires.0 (call w).requires.1 w.before.page_start_lem.ensures.0 w.page-words.ensures.0
+    let w = c.before in record_asks (call w).requires.0 (call w).requires.1 w.before.page_start.ensures.0 w.page-words.ensures.0
 
 returns : tie.Need-returns
 returns c =
     let t = c.before.before in
     let w = t.before.before in
-    record_out (call w).requires.0 (call w).requires.1 w.before.page_start_lem.ensures.0 w.page-words.ensures.0 t.take_out.ensures
+    record_out (call w).requires.0 (call w).requires.1 w.before.page_start.ensures.0 w.page-words.ensures.0 t.take_out.ensures
 
 pub take-record-spec : {M : Type 1} → statement M
 take-record-spec =

@@ -12,7 +12,7 @@ sub_mask : tie.Need-overflow-sub-mask
 sub_mask c = rw (shl_one c.before.args.depth 64 (omega arith)) (pow_pos c.before.args.depth)
 
 returns_2 : tie.Need-returns-2
-returns_2 c = entry_masked _ _ _ _ _ c.width_of_lem.ensures.0 (omega arith)
+returns_2 c = entry_masked _ _ _ _ _ c.width_of.ensures.0 (omega arith)
 
 pub entry-number-spec : {M : Type 1} → statement M
 entry-number-spec =

@@ -43,14 +43,14 @@ returns_2 : tie.Need-returns-2
 returns_2 c = untrue (λ e. c.if2.true (node_facts _ _ _ _ e).level_is)
 
 returns_3 : tie.Need-returns-3
-returns_3 c = untrue (λ e. false≢true (sym (failed c.before.links_ok_lem.ensures c.if3.true) ∙ (node_facts _ _ _ _ e).links))
+returns_3 c = untrue (λ e. false≢true (sym (failed c.before.links_ok.ensures c.if3.true) ∙ (node_facts _ _ _ _ e).links))
 
 runs_ok_requires : tie.Need-runs-ok-requires
 runs_ok_requires c κs =
     let l = c.before.before in
     let d = depth (level l) in
     let p = (entry d).pre in
-    let back = back_most _ _ _ _ (passed l.before.links_ok_lem.ensures l.if3.false) in (
+    let back = back_most _ _ _ _ (passed l.before.links_ok.ensures l.if3.false) in (
       omega (arith, p.0),
       rw c.before.pointer-low.ensures (low_most _),
       rw c.pointer-high.ensures (high_most _ _ 4096 p.1 p.2),
@@ -69,7 +69,7 @@ returns_5 c =
     let d = depth v in
     let p = (entry d).pre in
     node_rule_is _ _ _ _ _ true true true true _ refl (sym (le-leb _ _ d.if1.left)) (sym (eq-eqb _ _ v.if2.left))
-    (sym (passed l.before.links_ok_lem.ensures l.if3.left)) (sym (passed (runs_are g.before) g.if4.false))
+    (sym (passed l.before.links_ok.ensures l.if3.left)) (sym (passed (runs_are g.before) g.if4.false))
     (block_rest _ _ p.3 d.if1.left c.before.before.pow2.ensures.0 c.is_zero.ensures)
 
 pub node-ok-spec : {M : Type 1} → statement M

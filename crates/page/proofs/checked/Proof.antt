@@ -20,7 +20,7 @@ unfolding checked_of
 returns c =
     let s = c.before.before.before in
     let p : Progress = s.args.p in
-    ap (λ (b : Bool). record { good = p.good && b; key = s.args.item.key; left = p.left - 1 }) c.before.before.in_turn_lem.ensures
+    ap (λ (b : Bool). record { good = p.good && b; key = s.args.item.key; left = p.left - 1 }) c.before.before.in_turn.ensures
 
 pub checked-spec : {M : Type 1} → statement M
 checked-spec = tie.close (tie.spec in_turn_requires sub_t6 returns)

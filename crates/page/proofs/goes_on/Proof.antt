@@ -1,8 +1,8 @@
 -- The test of the definition.
 use mathlib.Core.Path.{refl}
 use Rattle.page.specs.Page.{goes_on}
-use Rattle.page.proofs.goes_on_lem.Statement.{statement}
-use Rattle.page.proofs.goes_on_lem.Tie as tie
+use Rattle.page.proofs.goes_on.Statement.{statement}
+use Rattle.page.proofs.goes_on.Tie as tie
 
 returns : tie.Need-returns
 unfolding goes_on

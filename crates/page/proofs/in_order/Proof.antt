@@ -80,10 +80,10 @@ use Rattle.page.specs.contracts.begin as beg
 use Rattle.page.proofs.begin.Symbol as begin-def
 use Rattle.page.proofs.begin.Symbol.{name as #page·begin}
 use Rattle.page.proofs.begin.Met as begin-thm
-use Rattle.page.specs.contracts.goes_on_lem as go
-use Rattle.page.proofs.goes_on_lem.Symbol as goes-on-def
-use Rattle.page.proofs.goes_on_lem.Symbol.{name as #page·goes-on}
-use Rattle.page.proofs.goes_on_lem.Met as goes-on-thm
+use Rattle.page.specs.contracts.goes_on as go
+use Rattle.page.proofs.goes_on.Symbol as goes-on-def
+use Rattle.page.proofs.goes_on.Symbol.{name as #page·goes-on}
+use Rattle.page.proofs.goes_on.Met as goes-on-thm
 use Rattle.page.specs.contracts.checked as che
 use Rattle.page.proofs.checked.Symbol as checked-def
 use Rattle.page.proofs.checked.Symbol.{name as #page·checked}

@@ -58,7 +58,7 @@ returns : tie.Need-returns
 returns c =
     let w = c.before.before.before.before in
     let s = w.before.before.before in
-    differs _ _ _ _ s.requires.1 s.requires.2 w.before.count_of.ensures.0 (ap (λ (x : ℕ). x - s.args.used) w.width_of_lem.ensures.0)
+    differs _ _ _ _ s.requires.1 s.requires.2 w.before.count_of.ensures.0 (ap (λ (x : ℕ). x - s.args.used) w.width_of.ensures.0)
     c.before.before.before.prefix.ensures c.before.before.read_one.ensures c.before.prefix2.ensures c.if1.true
 
 sub_read_one : tie.Need-overflow-sub-read-one
@@ -77,7 +77,7 @@ returns_2 c =
     let i = c.before.before in
     let w = i.before.before.before.before in
     let s = w.before.before.before in
-    decides _ _ _ _ s.requires.1 s.requires.2 w.before.count_of.ensures.0 (ap (λ (x : ℕ). x - s.args.used) w.width_of_lem.ensures.0)
+    decides _ _ _ _ s.requires.1 s.requires.2 w.before.count_of.ensures.0 (ap (λ (x : ℕ). x - s.args.used) w.width_of.ensures.0)
     i.before.before.before.prefix.ensures i.before.before.read_one.ensures i.before.prefix2.ensures i.if1.false
     c.before.read-one2.ensures c.prefix3.ensures
 

@@ -13,9 +13,9 @@ returns c =
     let at = w.before in
     let start = at.before.before.before.before in
     let a = start.args in
-    node_released a.store.now a.head start.requires.0 a.n at.node_start_lem.result w.node-words.result blank.blank-block.new.0
-    name.name-released.new.0 at.node_start_lem.ensures.0 w.node-words.ensures.0
-    (omega (arith, at.node_start_lem.ensures.0, w.node-words.ensures.0, start.requires.3)) blank.blank-block.ensures
+    node_released a.store.now a.head start.requires.0 a.n at.node_start.result w.node-words.result blank.blank-block.new.0
+    name.name-released.new.0 at.node_start.ensures.0 w.node-words.ensures.0
+    (omega (arith, at.node_start.ensures.0, w.node-words.ensures.0, start.requires.3)) blank.blank-block.ensures
     name.name-released.ensures
 
 pub release-node-spec : {M : Type 1} → statement M

@@ -17,8 +17,8 @@ blank_block_requires c κs =
       arith,
       page_room a.f a.head.capacity start.requires.2,
       w.page-words.ensures.0,
-      part_long_lem a.store.now at.page_start_lem.result w.page-words.result (at.page_start_lem.result + w.page-words.result) refl
-          (omega (arith, at.page_start_lem.ensures.0, w.page-words.ensures.0, start.requires.5)),
+      part_long_lem a.store.now at.page_start.result w.page-words.result (at.page_start.result + w.page-words.result) refl
+          (omega (arith, at.page_start.ensures.0, w.page-words.ensures.0, start.requires.5)),
     )
 
 returns : tie.Need-returns
@@ -29,9 +29,9 @@ returns c =
     let at = w.before in
     let start = at.before.before.before.before in
     let a = start.args in
-    page_released a.store.now a.head start.requires.0 a.f a.p at.page_start_lem.result w.page-words.result
-    blank.blank-block.new.0 name.name-released.new.0 start.requires.2 at.page_start_lem.ensures.0 w.page-words.ensures.0
-    (omega (arith, at.page_start_lem.ensures.0, w.page-words.ensures.0, start.requires.5)) blank.blank-block.ensures
+    page_released a.store.now a.head start.requires.0 a.f a.p at.page_start.result w.page-words.result
+    blank.blank-block.new.0 name.name-released.new.0 start.requires.2 at.page_start.ensures.0 w.page-words.ensures.0
+    (omega (arith, at.page_start.ensures.0, w.page-words.ensures.0, start.requires.5)) blank.blank-block.ensures
     name.name-released.ensures
 
 pub release-page-spec : {M : Type 1} → statement M

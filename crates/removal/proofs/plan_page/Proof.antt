@@ -34,7 +34,7 @@ abbrev joined : tie.After-gather-page → tie.After-join-pages
 joined g = g.before.before.before.before.before.before.before.before.before
 
 size : (c : tie.After-count-of) → let a = (call c).args in c.count_of.result ≡ count (page_at a.f a.store.now a.head a.page)
-size c = c.count_of.ensures.0 ∙ ap count c.before.page_at_lem.ensures
+size c = c.count_of.ensures.0 ∙ ap count c.before.page_at.ensures
 
 less : (c : tie.After-count-of)
     → let a = (call c).args in

@@ -33,7 +33,7 @@ returns : tie.Need-returns
 returns c = refuses refl (remove_3 _ _ _ (failed c.before.head_ok.ensures c.if1.true))
 
 seat_of_requires : tie.Need-seat-of-requires
-seat_of_requires c κs = let e = c.before in (under e.before.before, e.end_of_lem.ensures.0, e.end_of_lem.ensures.1)
+seat_of_requires c κs = let e = c.before in (under e.before.before, e.end_of.ensures.0, e.end_of.ensures.1)
 
 returns_2 : tie.Need-returns-2
 returns_2 c = let y = c.before.before in refuses refl (remove_9 (under (head y)) _ (y.seat-of.ensures.damaged (not-true _ c.if2.true)))
@@ -55,7 +55,7 @@ remove_at_requires : tie.Need-remove-at-requires
 remove_at_requires c κs =
     let e = c.before in
     let y = sought e in
-    (seat_located (under (head y)) (call (ruled_at (head y))).requires y.seat-of.ensures (ok e) (held e), y.before.before.end_of_lem.ensures.0)
+    (seat_located (under (head y)) (call (ruled_at (head y))).requires y.seat-of.ensures (ok e) (held e), y.before.before.end_of.ensures.0)
 
 returns_4 : tie.Need-returns-4
 returns_4 c =

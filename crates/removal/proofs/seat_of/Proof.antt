@@ -57,22 +57,22 @@ page_at_requires c κs = under_page (call (way c)).requires.0
 -- the way led to a page
 led : (c : tie.After-page-at)
     → let a = (call (way (some c))).args in
-    Led a.f a.store.now a.head a.key (descent a.f a.store.now a.head a.key) c.page_at_lem.result.now
+    Led a.f a.store.now a.head a.key (descent a.f a.store.now a.head a.key) c.page_at.result.now
 led c =
     let e = way (some c) in
     let same = ap (λ (e : End). e.page) (call e).pre.1 in
-    record { way = refl; ok = ended e; some = λ z. (some c).if2.false (same ∙ z); page = c.page_at_lem.ensures ∙ ap (page_at _ _ _) same }
+    record { way = refl; ok = ended e; some = λ z. (some c).if2.false (same ∙ z); page = c.page_at.ensures ∙ ap (page_at _ _ _) same }
 
 page_sound_requires : tie.Need-page-sound-requires
 page_sound_requires c κs =
     let p = (call (way (some c))).requires in
-    ((under_page p.0).1, p.2, rw c.page_at_lem.ensures (page_lent _ _ _ _), λ z. absurd (true≢false z))
+    ((under_page p.0).1, p.2, rw c.page_at.ensures (page_lent _ _ _ _), λ z. absurd (true≢false z))
 
 -- as the definition says it, of the page that the way led to
 sound : (c : tie.After-page-sound)
     → let a = (call (way (some c.before))).args in
     c.page-sound.result
-    ≡ sound_page a.f a.head c.before.page_at_lem.result.now a.key (descent a.f a.store.now a.head a.key).used
+    ≡ sound_page a.f a.head c.before.page_at.result.now a.key (descent a.f a.store.now a.head a.key).used
 sound c = c.page-sound.ensures ∙ ap (sound_page _ _ _ _) (ap (λ (e : End). e.used) (call (way (some c.before))).requires.1)
 
 returns_3 : tie.Need-returns-3
@@ -80,10 +80,10 @@ returns_3 c =
     let t = c.before in
     seat_damaged c.no-seat3.ensures.0 (find_unsound (led t.before.before) (failed (sound t.before) t.if3.true))
 
-full : (c : tie.Else3) → let a = (call (way (some (read c)))).args in Filled a.f (read c).page_at_lem.result.now
+full : (c : tie.Else3) → let a = (call (way (some (read c)))).args in Filled a.f (read c).page_at.result.now
 full c =
     filled _ _ _ (sound_rule _ _ _ _ _ (passed c.before.page-sound.ensures c.if3.false))
-    (rw (read c).page_at_lem.ensures (page_lent _ _ _ _))
+    (rw (read c).page_at.ensures (page_lent _ _ _ _))
 
 first_above_requires : tie.Need-first-above-requires
 first_above_requires c κs = full c
@@ -98,7 +98,7 @@ returns_4 c =
     (rw t.before.count_of.ensures.0 at t.if4.true))
 
 -- the first record at or above the key is one of the page
-below : (c : tie.Else4) → let p = above c in p.first_above.result < count (read p.before).page_at_lem.result.now
+below : (c : tie.Else4) → let p = above c in p.first_above.result < count (read p.before).page_at.result.now
 below c = rw c.before.count_of.ensures.0 at c.if4.false
 
 read_one_requires : tie.Need-read-one-requires

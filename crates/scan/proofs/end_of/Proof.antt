@@ -20,7 +20,7 @@ page_at_requires : tie.Need-page-at-requires
 page_at_requires c κs = under_page (call c).requires.0
 
 first_above_requires : tie.Need-first-above-requires
-first_above_requires c κs = rows_filled (call c.before).requires.1.rows c.page_at_lem.ensures
+first_above_requires c κs = rows_filled (call c.before).requires.1.rows c.page_at.ensures
 
 returns : tie.Need-returns
 returns c =
@@ -41,7 +41,7 @@ first_is : (c : tie.After-first-above)
     c.first_above.result ≡ first_above a.f (page_at a.f a.store.now a.head a.r.page) true a.high
 first_is c =
     let a = (call c.before.before).args in
-    c.first_above.ensures.0 ∙ ap (λ ws. first_above a.f ws true a.high) c.before.page_at_lem.ensures
+    c.first_above.ensures.0 ∙ ap (λ ws. first_above a.f ws true a.high) c.before.page_at.ensures
 
 returns_2 : tie.Need-returns-2
 returns_2 c =

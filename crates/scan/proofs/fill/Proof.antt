@@ -73,7 +73,7 @@ part_copy_rows_end c = let r = room c in search rules
 copy_rows_requires : tie.Need-copy-rows-requires invariant-loop decreases-loop
 copy_rows_requires c κs =
     let t = c.before.before.before in
-    fill_asks t.before.loop.invariant c.before.smaller.ensures t.page_at_lem.ensures
+    fill_asks t.before.loop.invariant c.before.smaller.ensures t.page_at.ensures
 
 -- the words behind those that are copied, as the code counts them
 place : (c : tie.After-slice-known2 invariant-loop decreases-loop)
@@ -109,7 +109,7 @@ turned c =
     let s = y.before.before in
     let l = s.before.before.before in
     let w = l.before.before in
-    fill_turns l.loop.invariant s.smaller.ensures s.before.before.page_at_lem.ensures (below w.before.before.before)
+    fill_turns l.loop.invariant s.smaller.ensures s.before.before.page_at.ensures (below w.before.before.before)
     y.copy-rows.ensures w.words_of.ensures.0
 
 same_length : tie.Need-same-length invariant-loop decreases-loop

@@ -57,11 +57,11 @@ end_of_requires c κs = ((call (turn c)).pre.0, stands c)
 abbrev stop : tie.Then1 invariant-loop decreases-loop → ℕ
 stop i = let a = (call (turn i)).args in stop_of a.f a.store.now a.head (turn i).loop.r a.high
 
-stops : (c : tie.After-end-of invariant-loop decreases-loop) → c.end_of_lem.result ≡ stop (held c)
-stops c = c.end_of_lem.ensures.0
+stops : (c : tie.After-end-of invariant-loop decreases-loop) → c.end_of.result ≡ stop (held c)
+stops c = c.end_of.ensures.0
 
 sub_n : tie.Need-overflow-sub-n invariant-loop decreases-loop
-sub_n c = c.before.end_of_lem.ensures.1
+sub_n c = c.before.end_of.ensures.1
 
 sub_if2 : tie.Need-overflow-sub-if2 invariant-loop decreases-loop
 sub_if2 c = (turn (held c.before)).loop.inv.within
@@ -73,7 +73,7 @@ sub_first c = sub_if2 c.before.before
 lies : (c : tie.Then2 invariant-loop decreases-loop)
     → let l = turn (held c.before.before) in
     l.loop.r.from + ((call l).args.room - l.loop.count) < l.loop.r.to
-lies c = omega (arith, c.if2.true, c.before.before.end_of_lem.ensures.2)
+lies c = omega (arith, c.if2.true, c.before.before.end_of.ensures.2)
 
 add_first : tie.Need-overflow-add-first invariant-loop decreases-loop
 add_first c = let l = lies c.before.before in search rules
@@ -86,7 +86,7 @@ read_one_requires c κs =
     let p = c.before in
     let l = lies p.before in
     let i = held p.before.before.before in
-    let e = end_asked (call (turn i)).pre.0 (turn i).loop.inv.ahead.at (some i) p.page_at_lem.ensures in
+    let e = end_asked (call (turn i)).pre.0 (turn i).loop.inv.ahead.at (some i) p.page_at.ensures in
     (omega (arith, l, e.3), record_inside e.0 (omega (arith, l, e.2)))
 
 returns : tie.Need-returns invariant-loop decreases-loop
@@ -94,7 +94,7 @@ returns c =
     let p = c.before.before in
     let e = p.before.before.before in
     let l = turn (held e) in (
-      rw (ap (λ x. x.key) c.read_one.ensures, p.page_at_lem.ensures)
+      rw (ap (λ x. x.key) c.read_one.ensures, p.page_at.ensures)
           (list_full _ _ _ _ _ (call l).pre.0 _ l.loop.inv (some (held e)) (rw (stops e) at p.before.if2.true)),
       omega arith,
     )
@@ -114,7 +114,7 @@ returns_2 c =
     let i = held (ended r) in
     let l = (turn i).loop in
     let e = c.listing-of.ensures in
-    let m = listing_most true (l.count + ((ended r).end_of_lem.result - l.r.from)) in (
+    let m = listing_most true (l.count + ((ended r).end_of.result - l.r.from)) in (
       e ∙ ap (λ n. listing_of true (l.count + (n - l.r.from))) (stops (ended r))
           ∙ list_over _ _ _ _ _ (call (turn i)).pre.0 _ l.inv (some i)
           (rw (stands i).last at c.before.if3.true) (room r),

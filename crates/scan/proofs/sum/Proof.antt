@@ -58,8 +58,8 @@ end_of_requires c κs = let i = c.before in ((call (turn i)).pre.0, stands i)
 abbrev stop : tie.Then1 invariant-loop decreases-loop → ℕ
 stop i = let a = (call (turn i)).args in stop_of a.f a.store.now a.head (turn i).loop.r a.high
 
-stops : (c : tie.After-end-of invariant-loop decreases-loop) → c.end_of_lem.result ≡ stop (held c)
-stops c = c.end_of_lem.ensures.0
+stops : (c : tie.After-end-of invariant-loop decreases-loop) → c.end_of.result ≡ stop (held c)
+stops c = c.end_of.ensures.0
 
 -- there is room for them
 room : (i : tie.Then1 invariant-loop decreases-loop) → let l = (turn i).loop in l.t.count + (stop i - l.r.from) ≤ 2 ^ 32
@@ -69,8 +69,8 @@ add_rows_requires : tie.Need-add-rows-requires invariant-loop decreases-loop
 add_rows_requires c κs =
     let i = held c in
     let l = turn i in
-    let e = end_asked (call l).pre.0 l.loop.inv.ahead.at (some i) c.before.page_at_lem.ensures in
-    let w = c.end_of_lem.ensures.2 in
+    let e = end_asked (call l).pre.0 l.loop.inv.ahead.at (some i) c.before.page_at.ensures in
+    let w = c.end_of.ensures.2 in
     (e.0, omega (arith, w, e.2), omega (arith, w, e.3), (call l).pre.3, l.loop.inv.bounded, rw (stops c) (room (held c)))
 
 -- the totals with the records up to high
@@ -78,7 +78,7 @@ added : (c : tie.After-add-rows invariant-loop decreases-loop)
     → let l = turn (held c.before) in
     let a = (call l).args in
     c.add-rows.result ≡ totals_of l.loop.t (up_to a.f a.store.now a.head l.loop.r a.high) a.today
-added c = rw (c.before.before.page_at_lem.ensures, stops c.before) at c.add-rows.ensures.0
+added c = rw (c.before.before.page_at.ensures, stops c.before) at c.add-rows.ensures.0
 
 returns : tie.Need-returns invariant-loop decreases-loop
 returns c =

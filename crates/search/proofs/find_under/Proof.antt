@@ -58,14 +58,14 @@ page_at_requires c κs = under_page (call c.before.before).requires
 -- the way led to a page
 led : (c : tie.After-page-at)
     → let a = (call (entry c)).args in
-    Led a.f a.store.now a.head a.key (descent a.f a.store.now a.head a.key) c.page_at_lem.result.now
+    Led a.f a.store.now a.head a.key (descent a.f a.store.now a.head a.key) c.page_at.result.now
 led c =
     let d = ended (entry c) in
     record {
       way = refl;
       ok = d.ok;
       some = λ z. c.before.if2.false (sym d.page ∙ z);
-      page = c.page_at_lem.ensures ∙ ap (page_at _ _ _) (sym d.page);
+      page = c.page_at.ensures ∙ ap (page_at _ _ _) (sym d.page);
     }
 
 add_page_sound : tie.Need-overflow-add-page-sound
@@ -75,12 +75,12 @@ page_sound_requires : tie.Need-page-sound-requires
 page_sound_requires c κs =
     let p = c.before.before in
     let d = entry p in
-    ((under_page (call d).pre).1, (ended d).bits, rw p.page_at_lem.ensures (page_lent _ _ _ _), λ z. absurd (true≢false z))
+    ((under_page (call d).pre).1, (ended d).bits, rw p.page_at.ensures (page_lent _ _ _ _), λ z. absurd (true≢false z))
 
 -- as the definition says it, of the page that the way led to
 sound : (c : tie.After-page-sound)
     → let a = (call (entry (read c))).args in
-    let pg = (read c).page_at_lem.result.now in
+    let pg = (read c).page_at.result.now in
     c.page-sound.result ≡ sound_page a.f a.head pg a.key (descent a.f a.store.now a.head a.key).used
 sound c = c.page-sound.ensures ∙ ap (sound_page _ _ _ _) (sym (ended (entry (read c))).used)
 
@@ -89,7 +89,7 @@ returns_3 c = find_unsound (led (read c.before)) (failed (sound c.before) c.if3.
 
 find_in_requires : tie.Need-find-in-requires
 find_in_requires c κs =
-    let e = (read c.before).page_at_lem.ensures in
+    let e = (read c.before).page_at.ensures in
     filled _ _ _ (sound_rule _ _ _ _ _ (passed c.before.page-sound.ensures c.if3.false)) (rw e (page_lent _ _ _ _))
 
 returns_4 : tie.Need-returns-4

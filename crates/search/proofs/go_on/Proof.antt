@@ -13,15 +13,15 @@ use Rattle.search.proofs.go_on.Tie as tie
 
 -- the link that is read is the node's
 link : (c : tie.After-node-at)
-    → let a = c.before.before.args in get_or c.node_at_lem.result.now 3 0 ≡ forward_word a.store.now (node_start a.head a.n)
-link c = let p = c.before.before.requires in forward_is p.0 p.1 c.node_at_lem.ensures
+    → let a = c.before.before.args in get_or c.node_at.result.now 3 0 ≡ forward_word a.store.now (node_start a.head a.n)
+link c = let p = c.before.before.requires in forward_is p.0 p.1 c.node_at.ensures
 
 node_at_requires : tie.Need-node-at-requires
 node_at_requires c κs = (c.before.requires.0, c.before.requires.1.in_use)
 
 shared_slice_read_m : tie.Need-shared-slice-read-m
 shared_slice_read_m c =
-    let p = c.before.before.before.requires in omega (arith, block_words p.0 p.1.in_use c.before.node_at_lem.ensures)
+    let p = c.before.before.before.requires in omega (arith, block_words p.0 p.1.in_use c.before.node_at.ensures)
 
 returns : tie.Need-returns
 returns c = onward_none _ _ _ _ (link c.before.before) c.if1.true
@@ -34,7 +34,7 @@ is_linked_requires c κs =
     let p = c.before.before.before in
     let r = p.before.before.requires in (
       r.0,
-      forward_taken r.0 r.1 p.node_at_lem.ensures c.before.if1.false,
+      forward_taken r.0 r.1 p.node_at.ensures c.before.if1.false,
       λ q. onward_linked _ _ _ _ (link p) c.before.if1.false c.if2.false (r.2 q),
     )
 

@@ -13,19 +13,19 @@ node_at_requires c κs = let p = c.before.requires in (p.0, p.1)
 shared_slice_read_entry_number : tie.Need-shared-slice-read-entry-number
 shared_slice_read_entry_number c =
     let p = c.before.before.before.requires in
-    omega (arith, block_words p.0 p.1 c.before.node_at_lem.ensures)
+    omega (arith, block_words p.0 p.1 c.before.node_at.ensures)
 
 entry_number_requires : tie.Need-entry-number-requires
 entry_number_requires c κs =
     let p = c.before.before.before.requires in
-    let d = block_depth p.0 p.1 c.before.node_at_lem.ensures in
+    let d = block_depth p.0 p.1 c.before.node_at.ensures in
     (omega (arith, d, p.3), omega (arith, d, p.2, (under_node p.0).0))
 
 -- the entry lies in the block
-inside : (c : tie.After-entry-number) → 5 + 2 * c.entry-number.result < length c.before.before.node_at_lem.result.now
+inside : (c : tie.After-entry-number) → 5 + 2 * c.entry-number.result < length c.before.before.node_at.result.now
 inside c =
     let p = c.before.before.before.before.requires in
-    own_inside p.0 p.1 c.before.before.node_at_lem.ensures p.2 _ _ c.entry-number.ensures.0
+    own_inside p.0 p.1 c.before.before.node_at.ensures p.2 _ _ c.entry-number.ensures.0
 
 shared_slice_read_t15 : tie.Need-shared-slice-read-t15
 shared_slice_read_t15 c = omega (arith, inside c.before)
@@ -37,7 +37,7 @@ returns : tie.Need-returns
 returns c =
     let q = c.before.before in
     let p = q.before.before.before.before.requires in
-    own_read p.0 p.1 q.before.before.node_at_lem.ensures p.2 _ _ q.entry-number.ensures.0
+    own_read p.0 p.1 q.before.before.node_at.ensures p.2 _ _ q.entry-number.ensures.0
 
 pub own-entry-spec : {M : Type 1} → statement M
 own-entry-spec =

@@ -21,7 +21,7 @@ node_at_requires c κs = let p = c.before.before.requires in (p.0, p.1)
 node_passes_requires : tie.Need-node-passes-requires
 node_passes_requires c κs =
     let p = c.before.before.before.requires in
-    block_tested p.0 p.1 c.node_at_lem.ensures _ _ (λ z. absurd (true≢false z))
+    block_tested p.0 p.1 c.node_at.ensures _ _ (λ z. absurd (true≢false z))
 
 -- the block, and what its test said of the rule
 abbrev block : tie.After-node-passes → tie.After-node-at
@@ -29,28 +29,28 @@ block c = c.before
 
 tested : (c : tie.After-node-passes)
     → let a = (block c).before.before.before.args in
-    c.node_passes.result ≡ node_rule a.head (block c).node_at_lem.result.now 0 a.level
+    c.node_passes.result ≡ node_rule a.head (block c).node_at.result.now 0 a.level
 tested c =
     let p = (block c).before.before.before.requires in
-    c.node_passes.ensures ∙ limits_rule p.0 p.1 (block c).node_at_lem.ensures _
+    c.node_passes.ensures ∙ limits_rule p.0 p.1 (block c).node_at.ensures _
 
 returns_2 : tie.Need-returns-2
 returns_2 c =
     let a = block c.before in
     let p = a.before.before.before.pre in
-    block_broken p.0 p.1 a.node_at_lem.ensures _ _ (failed (tested c.before) c.if2.true)
+    block_broken p.0 p.1 a.node_at.ensures _ _ (failed (tested c.before) c.if2.true)
 
 -- the block keeps the rule
 ruled : (c : tie.Else2)
     → let a = (block c.before).before.before.before.args in
-    node_rule a.head (block c.before).node_at_lem.result.now 0 a.level ≡ true
+    node_rule a.head (block c.before).node_at.result.now 0 a.level ≡ true
 ruled c = passed (tested c.before) c.if2.false
 
 shared_slice_read_result : tie.Need-shared-slice-read-result
 shared_slice_read_result c =
     let a = block c.before.before in
     let p = a.before.before.before.pre in
-    omega (arith, block_words p.0 p.1 a.node_at_lem.ensures)
+    omega (arith, block_words p.0 p.1 a.node_at.ensures)
 
 add_result : tie.Need-overflow-add-result
 add_result c =
@@ -62,7 +62,7 @@ returns_3 : tie.Need-returns-3
 returns_3 c =
     let a = block c.before.before.before in
     let p = a.before.before.before.pre in
-    block_sound p.0 p.1 a.node_at_lem.ensures _ _ (ruled c.before.before) c.width_of_lem.ensures.0
+    block_sound p.0 p.1 a.node_at.ensures _ _ (ruled c.before.before) c.width_of.ensures.0
 
 pub passes-spec : {M : Type 1} → statement M
 passes-spec =

@@ -11,18 +11,18 @@ node_at_requires c κs = (c.before.requires.0, c.before.requires.1.in_use)
 
 shared_slice_read_first_pointer : tie.Need-shared-slice-read-first-pointer
 shared_slice_read_first_pointer c =
-    let p = c.before.before.before.requires in omega (arith, block_words p.0 p.1.in_use c.before.node_at_lem.ensures)
+    let p = c.before.before.before.requires in omega (arith, block_words p.0 p.1.in_use c.before.node_at.ensures)
 
 first_pointer_requires : tie.Need-first-pointer-requires
 first_pointer_requires c κs =
     let p = c.before.before.before.requires in
-    let e = c.before.node_at_lem.ensures in
+    let e = c.before.node_at.ensures in
     (depth_small p.0 p.1 e, entries_inside p.0 p.1 e, p.2)
 
 returns : tie.Need-returns
 returns c =
     let p = c.before.before.before.before.requires in
-    c.first-pointer.ensures ∙ pointer_is p.0 p.1 c.before.before.node_at_lem.ensures _
+    c.first-pointer.ensures ∙ pointer_is p.0 p.1 c.before.before.node_at.ensures _
 
 pub pointer-from-spec : {M : Type 1} → statement M
 pointer-from-spec = tie.close (tie.spec node_at_requires shared_slice_read_first_pointer first_pointer_requires returns)

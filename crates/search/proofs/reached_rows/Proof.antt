@@ -26,20 +26,20 @@ abbrev read : tie.Else1 → tie.After-read-one
 read c = c.before.before.before.before.before
 
 -- the page keeps the rule
-ruled : (c : tie.After-page-at) → let a = c.before.before.args in page_rule a.f a.head.capacity c.page_at_lem.result.now ≡ true
-ruled c = rw c.page_at_lem.ensures c.before.before.requires.3
+ruled : (c : tie.After-page-at) → let a = c.before.before.args in page_rule a.f a.head.capacity c.page_at.result.now ≡ true
+ruled c = rw c.page_at.ensures c.before.before.requires.3
 
-full : (c : tie.After-page-at) → Filled c.before.before.args.f c.page_at_lem.result.now
-full c = page_filled c.before.before.requires.0 _ c.page_at_lem.ensures (ruled c)
+full : (c : tie.After-page-at) → Filled c.before.before.args.f c.page_at.result.now
+full c = page_filled c.before.before.requires.0 _ c.page_at.ensures (ruled c)
 
-some : (c : tie.After-page-at) → 1 ≤ count c.page_at_lem.result.now
+some : (c : tie.After-page-at) → 1 ≤ count c.page_at.result.now
 some c = (rule_facts _ _ _ (ruled c)).some
 
-first_is : (r : tie.After-read-one) → r.read_one.result.key ≡ key_at (call r).args.f r.before.page_at_lem.result.now 0
+first_is : (r : tie.After-read-one) → r.read_one.result.key ≡ key_at (call r).args.f r.before.page_at.result.now 0
 first_is r = ap (λ (x : Item). x.key) r.read_one.ensures
 
-low_is : (w : tie.After-width-of) → let a = (call w.before).args in w.width_of_lem.result - a.t.used ≡ width a.f - a.t.used
-low_is w = ap (λ (x : ℕ). x - (call w.before).args.t.used) w.width_of_lem.ensures.0
+low_is : (w : tie.After-width-of) → let a = (call w.before).args in w.width_of.result - a.t.used ≡ width a.f - a.t.used
+low_is w = ap (λ (x : ℕ). x - (call w.before).args.t.used) w.width_of.ensures.0
 
 -- the first key agrees with the sought one in the bits used before the terminal node
 agreed : (c : tie.Else1)
@@ -59,14 +59,14 @@ read_one_requires : tie.Need-read-one-requires
 read_one_requires c κs = (search rules, record_inside (full c) (some c))
 
 sub_low : tie.Need-overflow-sub-low
-sub_low c = let p = (call c.before.before).requires in omega (arith, (at_asked _ _ _ _ p.0 p.1 p.2).3, c.before.width_of_lem.ensures)
+sub_low c = let p = (call c.before.before).requires in omega (arith, (at_asked _ _ _ _ p.0 p.1 p.2).3, c.before.width_of.ensures)
 
 returns : tie.Need-returns
 returns c =
     let t = c.before in
     let w = t.before.before.before.before in
     c.first-row.ensures
-    ∙ rows_other _ _ _ _ _ _ _ w.before.before.page_at_lem.ensures (first_is w.before)
+    ∙ rows_other _ _ _ _ _ _ _ w.before.before.page_at.ensures (first_is w.before)
     (unlike _ _ _ _ (low_is w) t.before.before.prefix.ensures t.before.prefix2.ensures t.if1.true)
 
 own_entry_requires : tie.Need-own-entry-requires
@@ -77,7 +77,7 @@ returns_2 c =
     let v = c.before.before.before in
     let r = read v.before in
     c.first-row2.ensures
-    ∙ rows_elsewhere _ _ _ _ _ _ _ r.before.page_at_lem.ensures (first_is r) (agreed v.before) v.own_entry.ensures
+    ∙ rows_elsewhere _ _ _ _ _ _ _ r.before.page_at.ensures (first_is r) (agreed v.before) v.own_entry.ensures
     c.before.if2.true
 
 add_keys_agree : tie.Need-overflow-add-keys-agree
@@ -98,7 +98,7 @@ returns_3 c =
     let v = (second k).before.before in
     let r = read v.before in
     c.first-row3.ensures
-    ∙ rows_alone _ _ _ _ _ _ _ r.before.page_at_lem.ensures (first_is r) (agreed v.before) v.own_entry.ensures (second k).if2.false
+    ∙ rows_alone _ _ _ _ _ _ _ r.before.page_at.ensures (first_is r) (agreed v.before) v.own_entry.ensures (second k).if2.false
     (failed k.keys-agree.ensures c.before.if3.true)
 
 -- the page, from its count on, and its last record
@@ -122,7 +122,7 @@ returns_4 c =
     let k = n.before.before in
     let v = (second k).before.before in
     let r = read v.before in
-    rows_whole _ _ _ _ _ _ _ r.before.page_at_lem.ensures (first_is r) (agreed v.before) v.own_entry.ensures (second k).if2.false
+    rows_whole _ _ _ _ _ _ _ r.before.page_at.ensures (first_is r) (agreed v.before) v.own_entry.ensures (second k).if2.false
     (passed k.keys-agree.ensures n.before.if3.false) n.count_of.ensures.0
     (ap (λ (x : Item). x.key) c.before.read-one2.ensures) c.run-behind.ensures.0
 

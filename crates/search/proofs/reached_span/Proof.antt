@@ -16,7 +16,7 @@ use Rattle.search.proofs.reached_span.Tie as tie
 -- the page keeps the rule
 ruled : (c : tie.Else1)
     → let a = c.before.before.before.before.before.before.before.args in
-    page_rule a.f a.head.capacity c.before.before.page_at_lem.result.now ≡ true
+    page_rule a.f a.head.capacity c.before.before.page_at.result.now ≡ true
 ruled c = passed c.before.page_passes.ensures c.if1.false
 
 returns : tie.Need-returns
@@ -31,25 +31,25 @@ page_at_requires c κs = under_page c.before.before.before.before.requires.0
 page_passes_requires : tie.Need-page-passes-requires
 page_passes_requires c κs =
     let p = c.before.before.before.before.before.requires in
-    page_asked p.0 _ c.page_at_lem.ensures _ (λ q. page_known _ _ _ _ _ _ _ c.before.before.a.given.1 c.page_at_lem.ensures (p.1 q))
+    page_asked p.0 _ c.page_at.ensures _ (λ q. page_known _ _ _ _ _ _ _ c.before.before.a.given.1 c.page_at.ensures (p.1 q))
 
 returns_3 : tie.Need-returns-3
 returns_3 c =
     let p = c.before.before.before in
     c.no-span3.ensures
-    ∙ page_broken _ _ _ _ _ _ _ p.before.before.a.given.1 p.page_at_lem.ensures
+    ∙ page_broken _ _ _ _ _ _ _ p.before.before.a.given.1 p.page_at.ensures
     (failed c.before.before.page_passes.ensures c.before.if1.true)
 
 read_one_requires : tie.Need-read-one-requires
 read_one_requires c κs =
-    let f = page_filled c.before.before.before.before.before.before.before.requires.0 _ c.before.before.page_at_lem.ensures (ruled c) in
+    let f = page_filled c.before.before.before.before.before.before.before.requires.0 _ c.before.before.page_at.ensures (ruled c) in
     (search rules, record_inside f (rule_facts _ _ _ (ruled c)).some)
 
 returns_4 : tie.Need-returns-4
 returns_4 c =
     let p = c.before.before.before.before.before.before in
     c.no-span4.ensures
-    ∙ page_below _ _ _ _ _ _ _ p.before.before.a.given.1 p.page_at_lem.ensures (ruled c.before.before.before.before)
+    ∙ page_below _ _ _ _ _ _ _ p.before.before.a.given.1 p.page_at.ensures (ruled c.before.before.before.before)
     c.before.before.before.read_one.ensures (failed c.before.before.is-above.ensures c.before.if2.true)
 
 -- what the arm of a page has
@@ -59,13 +59,13 @@ arm c = c.before.before.before.before.before
 reached_rows_requires : tie.Need-reached-rows-requires
 reached_rows_requires c κs =
     let p = (arm c).before.before.before.before.before.requires in
-    (p.0, p.2, p.3, rw (← (arm c).page_at_lem.ensures) (ruled c.before.before.before))
+    (p.0, p.2, p.3, rw (← (arm c).page_at.ensures) (ruled c.before.before.before))
 
 returns_5 : tie.Need-returns-5
 returns_5 c =
     let e = c.before in
-    c.reached_rows_lem.ensures
-    ∙ page_gives _ _ _ _ _ _ _ (arm e).before.before.a.given.1 (arm e).page_at_lem.ensures (ruled e.before.before.before)
+    c.reached_rows.ensures
+    ∙ page_gives _ _ _ _ _ _ _ (arm e).before.before.a.given.1 (arm e).page_at.ensures (ruled e.before.before.before)
     e.before.before.read_one.ensures (passed e.before.is-above.ensures e.if2.false)
 
 pub reached-span-spec : {M : Type 1} → statement M

@@ -10,16 +10,16 @@ node_at_requires c κs = (c.before.requires.0, c.before.requires.1.in_use)
 
 shared_slice_read_run_after : tie.Need-shared-slice-read-run-after
 shared_slice_read_run_after c =
-    let p = c.before.before.before.requires in omega (arith, block_words p.0 p.1.in_use c.before.node_at_lem.ensures)
+    let p = c.before.before.before.requires in omega (arith, block_words p.0 p.1.in_use c.before.node_at.ensures)
 
 run_after_requires : tie.Need-run-after-requires
 run_after_requires c κs =
-    let p = c.before.before.before.requires in depth_small p.0 p.1 c.before.node_at_lem.ensures
+    let p = c.before.before.before.requires in depth_small p.0 p.1 c.before.node_at.ensures
 
 returns : tie.Need-returns
 returns c =
     let p = c.before.before.before.before.requires in
-    (behind_is p.0 p.1 c.before.before.node_at_lem.ensures _ _ _ c.run-after.ensures.0, c.run-after.ensures.1)
+    (behind_is p.0 p.1 c.before.before.node_at.ensures _ _ _ c.run-after.ensures.0, c.run-after.ensures.1)
 
 pub run-behind-spec : {M : Type 1} → statement M
 run-behind-spec = tie.close (tie.spec node_at_requires shared_slice_read_run_after run_after_requires returns)

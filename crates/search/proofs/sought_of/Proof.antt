@@ -17,12 +17,12 @@ page_at_requires c κs = under_page c.before.before.before.before.before.require
 read_one_requires : tie.Need-read-one-requires
 read_one_requires c κs =
     let p = c.before.before.before.before.before.before.requires in
-    (p.1, rw c.page_at_lem.ensures (p.2 (not-false _ c.before.before.before.if1.false) c.before.if2.false))
+    (p.1, rw c.page_at.ensures (p.2 (not-false _ c.before.before.before.if1.false) c.before.if2.false))
 
 returns_3 : tie.Need-returns-3
 returns_3 c =
     sought_first _ _ _ _ (not-false _ c.before.before.before.before.if1.false) c.before.before.if2.false
-    c.before.page_at_lem.ensures c.read_one.ensures
+    c.before.page_at.ensures c.read_one.ensures
 
 pub sought-of-spec : {M : Type 1} → statement M
 sought-of-spec = tie.close (tie.spec returns returns_2 page_at_requires read_one_requires returns_3)

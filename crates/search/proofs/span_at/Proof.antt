@@ -75,8 +75,8 @@ page_sound_requires c κs =
     let p = c.before.before in
     let v = entry p in
     let r = (call v).pre in
-    let l = page_asked r.0 _ p.page_at_lem.ensures _
-    (λ q. at_known _ _ _ _ _ _ (ok v.before) v.own_entry.ensures p.before.if2.true p.page_at_lem.ensures (r.2 q)) in
+    let l = page_asked r.0 _ p.page_at.ensures _
+    (λ q. at_known _ _ _ _ _ _ (ok v.before) v.own_entry.ensures p.before.if2.true p.page_at.ensures (r.2 q)) in
     (l.0, bits v, l.1, l.2)
 
 returns_2 : tie.Need-returns-2
@@ -85,7 +85,7 @@ returns_2 c =
     let p = t.before.before.before in
     let v = entry p in
     c.no-span2.ensures
-    ∙ at_unsound _ _ _ _ _ _ (ok v.before) v.own_entry.ensures p.before.if2.true p.page_at_lem.ensures
+    ∙ at_unsound _ _ _ _ _ _ (ok v.before) v.own_entry.ensures p.before.if2.true p.page_at.ensures
     (failed t.page-sound.ensures c.before.if3.true)
 
 -- the page, where it is sound
@@ -94,15 +94,15 @@ page c = c.before.before.before.before
 
 sound : (c : tie.Else3)
     → let a = (call (entry (page c))).args in
-    sound_page a.f a.head (page c).page_at_lem.result.now a.key (a.t.used + (entry (page c)).own_entry.result.depth) ≡ true
+    sound_page a.f a.head (page c).page_at.result.now a.key (a.t.used + (entry (page c)).own_entry.result.depth) ≡ true
 sound c = passed c.before.page-sound.ensures c.if3.false
 
 first_above_requires : tie.Need-first-above-requires
 first_above_requires c κs =
-    page_filled (call (entry (page c))).requires.0 _ (page c).page_at_lem.ensures (sound_rule _ _ _ _ _ (sound c))
+    page_filled (call (entry (page c))).requires.0 _ (page c).page_at.ensures (sound_rule _ _ _ _ _ (sound c))
 
 -- its last record
-last : (c : tie.Then4) → c.before.count_of.result - 1 < count (page c.before.before.before).page_at_lem.result.now
+last : (c : tie.Then4) → c.before.count_of.result - 1 < count (page c.before.before.before).page_at.result.now
 last c = omega (arith, c.if4.true, c.before.count_of.ensures.0)
 
 read_one_requires : tie.Need-read-one-requires
@@ -114,7 +114,7 @@ returns_3 c =
     let e = t.before.before.before in
     let p = page e in
     let v = entry p in
-    at_rows _ _ _ _ _ _ (ok v.before) v.own_entry.ensures p.before.if2.taken p.page_at_lem.ensures (sound e)
+    at_rows _ _ _ _ _ _ (ok v.before) v.own_entry.ensures p.before.if2.taken p.page_at.ensures (sound e)
     t.before.before.first_above.ensures.0 t.before.count_of.ensures.0 t.if4.true
     (ap (λ (x : Item). x.key) c.read_one.ensures) p.before.before.run-behind.ensures.0
 

@@ -10,7 +10,7 @@ returns c = count_null _ _ _ _ c.if1.true
 returns_2 : tie.Need-returns-2
 returns_2 c =
     let p = c.before in
-    count_some _ _ _ _ p.before.if1.false p.before.before.before.requires.2 p.page_at_lem.ensures c.count_of.ensures.0
+    count_some _ _ _ _ p.before.if1.false p.before.before.before.requires.2 p.page_at.ensures c.count_of.ensures.0
 
 pub count-at-spec : {M : Type 1} → statement M
 count-at-spec = tie.close (tie.spec returns (λ c κs. search rules) (λ c κs. search rules) returns_2)

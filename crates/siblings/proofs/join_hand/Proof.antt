@@ -22,7 +22,7 @@ join_pair_requires : tie.Need-join-pair-requires
 join_pair_requires c κs =
     let n = c.before.before in
     let p = (call n).requires in
-    let e = n.node_at_lem.ensures in (
+    let e = n.node_at.ensures in (
       (under_node p.0).0,
       block_long p.0 p.1 e,
       p.2,
@@ -38,7 +38,7 @@ hand_is : (j : tie.After-join-pair) → let s = call j.before.before.before in
 hand_is j =
     let n = j.before.before.before in
     let s = call n in
-    j.join-pair.ensures ∙ ap (λ x. paired s.args.head.theta x s.args.hand.now s.args.left) n.node_at_lem.ensures
+    j.join-pair.ensures ∙ ap (λ x. paired s.args.head.theta x s.args.hand.now s.args.left) n.node_at.ensures
 
 cover_hand_requires : tie.Need-cover-hand-requires
 cover_hand_requires c κs =

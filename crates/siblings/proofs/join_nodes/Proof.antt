@@ -147,7 +147,7 @@ loop_again c =
       (λ g o eg r y.
           let n = l.inv.7 g o eg r y in
           noding_on _ _ _ _ _ _ _ _ _ _ _ _ _ _ _ _ _ n (some t) (t.node-turn.ensures.1 n.now_in n.spot n.tracked) (not-false _ e.before.before.if1.false)
-          (not-false _ e.if2.false) (call (looped t)).pre.0.head s.on_left_lem.ensures c.before.pick2.ensures c.pick3.ensures
+          (not-false _ e.if2.false) (call (looped t)).pre.0.head s.on_left.ensures c.before.pick2.ensures c.pick3.ensures
           c.before.before.pick.ensures j.join-hand.ensures.0 (room t) refl),
       t.node-turn.ensures.3,
     )

@@ -8,7 +8,7 @@ returns : tie.Need-returns
 returns c = any_level _ _ _ _ _ _ _ _ c.if1.true
 
 returns_2 : tie.Need-returns-2
-returns_2 c = first_level _ _ _ _ _ _ _ _ c.before.if1.false c.links_ok_lem.ensures
+returns_2 c = first_level _ _ _ _ _ _ _ _ c.before.if1.false c.links_ok.ensures
 
 pub may-join-spec : {M : Type 1} → statement M
 may-join-spec = tie.close (tie.spec returns (λ c κs. search rules) returns_2)

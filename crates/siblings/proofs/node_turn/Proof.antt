@@ -71,7 +71,7 @@ shared_slice_read_larger c =
 shared_slice_read_larger_2 : tie.Need-shared-slice-read-larger-2
 shared_slice_read_larger_2 c =
     let n = c.before.before in
-    omega (arith, block_words (call (beside n.before)).requires.0 (in_use n.before) n.node_at_lem.ensures)
+    omega (arith, block_words (call (beside n.before)).requires.0 (in_use n.before) n.node_at.ensures)
 
 returns_3 : tie.Need-returns-3
 returns_3 c =
@@ -80,7 +80,7 @@ returns_3 c =
     let z = beside b in (
       z.node-mate.ensures.0,
       (λ g e y. decided_tall _ _ _ _ _ g (mated z g e y) (not-false _ b.before.before.if1.left) (not-false _ b.if2.left) (call z).pre.0.head e
-          l.before.before.before.node_at_lem.ensures l.larger.ensures c.before.if3.true c.not-found3.ensures),
+          l.before.before.before.node_at.ensures l.larger.ensures c.before.if3.true c.not-found3.ensures),
       (λ o. absurd (false≢true (sym (ap (λ x. x.found) c.not-found3.ensures) ∙ o))),
       z.node-mate.ensures.3,
     )
@@ -97,7 +97,7 @@ returns_4 c =
     let z = beside b in (
       z.node-mate.ensures.0,
       (λ g e y. decided_apart _ _ _ _ _ g (mated z g e y) (not-false _ b.before.before.if1.left) (not-false _ b.if2.left) (call z).pre.0.head e
-          l.before.before.before.node_at_lem.ensures l.larger.ensures s.if3.false m.before.on_left_lem.ensures m.may-join.ensures
+          l.before.before.before.node_at.ensures l.larger.ensures s.if3.false m.before.on_left.ensures m.may-join.ensures
           (not-true _ c.before.if4.true) c.not-found4.ensures),
       (λ o. absurd (false≢true (sym (ap (λ x. x.found) c.not-found4.ensures) ∙ o))),
       z.node-mate.ensures.3,
@@ -112,12 +112,12 @@ returns_5 c =
     let z = beside b in (
       z.node-mate.ensures.0,
       (λ g e y. decided_on _ _ _ _ _ g (mated z g e y) (not-false _ b.before.before.if1.left) (not-false _ b.if2.left) (call z).pre.0.head e
-          l.before.before.before.node_at_lem.ensures l.larger.ensures s.if3.false m.before.on_left_lem.ensures m.may-join.ensures
+          l.before.before.before.node_at.ensures l.larger.ensures s.if3.false m.before.on_left.ensures m.may-join.ensures
           (not-false _ c.if4.false)),
       (λ o. (
         in_use b,
         (z.node-mate.ensures.2 (not-false _ b.if2.left)).1,
-        omega (arith, s.if3.false, l.larger.ensures, ap (λ x. depth_word x 0) l.before.before.before.node_at_lem.ensures),
+        omega (arith, s.if3.false, l.larger.ensures, ap (λ x. depth_word x 0) l.before.before.before.node_at.ensures),
       )),
       z.node-mate.ensures.3,
     )

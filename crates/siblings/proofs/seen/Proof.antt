@@ -17,7 +17,7 @@ returns_2 c =
     let t = e.before.before in
     let a = t.before.before.before.args in
     seen_level a.store.now a.head a.level a.n a.marks.now a.mark _ t.to-index.ensures.0 e.if1.false
-    (word_of a.store.now a.head a.n 1 c.word.ensures c.before.node_start_lem.ensures.0)
+    (word_of a.store.now a.head a.n 1 c.word.ensures c.before.node_start.ensures.0)
 
 pub seen-spec : {M : Type 1} → statement M
 seen-spec =

@@ -16,14 +16,14 @@ returns : tie.Need-returns
 returns c =
     let w = c.before.before in
     let p = w.before.requires in
-    key_left _ _ _ p.0 p.1 (omega (arith, width_within w.before.args.f)) p.2 _ _ (ap (λ x. x - w.before.args.m) w.width_of_lem.ensures.0)
+    key_left _ _ _ p.0 p.1 (omega (arith, width_within w.before.args.f)) p.2 _ _ (ap (λ x. x - w.before.args.m) w.width_of.ensures.0)
     c.before.prefix.ensures c.if1.true
 
 returns_2 : tie.Need-returns-2
 returns_2 c =
     let w = c.before.before in
     let p = w.before.requires in
-    key_right _ _ _ p.0 p.1 (omega (arith, width_within w.before.args.f)) p.2 _ _ (ap (λ x. x - w.before.args.m) w.width_of_lem.ensures.0)
+    key_right _ _ _ p.0 p.1 (omega (arith, width_within w.before.args.f)) p.2 _ _ (ap (λ x. x - w.before.args.m) w.width_of.ensures.0)
     c.before.prefix.ensures c.if1.false
 
 pub sibling-key-spec : {M : Type 1} → statement M

@@ -17,11 +17,11 @@ abbrev call : tie.After-node-words → tie.Start
 call c = c.before.before.before.before.before
 
 lent : (c : tie.After-node-words) → let a = (call c).args in
-    let at = c.before.node_start_lem.result in
+    let at = c.before.node_start.result in
     take (at + c.node-words.result - at) (drop at a.store.now) ≡ node_at a.store.now a.head a.n
 lent c =
     let s = call c in
-    node_lent s.args.store.now s.args.head s.args.n c.before.node_start_lem.ensures.0 c.node-words.ensures.0 s.pre.1
+    node_lent s.args.store.now s.args.head s.args.n c.before.node_start.ensures.0 c.node-words.ensures.0 s.pre.1
 
 aim_run_requires : tie.Need-aim-run-requires
 aim_run_requires c κs =
@@ -40,7 +40,7 @@ returns c =
     let a = (call words).args in
     let k = bits (width a.f - a.used) a.key in
     let l = lent words in
-    node_back a.store.now a.head a.n words.before.node_start_lem.ensures.0 words.node-words.ensures.0
+    node_back a.store.now a.head a.n words.before.node_start.ensures.0 words.node-words.ensures.0
     (part.aim-run.ensures k (ap (λ b. index (depth_word b 0) k) l ∙ words.before.before.entry_in.ensures)
     ∙ ap (λ b. aim a.head.theta b k a.q) l)
 

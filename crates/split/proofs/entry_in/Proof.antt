@@ -14,13 +14,13 @@ abbrev call : tie.After-node-start → tie.Start
 call c = c.before.before
 
 depth : (c : tie.After-node-start) → let a = (call c).args in
-    get_or a.store.now c.node_start_lem.result 0 ≡ depth_word (node_at a.store.now a.head a.n) 0
-depth c = let s = call c in node_depth s.args.store.now s.args.head s.args.n c.node_start_lem.ensures.0 s.pre.1
+    get_or a.store.now c.node_start.result 0 ≡ depth_word (node_at a.store.now a.head a.n) 0
+depth c = let s = call c in node_depth s.args.store.now s.args.head s.args.n c.node_start.ensures.0 s.pre.1
 
 shared_slice_read_entry_number : tie.Need-shared-slice-read-entry-number
 shared_slice_read_entry_number c =
     let s = call c.before in
-    omega (arith, c.before.node_start_lem.ensures.0, s.pre.1, four_words s.args.head.theta)
+    omega (arith, c.before.node_start.ensures.0, s.pre.1, four_words s.args.head.theta)
 
 entry_number_requires : tie.Need-entry-number-requires
 entry_number_requires c κs =

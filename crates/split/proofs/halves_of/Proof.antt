@@ -18,11 +18,11 @@ call c = c.before.before.before.before.before
 
 -- the block is lent
 lent : (c : tie.After-node-words) → let a = (call c).args in
-    let at = c.before.node_start_lem.result in
+    let at = c.before.node_start.result in
     take (at + c.node-words.result - at) (drop at a.store.now) ≡ node_at a.store.now a.head a.n
 lent c =
     let s = call c in
-    node_lent s.args.store.now s.args.head s.args.n c.before.node_start_lem.ensures.0 c.node-words.ensures.0 s.pre.2
+    node_lent s.args.store.now s.args.head s.args.n c.before.node_start.ensures.0 c.node-words.ensures.0 s.pre.2
 
 split_into_requires : tie.Need-split-into-requires
 split_into_requires c κs =

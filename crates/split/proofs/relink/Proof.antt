@@ -12,10 +12,10 @@ returns : tie.Need-returns
 returns c = (λ e. refl, λ n. absurd (n c.if1.true))
 
 -- the word is in the store
-inside : (c : tie.After-node-start) → c.node_start_lem.result + 2 < length c.before.before.before.args.store.now
+inside : (c : tie.After-node-start) → c.node_start.result + 2 < length c.before.before.before.args.store.now
 inside c =
     let s = c.before.before.before in
-    omega (arith, c.node_start_lem.ensures.0, s.requires.1, four_words s.args.head.theta)
+    omega (arith, c.node_start.ensures.0, s.requires.1, four_words s.args.head.theta)
 
 slice_write_store : tie.Need-slice-write-store
 slice_write_store c = inside c
@@ -24,7 +24,7 @@ returns_2 : tie.Need-returns-2
 returns_2 c =
     let s = c.before.before.before in (
       λ e. absurd (c.before.if1.false e),
-      λ n. relinked s.args.store.now s.args.head s.args.q s.args.m s.requires.1 c.node_start_lem.ensures.0,
+      λ n. relinked s.args.store.now s.args.head s.args.q s.args.m s.requires.1 c.node_start.ensures.0,
     )
 
 pub relink-spec : {M : Type 1} → statement M

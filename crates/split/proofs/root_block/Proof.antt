@@ -8,7 +8,7 @@ returns : tie.Need-returns
 returns c =
     let words = c.before.before.before.before in
     let start = words.before.before.before in
-    node_back start.args.store.now start.args.head start.args.n words.before.node_start_lem.ensures.0
+    node_back start.args.store.now start.args.head start.args.n words.before.node_start.ensures.0
     words.node-words.ensures.0 c.before.before.write_root.ensures
 
 pub root-block-spec : {M : Type 1} → statement M

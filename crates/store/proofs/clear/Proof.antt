@@ -9,31 +9,31 @@ use borrow.Author.Fill.{fill_none, fill_more}
 use Rattle.store.proofs.clear.Statement.{statement}
 use Rattle.store.proofs.clear.Tie as tie
 
-abbrev invariant-loop : tie.invariant-loop
+abbrev invariant-loop : tie.invariant-loop-i
 invariant-loop part₀ n i₀ part i = (i ≤ n) × (n ≡ length part₀) × (length part ≡ n) × (part ≡ replicate i 0 ++ drop i part₀)
 
-abbrev decreases-loop : tie.decreases-loop
+abbrev decreases-loop : tie.decreases-loop-i
 decreases-loop part₀ n i₀ part i = n - i
 
-loop_holds : tie.Need-loop-init invariant-loop decreases-loop
+loop_holds : tie.Need-loop-i-init invariant-loop decreases-loop
 loop_holds c = (search rules, search rules, search rules, fill_none _ 0)
 
-loop_again : tie.Need-loop-preserved invariant-loop decreases-loop
+loop_again : tie.Need-loop-i-preserved invariant-loop decreases-loop
 loop_again c =
-    let l = c.before.loop in (
+    let l = c.loop-i in (
       search rules,
       search rules,
       simp length-set l.invariant.2,
-      rw l.invariant.3 (fill_more l.i 0 c.before.before.args.part.now (omega arith)),
+      rw l.invariant.3 (fill_more l.i 0 c.args.part.now (omega arith)),
     )
 
-same_length : tie.Need-same-length invariant-loop decreases-loop
-same_length c = c.before.loop.invariant.2
+same_length : tie.Need-shape_of-part invariant-loop decreases-loop
+same_length c = c.loop-i.invariant.2
 
 returns : tie.Need-returns invariant-loop decreases-loop
 returns c =
-    let l = c.before.loop in
-    let s = c.before.before.args.part.now in
+    let l = c.loop-i in
+    let s = c.args.part.now in
     let e : l.i ≡ length s = omega arith in
     l.invariant.3 ∙ rw (e, drop_of_length-le s {i = length s} (omega arith)) (append-nil _)
 

@@ -5,10 +5,10 @@ use Rattle.store.proofs.level_bound.Statement.{statement}
 use Rattle.store.proofs.level_bound.Tie as tie
 
 returns : tie.Need-returns
-returns c = level_bound_is _ _ _ _ _ c.before.width_of_lem.ensures.0 c.floor-log2.ensures.0
+returns c = level_bound_is _ _ _ _ _ c.width_of.ensures.0 c.floor_log2.ensures.0
 
-pub level-bound-spec : {M : Type 1} → statement M
-level-bound-spec =
+pub level_bound_spec : {M : Type 1} → statement M
+level_bound_spec =
     tie.close
     (tie.spec (λ c κs. search rules) (λ c κs. search rules) (λ c. search rules) (λ c. search rules) (λ c. search rules) (λ c. search rules)
     returns)

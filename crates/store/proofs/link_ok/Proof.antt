@@ -9,29 +9,29 @@ use Rattle.store.proofs.ChainLaws.{link_is}
 use Rattle.store.proofs.link_ok.Statement.{statement}
 use Rattle.store.proofs.link_ok.Tie as tie
 
-returns : tie.Need-returns
-returns c = link_is _ _ _ _ _ _ _ false _ _ (sym (failed c.before.node_form_lem.ensures c.if1.true)) refl refl refl
+returns : tie.Need-returns-then-not-node_form
+returns c = link_is _ _ _ _ _ _ _ false _ _ (sym (failed c.node_form.ensures c.if-not-node_form.true-raw)) refl refl refl
 
-node_seen_requires : tie.Need-node-seen-requires
-node_seen_requires c κs = let p = c.before.before.before.requires in ((under_limits p.0).theta, p.0.head)
+node_seen_requires : tie.Need-node_seen-requires
+node_seen_requires c κs = let p = c.requires in ((under_limits p.0).theta, p.0.head)
 
-returns_2 : tie.Need-returns-2
+returns_2 : tie.Need-returns-then-node_seen
 returns_2 c =
     let q = c.before.before in
-    link_is _ _ _ _ _ _ _ true true _ (sym (passed q.before.node_form_lem.ensures q.if1.false))
-    (sym c.if2.true ∙ c.before.node_Seen.ensures) refl refl
+    link_is _ _ _ _ _ _ _ true true _ (sym (passed q.node_form.ensures q.if-not-node_form.false-raw))
+    (sym c.if-node_seen.true ∙ c.node_seen.ensures) refl refl
 
-node_next_requires : tie.Need-node-next-requires
-node_next_requires c κs = let p = c.before.before.before.before.before.requires in ((under_limits p.0).theta, p.0.head)
+node_next_requires : tie.Need-node_next-requires
+node_next_requires c κs = let p = c.requires in ((under_limits p.0).theta, p.0.head)
 
-returns_3 : tie.Need-returns-3
+returns_3 : tie.Need-returns
 returns_3 c =
     let e = c.before.before in
     let q = e.before.before in
-    link_is _ _ _ _ _ _ _ true false _ (sym (passed q.before.node_form_lem.ensures q.if1.false))
-    (sym e.if2.false ∙ e.before.node_Seen.ensures) c.before.node-next.ensures c.name-ok.ensures
+    link_is _ _ _ _ _ _ _ true false _ (sym (passed q.node_form.ensures q.if-not-node_form.false-raw))
+    (sym e.if-node_seen.false ∙ e.node_seen.ensures) c.node_next.ensures c.name_ok.ensures
 
-pub link-ok-spec : {M : Type 1} → statement M
-link-ok-spec =
+pub link_ok_spec : {M : Type 1} → statement M
+link_ok_spec =
     tie.close
     (tie.spec (λ c κs. search rules) returns node_seen_requires returns_2 node_next_requires (λ c κs. search rules) returns_3)

@@ -6,28 +6,28 @@ use Rattle.store.specs.SetUp.{marked}
 use Rattle.store.proofs.mark.Statement.{statement}
 use Rattle.store.proofs.mark.Tie as tie
 
-slice_write_part_2 : tie.Need-slice-write-part-2
+slice_write_part_2 : tie.Need-bounds-part-1
 slice_write_part_2 c = simp length-set (omega arith)
 
-slice_write_part_3 : tie.Need-slice-write-part-3
+slice_write_part_3 : tie.Need-bounds-part-2
 slice_write_part_3 c = simp length-set (omega arith)
 
-slice_write_part_4 : tie.Need-slice-write-part-4
+slice_write_part_4 : tie.Need-bounds-part-3
 slice_write_part_4 c = simp length-set (omega arith)
 
-slice_write_part_5 : tie.Need-slice-write-part-5
+slice_write_part_5 : tie.Need-bounds-part-4
 slice_write_part_5 c = simp length-set (omega arith)
 
-slice_write_part_6 : tie.Need-slice-write-part-6
+slice_write_part_6 : tie.Need-bounds-part-6
 slice_write_part_6 c = simp length-set (omega arith)
 
-slice_write_part_7 : tie.Need-slice-write-part-7
+slice_write_part_7 : tie.Need-bounds-part-7
 slice_write_part_7 c = simp length-set (omega arith)
 
-slice_write_part_8 : tie.Need-slice-write-part-8
+slice_write_part_8 : tie.Need-bounds-part-17
 slice_write_part_8 c = simp length-set (omega arith)
 
-same_length : tie.Need-same-length
+same_length : tie.Need-shape_of-part
 same_length c = simp length-set
 
 returns : tie.Need-returns

@@ -2,26 +2,26 @@
 use borrow.Author.Rules.{rules}
 use native.Mathlib.Omega.{arith}
 use Rattle.store.proofs.Places.{under_limits, node_inside, node_given}
-use Rattle.store.proofs.node_at_lem.Statement.{statement}
-use Rattle.store.proofs.node_at_lem.Tie as tie
+use Rattle.store.proofs.node_at.Statement.{statement}
+use Rattle.store.proofs.node_at.Tie as tie
 
-node_start_requires : tie.Need-node-start-requires
-node_start_requires c κs = (under_limits c.before.requires.0).theta
+node_start_requires : tie.Need-node_start-start-requires
+node_start_requires c κs = (under_limits c.requires.0).theta
 
-node_words_requires : tie.Need-node-words-requires
-node_words_requires c κs = (under_limits c.before.before.requires.0).theta
+node_words_requires : tie.Need-node_words-requires
+node_words_requires c κs = (under_limits c.requires.0).theta
 
-part_result_end : tie.Need-slice-bounds-result-end
+part_result_end : tie.Need-slice_bounds-result-end
 part_result_end c =
-    let p = c.before.before.before.requires in
+    let p = c.requires in
     let i = node_inside p.0 p.1 in
-    omega (arith, i, c.before.node_start_lem.ensures.0, c.node-words.ensures.0)
+    omega (arith, i, c.node_start-start.ensures.0, c.node_words.ensures.0)
 
 returns : tie.Need-returns
 returns c =
     let q = c.before.before in
-    let p = q.before.before.requires in
-    node_given p.0 p.1 q.node_start_lem.ensures.0 c.before.node-words.ensures.0
+    let p = q.requires in
+    node_given p.0 p.1 q.node_start-start.ensures.0 c.node_words.ensures.0
 
 pub node_at_spec : {M : Type 1} → statement M
 node_at_spec =

@@ -8,5 +8,5 @@ returns : tie.Need-returns
 unfolding node_words
 returns c = search rules
 
-pub node-words-spec : {M : Type 1} → statement M
-node-words-spec = tie.close (tie.spec (λ c κs. search rules) (λ c. search rules) (λ c. search rules) returns)
+pub node_words_spec : {M : Type 1} → statement M
+node_words_spec = tie.close (tie.spec (λ c κs. search rules) (λ c. search rules) (λ c. search rules) returns)

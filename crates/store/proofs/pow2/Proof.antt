@@ -11,5 +11,5 @@ returns c =
     let b = pow_within _ c.args.k 6 e c.requires in
     (e, b.0, b.1)
 
-pub pow2-spec : {M : Type 1} → statement M
-pow2-spec = tie.close (tie.spec (λ c. search rules) returns)
+pub pow2_spec : {M : Type 1} → statement M
+pow2_spec = tie.close (tie.spec (λ c. search rules) returns)

@@ -9,5 +9,5 @@ returns : tie.Need-returns
 unfolding released_of
 returns c = refl
 
-pub released-of-spec : {M : Type 1} → statement M
-released-of-spec = tie.close (tie.spec (λ c. search rules) (λ c. search rules) (λ c. search rules) (λ c. search rules) returns)
+pub released_of_spec : {M : Type 1} → statement M
+released_of_spec = tie.close (tie.spec (λ c. search rules) (λ c. search rules) (λ c. search rules) (λ c. search rules) returns)

@@ -14,5 +14,5 @@ plots Plots = refl
 returns : tie.Need-returns
 returns c = (plots c.args.f, omega arith, omega arith)
 
-pub width-of-spec : {M : Type 1} → statement M
-width-of-spec = tie.close (tie.spec returns)
+pub width_of_spec : {M : Type 1} → statement M
+width_of_spec = tie.close (tie.spec returns)

@@ -15,7 +15,7 @@ returns_2 c =
     let t = k.before in
     let w = t.before in
     crowded_test _ _ _ _ _ w.before.sum.ensures w.word.ensures t.if1.false k.element.ensures
-    c.before.widen.ensures.0 c.end_of_lem.ensures
+    c.before.widen.ensures.0 c.end_of.ensures
 
 pub crowded-spec : {M : Type 1} → statement M
 crowded-spec =

@@ -16,7 +16,7 @@ decreases-loop below most₀ from start depth end most n i₀ i = n - i
 loop_holds : tie.Need-loop-init invariant-loop decreases-loop
 loop_holds c =
     let s = c.before in
-    deep_first _ _ _ _ _ s.before.end_of_lem.ensures s.sum.ensures c.word.ensures
+    deep_first _ _ _ _ _ s.before.end_of.ensures s.sum.ensures c.word.ensures
 
 returns : tie.Need-returns invariant-loop decreases-loop
 returns c =

@@ -4,8 +4,8 @@ use mathlib.Core.Path.{◌≡◌}
 use Prim.Native.Nat.{◌-◌}
 use Rattle.stretches.specs.Stretches.{first_from, from_on}
 use Rattle.stretches.proofs.Laws.{from_first, from_found, from_more, from_out}
-use Rattle.stretches.proofs.from_on_lem.Statement.{statement}
-use Rattle.stretches.proofs.from_on_lem.Tie as tie
+use Rattle.stretches.proofs.from_on.Statement.{statement}
+use Rattle.stretches.proofs.from_on.Tie as tie
 
 abbrev invariant-loop : tie.invariant-loop
 invariant-loop row words from key n i₀ i = first_from row words key i (n - i) ≡ from_on row words from key

@@ -11,7 +11,7 @@ returns c =
     let e = f.before in
     let a = e.before.before.before in
     let d = a.before.before in
-    step_filled _ _ _ _ d.before.low.ensures d.depth-at.ensures a.append.ensures e.end_of_lem.ensures f.from_on_lem.ensures
+    step_filled _ _ _ _ d.before.low.ensures d.depth-at.ensures a.append.ensures e.end_of.ensures f.from_on.ensures
     t.if1.true c.sum.ensures
 
 returns_2 : tie.Need-returns-2
@@ -20,7 +20,7 @@ returns_2 c =
     let e = f.before in
     let a = e.before.before.before in
     let d = a.before.before in
-    step_empty _ _ _ _ d.before.low.ensures d.depth-at.ensures a.append.ensures e.end_of_lem.ensures f.from_on_lem.ensures
+    step_empty _ _ _ _ d.before.low.ensures d.depth-at.ensures a.append.ensures e.end_of.ensures f.from_on.ensures
     c.if1.false
 
 pub step_spec : {M : Type 1} → statement M

@@ -8,7 +8,7 @@ use Rattle.groups.proofs.sets.part.Tie as tie
 returns : tie.Need-returns
 returns c =
     let p = c.before.before.before.before.before in
-    part_own _ _ _ refl p.part_in_lem.ensures
+    part_own _ _ _ refl p.part_in.ensures
 
 pub part-spec : {M : Type 1} → statement M
 part-spec =

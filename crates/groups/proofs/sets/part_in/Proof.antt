@@ -1,8 +1,8 @@
 -- The records are in the first words of the output; the words past them are as they were.
 use borrow.Author.Rules.{rules}
 use Rattle.groups.proofs.SetLaws.{part_not, part_made}
-use Rattle.groups.proofs.sets.part_in_lem.Statement.{statement}
-use Rattle.groups.proofs.sets.part_in_lem.Tie as tie
+use Rattle.groups.proofs.sets.part_in.Statement.{statement}
+use Rattle.groups.proofs.sets.part_in.Tie as tie
 
 returns : tie.Need-returns
 returns c = part_not _ _ _ _ _ c.before.to-index.ensures.0 c.if1.true

@@ -14,7 +14,7 @@ returns_3 : tie.Need-returns-3
 returns_3 c =
     let p = c.before.before in
     let e = p.before in
-    open_done _ _ e.before.if1.false e.if2.false p.word.ensures c.before.sum.ensures c.page_at_lem.ensures.0
+    open_done _ _ e.before.if1.false e.if2.false p.word.ensures c.before.sum.ensures c.page_at.ensures.0
 
 pub open-words-spec : {M : Type 1} → statement M
 open-words-spec =

@@ -4,8 +4,8 @@ use mathlib.Core.Path.{ap, ◌∙◌}
 use Prim.Native.Nat.{◌+◌}
 use Rattle.raw.proofs.Laws.{words_cut}
 use Rattle.raw.specs.Blocks.{node_size, node_block}
-use Rattle.raw.proofs.blocks.node_at_lem.Statement.{statement}
-use Rattle.raw.proofs.blocks.node_at_lem.Tie as tie
+use Rattle.raw.proofs.blocks.node_at.Statement.{statement}
+use Rattle.raw.proofs.blocks.node_at.Tie as tie
 
 returns : tie.Need-returns
 unfolding node_block

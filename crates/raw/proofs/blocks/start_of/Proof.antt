@@ -10,12 +10,12 @@ returns c = (block_head _ _ _ c.if1.true, search rules)
 
 returns_2 : tie.Need-returns-2
 returns_2 c =
-    let n = c.node_at_lem.ensures in
+    let n = c.node_at.ensures in
     (n.0 ∙ block_node _ _ _ c.before.if2.true, n.1)
 
 returns_3 : tie.Need-returns-3
 returns_3 c =
-    let p = c.page_at_lem.ensures in
+    let p = c.page_at.ensures in
     (p.0 ∙ block_page _ _ _ c.before.before.if1.false c.before.if2.false, p.1)
 
 pub start-of-spec : {M : Type 1} → statement M

@@ -8,10 +8,10 @@ returns : tie.Need-returns
 returns c =
     let p = c.before.before.before.before in
     let t = p.before.before.before in
-    below_nodes _ _ _ _ _ t.before.node_word_lem.ensures t.if1.true p.pair-children.ensures
+    below_nodes _ _ _ _ _ t.before.node_word.ensures t.if1.true p.pair-children.ensures
 
 returns_2 : tie.Need-returns-2
-returns_2 c = below_pages _ _ _ _ _ c.before.node_word_lem.ensures c.if1.false
+returns_2 c = below_pages _ _ _ _ _ c.before.node_word.ensures c.if1.false
 
 pub pair-below-spec : {M : Type 1} → statement M
 pair-below-spec =

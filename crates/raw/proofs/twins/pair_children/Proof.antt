@@ -37,7 +37,7 @@ loop_again c =
     let b = w.word.ensures ∙ ap (word a.twins.now) w.before.to-index.ensures.0 in (
       search rules,
       search rules,
-      from_turn _ _ _ _ _ _ _ l.loop.j _ l.loop.invariant.2 t.loop-test.true x.node_at_lem.ensures.0
+      from_turn _ _ _ _ _ _ _ l.loop.j _ l.loop.invariant.2 t.loop-test.true x.node_at.ensures.0
           (y.node-at2.ensures.0 ∙ ap (node_block a.y.now) b) i.pointer.ensures k.pointer2.ensures p.pair.ensures,
     )
 

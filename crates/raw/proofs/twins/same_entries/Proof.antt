@@ -29,7 +29,7 @@ returns c =
     let l = t.before in
     let y = l.before.before.before in
     entries_fail _ _ _ _ _ _ l.loop.j l.before.entries.ensures.0 t.loop-test.true
-    (entry_depth_lem _ _ _ _ _ y.before.node_at_lem.ensures.0 y.node-at2.ensures.0 l.loop.j d.local_depth.ensures
+    (entry_depth_lem _ _ _ _ _ y.before.node_at.ensures.0 y.node-at2.ensures.0 l.loop.j d.local_depth.ensures
     e.local-depth2.ensures c.if1.true)
 
 -- an entry whose pointers are compared
@@ -50,8 +50,8 @@ compared c =
     let l = (call c).before in
     let n = l.before.before in
     let y = n.before in
-    entry_pointer_lem _ _ _ _ _ y.before.node_at_lem.ensures.0 y.node-at2.ensures.0 l.loop.j e.before.local_depth.ensures
-    e.local-depth2.ensures i.if1.false n.node_word_lem.ensures p.pointer.ensures q.pointer2.ensures
+    entry_pointer_lem _ _ _ _ _ y.before.node_at.ensures.0 y.node-at2.ensures.0 l.loop.j e.before.local_depth.ensures
+    e.local-depth2.ensures i.if1.false n.node_word.ensures p.pointer.ensures q.pointer2.ensures
     c.same-pointer.ensures
 
 returns_2 : tie.Need-returns-2 invariant-loop decreases-loop

@@ -1,8 +1,8 @@
 -- The words before the root, then the one after it.
 use borrow.Author.Rules.{rules}
 use Rattle.raw.proofs.TwinLaws.{head_fails, head_rest}
-use Rattle.raw.proofs.twins.same_head_lem.Statement.{statement}
-use Rattle.raw.proofs.twins.same_head_lem.Tie as tie
+use Rattle.raw.proofs.twins.same_head.Statement.{statement}
+use Rattle.raw.proofs.twins.same_head.Tie as tie
 
 returns : tie.Need-returns
 returns c = head_fails _ _ c.before.same.ensures c.if1.true

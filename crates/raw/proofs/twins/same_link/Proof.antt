@@ -10,7 +10,7 @@ returns c =
     let q = c.before in
     let p = q.before in
     let a = p.before.before.before.before.args in
-    c.same-twin.ensures ∙ ap₂ (twin a.twins.now) p.node_word_lem.ensures q.node-word2.ensures
+    c.same-twin.ensures ∙ ap₂ (twin a.twins.now) p.node_word.ensures q.node-word2.ensures
 
 pub same-link-spec : {M : Type 1} → statement M
 same-link-spec = tie.close (tie.spec (λ c κs. search rules) (λ c κs. search rules) (λ c κs. search rules) returns)

@@ -13,7 +13,7 @@ returns_2 c =
     let l = m.before in
     let z = l.before in
     let w = z.before in
-    node_level _ _ _ _ w.before.to-index.ensures.0 w.word.ensures z.if1.false l.node_word_lem.ensures
+    node_level _ _ _ _ w.before.to-index.ensures.0 w.word.ensures z.if1.false l.node_word.ensures
     m.node-word2.ensures c.if2.true
 
 returns_3 : tie.Need-returns-3
@@ -25,7 +25,7 @@ returns_3 c =
     let l = m.before in
     let z = l.before in
     let w = z.before in
-    node_depth _ _ _ _ w.before.to-index.ensures.0 w.word.ensures z.if1.false l.node_word_lem.ensures
+    node_depth _ _ _ _ w.before.to-index.ensures.0 w.word.ensures z.if1.false l.node_word.ensures
     m.node-word2.ensures n.if2.false d.node-word3.ensures e.node-word4.ensures c.if3.true
 
 returns_4 : tie.Need-returns-4
@@ -39,7 +39,7 @@ returns_4 c =
     let l = m.before in
     let z = l.before in
     let w = z.before in
-    node_back _ _ _ _ w.before.to-index.ensures.0 w.word.ensures z.if1.false l.node_word_lem.ensures
+    node_back _ _ _ _ w.before.to-index.ensures.0 w.word.ensures z.if1.false l.node_word.ensures
     m.node-word2.ensures n.if2.false d.node-word3.ensures e.node-word4.ensures f.if3.false
     r.same-link.ensures c.if4.true
 
@@ -56,7 +56,7 @@ returns_5 c =
     let l = m.before in
     let z = l.before in
     let w = z.before in
-    node_forward _ _ _ _ w.before.to-index.ensures.0 w.word.ensures z.if1.false l.node_word_lem.ensures
+    node_forward _ _ _ _ w.before.to-index.ensures.0 w.word.ensures z.if1.false l.node_word.ensures
     m.node-word2.ensures n.if2.false d.node-word3.ensures e.node-word4.ensures f.if3.false
     r.same-link.ensures g.if4.false s.same-link2.ensures c.if5.true
 
@@ -74,7 +74,7 @@ returns_6 c =
     let l = m.before in
     let z = l.before in
     let w = z.before in
-    node_entries _ _ _ _ w.before.to-index.ensures.0 w.word.ensures z.if1.false l.node_word_lem.ensures
+    node_entries _ _ _ _ w.before.to-index.ensures.0 w.word.ensures z.if1.false l.node_word.ensures
     m.node-word2.ensures n.if2.false d.node-word3.ensures e.node-word4.ensures f.if3.false
     r.same-link.ensures g.if4.false s.same-link2.ensures h.if5.false c.same_entries.ensures
 

@@ -11,7 +11,7 @@ returns c =
     let w = t.before in
     let q = w.before in
     let n = t.to-index.ensures.0 ∙ w.page-words.ensures.0 in
-    c.same.ensures ∙ page_same _ _ _ _ q.before.page_at_lem.ensures.0 q.page-at2.ensures.0 n
+    c.same.ensures ∙ page_same _ _ _ _ q.before.page_at.ensures.0 q.page-at2.ensures.0 n
 
 pub same-page-spec : {M : Type 1} → statement M
 same-page-spec =

@@ -11,7 +11,7 @@ returns : tie.Need-returns
 returns c =
     let t = c.before in
     let l = eq-eqb _ _ t.before.before.if1.true in
-    c.same_page_lem.ensures ∙ pointer_page _ _ _ _ _ _ l t.before.if2.true t.if3.true
+    c.same_page.ensures ∙ pointer_page _ _ _ _ _ _ l t.before.if2.true t.if3.true
 
 returns_2 : tie.Need-returns-2
 returns_2 c =

@@ -18,7 +18,7 @@ returns_2 c =
     let q = e.before in
     let w = q.before in
     let p = w.before.before.before.before in
-    tree_head _ _ p.pair-all.ensures.0 w.word.ensures q.apart.ensures e.if1.false h.same_head_lem.ensures c.if2.true
+    tree_head _ _ p.pair-all.ensures.0 w.word.ensures q.apart.ensures e.if1.false h.same_head.ensures c.if2.true
 
 returns_3 : tie.Need-returns-3
 returns_3 c =
@@ -28,7 +28,7 @@ returns_3 c =
     let q = e.before in
     let w = q.before in
     let p = w.before.before.before.before in
-    tree_nodes _ _ p.pair-all.ensures.0 w.word.ensures q.apart.ensures e.if1.false h.same_head_lem.ensures f.if2.false
+    tree_nodes _ _ p.pair-all.ensures.0 w.word.ensures q.apart.ensures e.if1.false h.same_head.ensures f.if2.false
     c.same_nodes.ensures
 
 pub same-tree-spec : {M : Type 1} → statement M
