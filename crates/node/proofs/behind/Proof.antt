@@ -8,5 +8,5 @@ returns : tie.Need-returns
 unfolding behind_of
 returns c = search rules
 
-pub behind-spec : {M : Type 1} → statement M
-behind-spec = tie.close (tie.spec (λ c κs. search rules) returns)
+pub behind_spec : {M : Type 1} → statement M
+behind_spec = tie.close (tie.spec (λ c κs. search rules) returns)

@@ -6,7 +6,7 @@ use Rattle.node.proofs.outside.Tie as tie
 
 returns : tie.Need-returns
 unfolding outside_of
-returns c = rw (c.before.before.behind.ensures, c.before.behind2.ensures, c.behind3.ensures)
+returns c = rw (c.behind.ensures, c.behind-2.ensures, c.behind-3.ensures)
 
-pub outside-spec : {M : Type 1} → statement M
-outside-spec = tie.close (tie.spec (λ c κs. search rules) (λ c κs. search rules) (λ c κs. search rules) returns)
+pub outside_spec : {M : Type 1} → statement M
+outside_spec = tie.close (tie.spec (λ c κs. search rules) (λ c κs. search rules) (λ c κs. search rules) returns)
