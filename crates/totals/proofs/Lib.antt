@@ -1,4 +1,3 @@
 pub mod Laws
 pub mod Earliest
-pub mod Lent
 pub mod Promises

@@ -69,7 +69,7 @@ returns_5 c =
     let d = depth v in
     let p = (entry d).requires in
     node_rule_is _ _ _ _ _ true true true true _ refl (sym (le-leb _ _ d.if-depth-head.false)) (sym (eq-eqb _ _ v.if-node-level.false))
-    (sym (passed l.links_ok.ensures l.if-not-links_ok.false)) (sym (passed (runs_are g.before) g.if-not-runs_ok.false-raw))
+    (sym (passed l.links_ok.ensures l.if-not-links_ok.false-raw)) (sym (passed (runs_are g.before) g.if-not-runs_ok.false-raw))
     (block_rest _ _ p.3 d.if-depth-head.false c.pow2.ensures.0 c.is_zero.ensures)
 
 pub node_ok_spec : {M : Type 1} → statement M

@@ -22,41 +22,41 @@ seen :
     above strict k (key_at f pg i) ≡ b
 seen f pg strict k i e h t = sym (ap (λ (x : Item). above strict k x.key) e) ∙ sym h ∙ t
 
-abbrev invariant-loop : tie.invariant-loop
+abbrev invariant-loop : tie.invariant-loop-left
 invariant-loop page f strict key from₀ left₀ from left = Halving f page strict key from left
 
-abbrev decreases-loop : tie.decreases-loop
+abbrev decreases-loop : tie.decreases-loop-left
 decreases-loop page f strict key from₀ left₀ from left = left
 
-loop_holds : tie.Need-loop-init invariant-loop decreases-loop
-loop_holds c = halving_starts _ _ _ _ c.count_of.ensures.0
+loop_holds : tie.Need-loop-left-init invariant-loop decreases-loop
+loop_holds c = halving_starts _ _ _ _ c.count_of-left.ensures.0
 
 -- the number in the middle
-middle : (c : tie.In-loop invariant-loop decreases-loop)
-    → c.before.loop.from + c.before.loop.left / 2 < count c.before.before.before.before.args.page.now
-middle c = omega (arith, c.before.loop.invariant.within)
+middle : (c : tie.In-loop-left invariant-loop decreases-loop)
+    → c.loop-left.from + c.loop-left.left / 2 < count c.args.page.now
+middle c = omega (arith, c.loop-left.invariant.within)
 
-read_one_requires : tie.Need-read-one-requires invariant-loop decreases-loop
+read_one_requires : tie.Need-read_one-item-requires invariant-loop decreases-loop
 read_one_requires c κs =
-    (omega (arith, middle c, c.before.before.count_of.ensures), record_inside c.before.before.before.before.requires (middle c))
+    (omega (arith, middle c, c.count_of-left.ensures), record_inside c.requires (middle c))
 
-loop_again : tie.Need-loop-preserved invariant-loop decreases-loop
+loop_again : tie.Need-loop-left-preserved-then-is_above invariant-loop decreases-loop
 loop_again c =
-    lower_half _ _ _ _ c.before.before.before.before.before.before.before.requires _ _ _ (omega arith)
-    c.before.before.before.before.loop.invariant
-    (seen _ _ _ _ _ c.before.before.read_one.ensures c.before.is-above.ensures c.if1.true)
+    lower_half _ _ _ _ c.requires _ _ _ (omega arith)
+    c.loop-left.invariant
+    (seen _ _ _ _ _ c.read_one-item.ensures c.is_above.ensures c.if-is_above.true)
 
-loop_again_2 : tie.Need-loop-preserved-2 invariant-loop decreases-loop
+loop_again_2 : tie.Need-loop-left-preserved invariant-loop decreases-loop
 loop_again_2 c =
-    upper_half _ _ _ _ c.before.before.before.before.before.before.before.requires _ _ _ (omega arith)
-    c.before.before.before.before.loop.invariant
-    (seen _ _ _ _ _ c.before.before.read_one.ensures c.before.is-above.ensures c.if1.false)
+    upper_half _ _ _ _ c.requires _ _ _ (omega arith)
+    c.loop-left.invariant
+    (seen _ _ _ _ _ c.read_one-item.ensures c.is_above.ensures c.if-is_above.false)
 
 returns : tie.Need-returns invariant-loop decreases-loop
-returns c = (halving_ends _ _ _ _ _ _ (omega arith) c.before.loop.invariant, omega (arith, c.before.loop.invariant.within))
+returns c = (halving_ends _ _ _ _ _ _ (omega arith) c.loop-left.invariant, omega (arith, c.loop-left.invariant.within))
 
-pub first-above-spec : {M : Type 1} → statement M
-first-above-spec =
+pub first_above_spec : {M : Type 1} → statement M
+first_above_spec =
     tie.close
     (tie.spec invariant-loop decreases-loop (λ c κs. search rules) loop_holds (λ c. search rules) read_one_requires (λ c κs. search rules)
     (λ c. search rules) loop_again (λ c. search rules) (λ c. search rules) (λ c. search rules) (λ c. search rules) (λ c. search rules)

@@ -8,5 +8,5 @@ returns : tie.Need-returns
 unfolding goes_on
 returns c = refl
 
-pub goes-on-spec : {M : Type 1} → statement M
-goes-on-spec = tie.close (tie.spec returns)
+pub goes_on_spec : {M : Type 1} → statement M
+goes_on_spec = tie.close (tie.spec returns)

@@ -11,7 +11,7 @@ both d e = rw (d, e)
 
 returns : tie.Need-returns
 unfolding in_turn
-returns c = both c.before.lawful-item.ensures c.key_below.ensures
+returns c = both c.lawful_item.ensures c.key_below.ensures
 
-pub in-turn-spec : {M : Type 1} → statement M
-in-turn-spec = tie.close (tie.spec (λ c κs. search rules) (λ c κs. search rules) returns)
+pub in_turn_spec : {M : Type 1} → statement M
+in_turn_spec = tie.close (tie.spec (λ c κs. search rules) (λ c κs. search rules) returns)

@@ -3,13 +3,13 @@ use Rattle.page.specs.Page.{above}
 use Rattle.page.proofs.is_above.Statement.{statement}
 use Rattle.page.proofs.is_above.Tie as tie
 
-returns : tie.Need-returns
+returns : tie.Need-returns-then-strict
 unfolding above
-returns c = rw c.if1.true
+returns c = rw c.if-strict.true
 
-returns_2 : tie.Need-returns-2
+returns_2 : tie.Need-returns
 unfolding above
-returns_2 c = rw c.if1.false
+returns_2 c = rw c.if-strict.false
 
-pub is-above-spec : {M : Type 1} → statement M
-is-above-spec = tie.close (tie.spec returns returns_2)
+pub is_above_spec : {M : Type 1} → statement M
+is_above_spec = tie.close (tie.spec returns returns_2)

@@ -32,25 +32,25 @@ last_word f i n h = omega (arith, rw (plot_words f) at h)
 long : (c : tie.Start) → 4 * c.args.i + 4 < length c.args.page.now
 long c = last_word c.args.f c.args.i (length c.args.page.now) c.requires.1
 
-shared_slice_read_widen : tie.Need-shared-slice-read-widen
+shared_slice_read_widen : tie.Need-bounds-page-i
 shared_slice_read_widen c = omega (arith, long c.before.before)
 
-shared_slice_read_t15 : tie.Need-shared-slice-read-t15
+shared_slice_read_t15 : tie.Need-bounds-page-i-2
 shared_slice_read_t15 c = omega (arith, long c.before.before.before.before)
 
-shared_slice_read_t20 : tie.Need-shared-slice-read-t20
+shared_slice_read_t20 : tie.Need-bounds-page-i-3
 shared_slice_read_t20 c = omega (arith, long c.before.before.before.before.before)
 
-shared_slice_read_t25 : tie.Need-shared-slice-read-t25
+shared_slice_read_t25 : tie.Need-bounds-page-i-4
 shared_slice_read_t25 c = omega (arith, long c.before.before.before.before.before.before)
 
 returns : tie.Need-returns
 returns c =
-    let w = c.before.before.before.widen in
-    plots c.before.before.before.before.before.before.args.f _ _ w.ensures.0 refl refl refl w.ensures.1
+    let w = c.widen in
+    plots c.args.f _ _ w.ensures.0 refl refl refl w.ensures.1
 
-pub item-at-spec : {M : Type 1} → statement M
-item-at-spec =
+pub item_at_spec : {M : Type 1} → statement M
+item_at_spec =
     tie.close
     (tie.spec (λ c. search rules) (λ c. search rules) (λ c. search rules) shared_slice_read_widen (λ c κs. search rules)
     (λ c. search rules) (λ c. search rules) (λ c. search rules) shared_slice_read_t15 (λ c. search rules) (λ c. search rules)

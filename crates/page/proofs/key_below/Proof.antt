@@ -19,7 +19,7 @@ below d e = rw (d, e)
 returns : tie.Need-returns
 returns c =
     let s = c.before.before in
-    below (low_is s.args.f s.requires.0 c.before.low_word.ensures) (low_is s.args.f s.requires.1 c.low-word2.ensures)
+    below (low_is s.args.f s.requires.0 c.low_word.ensures) (low_is s.args.f s.requires.1 c.low_word-2.ensures)
 
-pub key-below-spec : {M : Type 1} → statement M
-key-below-spec = tie.close (tie.spec (λ c κs. search rules) (λ c κs. search rules) returns)
+pub key_below_spec : {M : Type 1} → statement M
+key_below_spec = tie.close (tie.spec (λ c κs. search rules) (λ c κs. search rules) returns)

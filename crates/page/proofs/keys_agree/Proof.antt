@@ -49,40 +49,40 @@ module _ (f : Format) (pg : List ℕ) (k used : ℕ) (some : 1 ≤ count pg) (h 
         (λ e. agreed (sym seen ∙ a) (sym b ∙ eqb-true last sought e))
         (λ e. eq-eqb last sought (b ∙ must e (n - 1) (omega (arith, some))))
 
-read_one_requires : tie.Need-read-one-requires
+read_one_requires : tie.Need-read_one-first-requires
 read_one_requires c κs =
-    let p = c.before.before.before.before.requires in
+    let p = c.requires in
     (search rules, record_inside {i = 0} p.2 (omega (arith, p.1)))
 
-returns : tie.Need-returns
+returns : tie.Need-returns-then-prefix-sought
 returns c =
     let w = c.before.before.before.before in
     let s = w.before.before.before in
-    differs _ _ _ _ s.requires.1 s.requires.2 w.before.count_of.ensures.0 (ap (λ (x : ℕ). x - s.args.used) w.width_of.ensures.0)
-    c.before.before.before.prefix.ensures c.before.before.read_one.ensures c.before.prefix2.ensures c.if1.true
+    differs _ _ _ _ s.requires.1 s.requires.2 w.count_of-n.ensures.0 (ap (λ (x : ℕ). x - s.args.used) w.width_of.ensures.0)
+    c.prefix-sought.ensures c.read_one-first.ensures c.prefix.ensures c.if-prefix-sought.true
 
-sub_read_one : tie.Need-overflow-sub-read-one
+sub_read_one : tie.Need-overflow_sub-n
 sub_read_one c =
     let n = c.before.before.before.before.before in
-    omega (arith, n.before.before.requires.1, n.count_of.ensures.0)
+    omega (arith, n.requires.1, n.count_of-n.ensures.0)
 
-read_one_requires_2 : tie.Need-read-one-requires-2
+read_one_requires_2 : tie.Need-read_one-last-requires
 read_one_requires_2 c κs =
     let n = c.before.before.before.before.before in
-    let p = n.before.before.requires in
-    (omega (arith, n.count_of.ensures.1), record_inside p.2 (omega (arith, p.1, n.count_of.ensures.0)))
+    let p = n.requires in
+    (omega (arith, n.count_of-n.ensures.1), record_inside p.2 (omega (arith, p.1, n.count_of-n.ensures.0)))
 
-returns_2 : tie.Need-returns-2
+returns_2 : tie.Need-returns
 returns_2 c =
     let i = c.before.before in
     let w = i.before.before.before.before in
     let s = w.before.before.before in
-    decides _ _ _ _ s.requires.1 s.requires.2 w.before.count_of.ensures.0 (ap (λ (x : ℕ). x - s.args.used) w.width_of.ensures.0)
-    i.before.before.before.prefix.ensures i.before.before.read_one.ensures i.before.prefix2.ensures i.if1.false
-    c.before.read-one2.ensures c.prefix3.ensures
+    decides _ _ _ _ s.requires.1 s.requires.2 w.count_of-n.ensures.0 (ap (λ (x : ℕ). x - s.args.used) w.width_of.ensures.0)
+    i.prefix-sought.ensures i.read_one-first.ensures i.prefix.ensures i.if-prefix-sought.false
+    c.read_one-last.ensures c.prefix-2.ensures
 
-pub keys-agree-spec : {M : Type 1} → statement M
-keys-agree-spec =
+pub keys_agree_spec : {M : Type 1} → statement M
+keys_agree_spec =
     tie.close
     (tie.spec (λ c κs. search rules) (λ c κs. search rules) (λ c. search rules) (λ c κs. search rules) read_one_requires
     (λ c κs. search rules) returns sub_read_one read_one_requires_2 (λ c κs. search rules) returns_2)

@@ -14,11 +14,11 @@ plots : (f : Format) (it : Item) → lawful (plot_of it) ≡ lawful_item f it
 unfolding lawful_item
 plots Plots it = refl
 
-cast_t4 : tie.Need-overflow-cast-t4
-cast_t4 c = record { fits = plot_key c.before.args.f _ c.before.requires }
+cast_t4 : tie.Need-overflow_cast-item
+cast_t4 c = record { fits = plot_key c.args.f _ c.requires }
 
 returns : tie.Need-returns
-returns c = c.lawful_record.ensures ∙ plots c.before.before.args.f c.before.before.args.item
+returns c = c.lawful_record.ensures ∙ plots c.args.f c.args.item
 
-pub lawful-item-spec : {M : Type 1} → statement M
-lawful-item-spec = tie.close (tie.spec cast_t4 (λ c κs. search rules) returns)
+pub lawful_item_spec : {M : Type 1} → statement M
+lawful_item_spec = tie.close (tie.spec cast_t4 (λ c κs. search rules) returns)

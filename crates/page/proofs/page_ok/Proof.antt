@@ -48,65 +48,65 @@ module _ (f : Format) (C : ℕ) (pg : List ℕ) where
           ∙ ap (zeros pg (1 + words f * n)) behind
           ∙ sym (rw en (rule_rest f C pg (omega (arith, en)) (omega (arith, en, ec)) (rw en at o)))
 
-returns : tie.Need-returns
+returns : tie.Need-returns-then-n-lt1
 returns c = broken _ _ _ (λ h. omega (arith, h.some))
 
-returns_2 : tie.Need-returns-2
+returns_2 : tie.Need-returns-then-n-c
 returns_2 c = broken _ _ _ (λ h. omega (arith, h.fits))
 
 -- the records are in the page
-inside : (c : tie.Else2)
-    → let a = c.before.before.before.before.before.args in
-    words a.f * c.before.before.before.count_of.result < length a.page.now
+inside : (c : tie.Else-n-c)
+    → let a = c.args in
+    words a.f * c.count_of-n.result < length a.page.now
 inside c =
     let n = c.before.before.before in
     let s = n.before.before in
-    room _ _ s.args.page.now n.count_of.ensures.0 s.requires.1 c.before.before.to-index.ensures.0 (omega arith) (omega arith)
+    room _ _ s.args.page.now n.count_of-n.ensures.0 s.requires.1 c.to_index-c.ensures.0 (omega arith) (omega arith)
 
-in_order_requires : tie.Need-in-order-requires
+in_order_requires : tie.Need-in_order-requires
 in_order_requires c κs = (search rules, inside c)
 
-returns_3 : tie.Need-returns-3
+returns_3 : tie.Need-returns-then-not-in_order
 returns_3 c =
-    disordered _ _ _ c.before.before.before.before.before.count_of.ensures.0
-    (failed c.before.in_order.ensures c.if3.true)
+    disordered _ _ _ c.count_of-n.ensures.0
+    (failed c.in_order.ensures c.if-not-in_order.true-raw)
 
 -- their words end in it
-ends : (c : tie.After-words-of)
+ends : (c : tie.After-words_of)
     → let t = c.before.before.before.before.before in
-    c.words_of.result * t.before.count_of.result < length t.before.before.before.args.page.now
+    c.words_of.result * t.count_of-n.result < length t.args.page.now
 ends c = rw c.words_of.ensures.0 (inside c.before.before.before)
 
-mul_end : tie.Need-overflow-mul-end
+mul_end : tie.Need-overflow_mul-end
 mul_end c = let r = ends c in search rules
 
-add_end : tie.Need-overflow-add-end
+add_end : tie.Need-overflow_add-end
 add_end c = let r = ends c in search rules
 
-mul_is_zero : tie.Need-overflow-mul-is-zero
+mul_is_zero : tie.Need-offset_bounds-page-end
 mul_is_zero c = let r = ends c in search rules
 
-sub_is_zero : tie.Need-overflow-sub-is-zero
+sub_is_zero : tie.Need-slice_bounds-is_zero-count
 sub_is_zero c = let r = ends c in search rules
 
-part_is_zero_start : tie.Need-slice-bounds-is-zero-start
+part_is_zero_start : tie.Need-slice_bounds-is_zero-start
 part_is_zero_start c = let r = ends c in search rules
 
-part_is_zero_end : tie.Need-slice-bounds-is-zero-end
+part_is_zero_end : tie.Need-slice_bounds-is_zero-end
 part_is_zero_end c = let r = ends c in search rules
 
-returns_4 : tie.Need-returns-4
+returns_4 : tie.Need-returns
 returns_4 c =
     let t = c.before.before.before.before in
     let n = t.before.before.before.before in
-    blanks _ _ _ n.count_of.ensures.0 n.before.before.requires.1 t.before.before.before.to-index.ensures.0
+    blanks _ _ _ n.count_of-n.ensures.0 n.requires.1 t.to_index-c.ensures.0
     (omega arith) (omega arith)
-    c.before.before.words_of.ensures.0
-    (passed t.in_order.ensures c.before.before.before.if3.false)
+    c.words_of.ensures.0
+    (passed t.in_order.ensures c.if-not-in_order.false-raw)
     c.is_zero.ensures
 
-pub page-ok-spec : {M : Type 1} → statement M
-page-ok-spec =
+pub page_ok_spec : {M : Type 1} → statement M
+page_ok_spec =
     tie.close
     (tie.spec (λ c κs. search rules) (λ c κs. search rules) returns returns_2 in_order_requires returns_3 (λ c κs. search rules)
     mul_end add_end mul_is_zero sub_is_zero part_is_zero_start part_is_zero_end (λ c κs. search rules) returns_4)

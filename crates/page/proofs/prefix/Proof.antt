@@ -7,8 +7,8 @@ use lib.Pow.{pow_mono}
 use Rattle.page.proofs.prefix.Statement.{statement}
 use Rattle.page.proofs.prefix.Tie as tie
 
-returns : tie.Need-returns
-returns c = sym (div-eq_of_lt (omega (arith, pow_mono c.if1.true)))
+returns : tie.Need-returns-then-low-ge64
+returns c = sym (div-eq_of_lt (omega (arith, pow_mono c.if-low-ge64.true)))
 
-pub prefix-spec : {M : Type 1} → statement M
-prefix-spec = tie.close (tie.spec returns (λ c. search rules) (λ c. search rules))
+pub prefix_spec : {M : Type 1} → statement M
+prefix_spec = tie.close (tie.spec returns (λ c. search rules) (λ c. search rules))

@@ -8,5 +8,5 @@ returns : tie.Need-returns
 unfolding ahead
 returns c = refl
 
-pub is-ahead-spec : {M : Type 1} → statement M
-is-ahead-spec = tie.close (tie.spec returns)
+pub is_ahead_spec : {M : Type 1} → statement M
+is_ahead_spec = tie.close (tie.spec returns)

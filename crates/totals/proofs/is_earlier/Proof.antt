@@ -6,7 +6,7 @@ use Rattle.totals.proofs.is_earlier.Tie as tie
 
 returns : tie.Need-returns
 unfolding earlier
-returns c = rw c.is-ahead.ensures
+returns c = rw c.is_ahead.ensures
 
-pub is-earlier-spec : {M : Type 1} → statement M
-is-earlier-spec = tie.close (tie.spec (λ c κs. search rules) returns)
+pub is_earlier_spec : {M : Type 1} → statement M
+is_earlier_spec = tie.close (tie.spec (λ c κs. search rules) returns)

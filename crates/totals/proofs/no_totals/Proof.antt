@@ -8,5 +8,5 @@ returns : tie.Need-returns
 unfolding no_totals
 returns c = refl
 
-pub no-totals-spec : {M : Type 1} → statement M
-no-totals-spec = tie.close (tie.spec returns)
+pub no_totals_spec : {M : Type 1} → statement M
+no_totals_spec = tie.close (tie.spec returns)

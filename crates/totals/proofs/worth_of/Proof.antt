@@ -8,9 +8,9 @@ use Rattle.totals.proofs.worth_of.Tie as tie
 returns : tie.Need-returns
 returns c =
     let b = c.before.before in (
-      c.widen.ensures.0 ∙ c.before.amount-left.ensures ∙ sym (worth_lawful b.args.item b.args.today b.requires.0 b.requires.1),
+      c.widen.ensures.0 ∙ c.amount_left.ensures ∙ sym (worth_lawful b.args.item b.args.today b.requires.0 b.requires.1),
       search rules,
     )
 
-pub worth-of-spec : {M : Type 1} → statement M
-worth-of-spec = tie.close (tie.spec (λ c κs. search rules) (λ c κs. search rules) returns)
+pub worth_of_spec : {M : Type 1} → statement M
+worth_of_spec = tie.close (tie.spec (λ c κs. search rules) (λ c κs. search rules) returns)
