@@ -11,20 +11,20 @@ use Rattle.search.proofs.find.Statement.{statement}
 use Rattle.search.proofs.find.Tie as tie
 
 -- the head rule holds
-ruled : (c : tie.Else1) → let a = c.before.before.before.args in head_rule a.f a.store.now ≡ true
-ruled c = passed c.before.head_ok.ensures c.if1.false
+ruled : (c : tie.Else-not-head_ok) → let a = c.args in head_rule a.f a.store.now ≡ true
+ruled c = passed c.head_ok.ensures c.if-not-head_ok.false-raw
 
-returns : tie.Need-returns
+returns : tie.Need-returns-then-not-head_ok
 unfolding find_reply
-returns c = broken _ _ _ (failed c.before.head_ok.ensures c.if1.true)
+returns c = broken _ _ _ (failed c.head_ok.ensures c.if-not-head_ok.true-raw)
 
-find_under_requires : tie.Need-find-under-requires
+find_under_requires : tie.Need-find_under-requires
 find_under_requires c κs = record { rule = ruled c.before; head = c.head_of.ensures }
 
-returns_2 : tie.Need-returns-2
+returns_2 : tie.Need-returns
 unfolding find_reply
 returns_2 c =
-    c.answer-of.ensures ∙ ap sought_reply (rw c.before.before.head_of.ensures at c.before.find-under.ensures)
+    c.answer_of.ensures ∙ ap sought_reply (rw c.head_of.ensures at c.find_under.ensures)
     ∙ answered _ _ _ (ruled c.before.before.before)
 
 pub find_spec : {M : Type 1} → statement M

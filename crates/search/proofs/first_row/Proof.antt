@@ -8,5 +8,5 @@ returns : tie.Need-returns
 unfolding first_row
 returns c = refl
 
-pub first-row-spec : {M : Type 1} → statement M
-first-row-spec = tie.close (tie.spec returns)
+pub first_row_spec : {M : Type 1} → statement M
+first_row_spec = tie.close (tie.spec returns)

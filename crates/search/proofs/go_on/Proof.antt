@@ -12,42 +12,42 @@ use Rattle.search.proofs.go_on.Statement.{statement}
 use Rattle.search.proofs.go_on.Tie as tie
 
 -- the link that is read is the node's
-link : (c : tie.After-node-at)
-    → let a = c.before.before.args in get_or c.node_at.result.now 3 0 ≡ forward_word a.store.now (node_start a.head a.n)
-link c = let p = c.before.before.requires in forward_is p.0 p.1 c.node_at.ensures
+link : (c : tie.After-node_at-node)
+    → let a = c.args in get_or c.node_at-node.result.now 3 0 ≡ forward_word a.store.now (node_start a.head a.n)
+link c = let p = c.requires in forward_is p.0 p.1 c.node_at-node.ensures
 
-node_at_requires : tie.Need-node-at-requires
-node_at_requires c κs = (c.before.requires.0, c.before.requires.1.in_use)
+node_at_requires : tie.Need-node_at-node-requires
+node_at_requires c κs = (c.requires.0, c.requires.1.in_use)
 
-shared_slice_read_m : tie.Need-shared-slice-read-m
+shared_slice_read_m : tie.Need-bounds-node-3
 shared_slice_read_m c =
-    let p = c.before.before.before.requires in omega (arith, block_words p.0 p.1.in_use c.before.node_at.ensures)
+    let p = c.requires in omega (arith, block_words p.0 p.1.in_use c.node_at-node.ensures)
 
-returns : tie.Need-returns
-returns c = onward_none _ _ _ _ (link c.before.before) c.if1.true
+returns : tie.Need-returns-then-m-eq0
+returns c = onward_none _ _ _ _ (link c.before.before) c.if-m-eq0.true
 
-returns_2 : tie.Need-returns-2
-returns_2 c = onward_spent _ _ _ _ (link c.before.before.before) c.before.if1.false c.if2.true
+returns_2 : tie.Need-returns-then-left-eq0
+returns_2 c = onward_spent _ _ _ _ (link c.before.before.before) c.if-m-eq0.false c.if-left-eq0.true
 
-is_linked_requires : tie.Need-is-linked-requires
+is_linked_requires : tie.Need-is_linked-requires
 is_linked_requires c κs =
     let p = c.before.before.before in
-    let r = p.before.before.requires in (
+    let r = p.requires in (
       r.0,
-      forward_taken r.0 r.1 p.node_at.ensures c.before.if1.false,
-      λ q. onward_linked _ _ _ _ (link p) c.before.if1.false c.if2.false (r.2 q),
+      forward_taken r.0 r.1 p.node_at-node.ensures c.if-m-eq0.false,
+      λ q. onward_linked _ _ _ _ (link p) c.if-m-eq0.false c.if-left-eq0.false (r.2 q),
     )
 
-returns_3 : tie.Need-returns-3
+returns_3 : tie.Need-returns-then-not-is_linked
 returns_3 c =
-    onward_broken _ _ _ _ (link c.before.before.before.before.before) c.before.before.before.if1.false
-    c.before.before.if2.false (failed c.before.is_linked.ensures c.if3.true)
+    onward_broken _ _ _ _ (link c.before.before.before.before.before) c.if-m-eq0.false
+    c.if-left-eq0.false (failed c.is_linked.ensures c.if-not-is_linked.true-raw)
 
-returns_4 : tie.Need-returns-4
+returns_4 : tie.Need-returns
 returns_4 c =
-    onward_goes _ _ _ _ (link c.before.before.before.before.before) c.before.before.before.if1.false
-    c.before.before.if2.false (passed c.before.is_linked.ensures c.if3.false)
+    onward_goes _ _ _ _ (link c.before.before.before.before.before) c.if-m-eq0.false
+    c.if-left-eq0.false (passed c.is_linked.ensures c.if-not-is_linked.false-raw)
 
-pub go-on-spec : {M : Type 1} → statement M
-go-on-spec =
+pub go_on_spec : {M : Type 1} → statement M
+go_on_spec =
     tie.close (tie.spec node_at_requires shared_slice_read_m returns returns_2 is_linked_requires returns_3 returns_4)

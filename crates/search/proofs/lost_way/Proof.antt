@@ -8,5 +8,5 @@ returns : tie.Need-returns
 unfolding lost no_steps
 returns c = refl
 
-pub lost-way-spec : {M : Type 1} → statement M
-lost-way-spec = tie.close (tie.spec returns)
+pub lost_way_spec : {M : Type 1} → statement M
+lost_way_spec = tie.close (tie.spec returns)

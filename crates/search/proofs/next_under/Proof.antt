@@ -9,26 +9,26 @@ use Rattle.search.proofs.next_under.Statement.{statement}
 use Rattle.search.proofs.next_under.Tie as tie
 
 -- the span is that from the root
-span : (c : tie.After-span-at)
-    → let a = c.before.before.before.args in
-    c.span-at.result ≡ span_of a.f a.store.now a.head a.strict a.key
-span c = c.span-at.ensures ∙ ap (span_at _ _ _ _ _) c.before.terminal-of.ensures
+span : (c : tie.After-span_at-r)
+    → let a = c.args in
+    c.span_at-r.result ≡ span_of a.f a.store.now a.head a.strict a.key
+span c = c.span_at-r.ensures ∙ ap (span_at _ _ _ _ _) c.terminal_of-t.ensures
 
-terminal_of_requires : tie.Need-terminal-of-requires
-terminal_of_requires c κs = (c.before.requires, λ q. absurd (false≢true (sym q)))
+terminal_of_requires : tie.Need-terminal_of-t-requires
+terminal_of_requires c κs = (c.requires, λ q. absurd (false≢true (sym q)))
 
-span_at_requires : tie.Need-span-at-requires
+span_at_requires : tie.Need-span_at-r-requires
 span_at_requires c κs =
-    (c.before.before.requires, c.terminal-of.ensures, λ q. absurd (false≢true (sym q)))
+    (c.requires, c.terminal_of-t.ensures, λ q. absurd (false≢true (sym q)))
 
-sought_of_requires : tie.Need-sought-of-requires
-sought_of_requires c κs = row_asked c.before.before.before.requires _ _ (span c)
+sought_of_requires : tie.Need-sought_of-requires
+sought_of_requires c κs = row_asked c.requires _ _ (span c)
 
 returns : tie.Need-returns
 returns c =
-    let u = c.before.before.before.before.requires in
-    c.sought-of.ensures ∙ ap (sought_of _ _ _) (span c.before)
+    let u = c.requires in
+    c.sought_of.ensures ∙ ap (sought_of _ _ _) (span c.before)
     ∙ sym (next_span _ _ _ _ _ (under_levels u).0 (under_levels u).1)
 
-pub next-under-spec : {M : Type 1} → statement M
-next-under-spec = tie.close (tie.spec terminal_of_requires span_at_requires sought_of_requires returns)
+pub next_under_spec : {M : Type 1} → statement M
+next_under_spec = tie.close (tie.spec terminal_of_requires span_at_requires sought_of_requires returns)

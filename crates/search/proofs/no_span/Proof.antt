@@ -8,5 +8,5 @@ returns : tie.Need-returns
 unfolding no_span
 returns c = refl
 
-pub no-span-spec : {M : Type 1} → statement M
-no-span-spec = tie.close (tie.spec returns)
+pub no_span_spec : {M : Type 1} → statement M
+no_span_spec = tie.close (tie.spec returns)

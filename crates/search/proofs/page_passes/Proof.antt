@@ -4,8 +4,8 @@ use mathlib.Core.Path.{sym}
 use Rattle.search.proofs.page_passes.Statement.{statement}
 use Rattle.search.proofs.page_passes.Tie as tie
 
-returns_2 : tie.Need-returns-2
-returns_2 c = sym (c.before.before.requires.2 c.if1.false)
+returns_2 : tie.Need-returns
+returns_2 c = sym (c.requires.2 c.if-checked.false)
 
-pub page-passes-spec : {M : Type 1} → statement M
-page-passes-spec = tie.close (tie.spec (λ c κs. search rules) (λ c. search rules) returns_2)
+pub page_passes_spec : {M : Type 1} → statement M
+page_passes_spec = tie.close (tie.spec (λ c κs. search rules) (λ c. search rules) returns_2)

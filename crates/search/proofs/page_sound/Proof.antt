@@ -9,18 +9,18 @@ use Rattle.search.proofs.FindLaws.{sound_is}
 use Rattle.search.proofs.page_sound.Statement.{statement}
 use Rattle.search.proofs.page_sound.Tie as tie
 
-returns : tie.Need-returns
-returns c = sound_is _ _ _ _ _ false _ (sym (failed c.before.page_passes.ensures c.if1.true)) refl
+returns : tie.Need-returns-then-not-page_passes
+returns c = sound_is _ _ _ _ _ false _ (sym (failed c.page_passes.ensures c.if-not-page_passes.true-raw)) refl
 
-keys_agree_requires : tie.Need-keys-agree-requires
+keys_agree_requires : tie.Need-keys_agree-requires
 keys_agree_requires c κs =
-    let p = c.before.before.before.requires in
-    let r = passed c.before.page_passes.ensures c.if1.false in
+    let p = c.requires in
+    let r = passed c.page_passes.ensures c.if-not-page_passes.false-raw in
     (p.1, (rule_facts _ _ _ r).some, filled _ _ _ r p.2)
 
-returns_2 : tie.Need-returns-2
+returns_2 : tie.Need-returns
 returns_2 c =
-    sound_is _ _ _ _ _ true _ (sym (passed c.before.before.page_passes.ensures c.before.if1.false)) c.keys-agree.ensures
+    sound_is _ _ _ _ _ true _ (sym (passed c.page_passes.ensures c.if-not-page_passes.false-raw)) c.keys_agree.ensures
 
-pub page-sound-spec : {M : Type 1} → statement M
-page-sound-spec = tie.close (tie.spec (λ c κs. search rules) returns keys_agree_requires returns_2)
+pub page_sound_spec : {M : Type 1} → statement M
+page_sound_spec = tie.close (tie.spec (λ c κs. search rules) returns keys_agree_requires returns_2)

@@ -19,115 +19,115 @@ use Rattle.search.proofs.reached_rows.Statement.{statement}
 use Rattle.search.proofs.reached_rows.Tie as tie
 
 -- the places: the call, the first key read
-abbrev call : tie.After-read-one → tie.Start
+abbrev call : tie.After-read_one-item → tie.Start
 call r = r.before.before.before
 
-abbrev read : tie.Else1 → tie.After-read-one
+abbrev read : tie.Else-prefix → tie.After-read_one-item
 read c = c.before.before.before.before.before
 
 -- the page keeps the rule
-ruled : (c : tie.After-page-at) → let a = c.before.before.args in page_rule a.f a.head.capacity c.page_at.result.now ≡ true
-ruled c = rw c.page_at.ensures c.before.before.requires.3
+ruled : (c : tie.After-page_at-page) → let a = c.args in page_rule a.f a.head.capacity c.page_at-page.result.now ≡ true
+ruled c = rw c.page_at-page.ensures c.requires.3
 
-full : (c : tie.After-page-at) → Filled c.before.before.args.f c.page_at.result.now
-full c = page_filled c.before.before.requires.0 _ c.page_at.ensures (ruled c)
+full : (c : tie.After-page_at-page) → Filled c.args.f c.page_at-page.result.now
+full c = page_filled c.requires.0 _ c.page_at-page.ensures (ruled c)
 
-some : (c : tie.After-page-at) → 1 ≤ count c.page_at.result.now
+some : (c : tie.After-page_at-page) → 1 ≤ count c.page_at-page.result.now
 some c = (rule_facts _ _ _ (ruled c)).some
 
-first_is : (r : tie.After-read-one) → r.read_one.result.key ≡ key_at (call r).args.f r.before.page_at.result.now 0
-first_is r = ap (λ (x : Item). x.key) r.read_one.ensures
+first_is : (r : tie.After-read_one-item) → r.read_one-item.result.key ≡ key_at (call r).args.f r.page_at-page.result.now 0
+first_is r = ap (λ (x : Item). x.key) r.read_one-item.ensures
 
-low_is : (w : tie.After-width-of) → let a = (call w.before).args in w.width_of.result - a.t.used ≡ width a.f - a.t.used
+low_is : (w : tie.After-width_of) → let a = (call w.before).args in w.width_of.result - a.t.used ≡ width a.f - a.t.used
 low_is w = ap (λ (x : ℕ). x - (call w.before).args.t.used) w.width_of.ensures.0
 
 -- the first key agrees with the sought one in the bits used before the terminal node
-agreed : (c : tie.Else1)
+agreed : (c : tie.Else-prefix)
     → let a = (call (read c)).args in
-    (read c).read_one.result.key / 2 ^ (width a.f - a.t.used) ≡ a.key / 2 ^ (width a.f - a.t.used)
+    (read c).read_one-item.result.key / 2 ^ (width a.f - a.t.used) ≡ a.key / 2 ^ (width a.f - a.t.used)
 agreed c =
-    alike _ _ _ _ (low_is c.before.before.before.before) c.before.before.prefix.ensures c.before.prefix2.ensures
-    c.if1.false
+    alike _ _ _ _ (low_is c.before.before.before.before) c.prefix.ensures c.prefix-2.ensures
+    c.if-prefix.false
 
-bits : (v : tie.After-own-entry) → let a = (call (read v.before)).args in a.t.used + v.own_entry.result.depth ≤ width a.f
-bits v = let p = (call (read v.before)).requires in at_bits _ _ _ _ p.0 p.1 p.2 _ v.own_entry.ensures
+bits : (v : tie.After-own_entry-v) → let a = (call (read v.before)).args in a.t.used + v.own_entry-v.result.depth ≤ width a.f
+bits v = let p = (call (read v.before)).requires in at_bits _ _ _ _ p.0 p.1 p.2 _ v.own_entry-v.ensures
 
-page_at_requires : tie.Need-page-at-requires
-page_at_requires c κs = under_page c.before.requires.0
+page_at_requires : tie.Need-page_at-page-requires
+page_at_requires c κs = under_page c.requires.0
 
-read_one_requires : tie.Need-read-one-requires
+read_one_requires : tie.Need-read_one-item-requires
 read_one_requires c κs = (search rules, record_inside (full c) (some c))
 
-sub_low : tie.Need-overflow-sub-low
-sub_low c = let p = (call c.before.before).requires in omega (arith, (at_asked _ _ _ _ p.0 p.1 p.2).3, c.before.width_of.ensures)
+sub_low : tie.Need-overflow_sub-low
+sub_low c = let p = (call c.before.before).requires in omega (arith, (at_asked _ _ _ _ p.0 p.1 p.2).3, c.width_of.ensures)
 
-returns : tie.Need-returns
+returns : tie.Need-returns-then-prefix
 returns c =
     let t = c.before in
     let w = t.before.before.before.before in
-    c.first-row.ensures
-    ∙ rows_other _ _ _ _ _ _ _ w.before.before.page_at.ensures (first_is w.before)
-    (unlike _ _ _ _ (low_is w) t.before.before.prefix.ensures t.before.prefix2.ensures t.if1.true)
+    c.first_row.ensures
+    ∙ rows_other _ _ _ _ _ _ _ w.page_at-page.ensures (first_is w.before)
+    (unlike _ _ _ _ (low_is w) t.prefix.ensures t.prefix-2.ensures t.if-prefix.true)
 
-own_entry_requires : tie.Need-own-entry-requires
+own_entry_requires : tie.Need-own_entry-v-requires
 own_entry_requires c κs = let p = (call (read c)).requires in at_asked _ _ _ _ p.0 p.1 p.2
 
-returns_2 : tie.Need-returns-2
+returns_2 : tie.Need-returns-then-v-p
 returns_2 c =
     let v = c.before.before.before in
     let r = read v.before in
-    c.first-row2.ensures
-    ∙ rows_elsewhere _ _ _ _ _ _ _ r.before.page_at.ensures (first_is r) (agreed v.before) v.own_entry.ensures
-    c.before.if2.true
+    c.first_row-then-v-p.ensures
+    ∙ rows_elsewhere _ _ _ _ _ _ _ r.page_at-page.ensures (first_is r) (agreed v.before) v.own_entry-v.ensures
+    c.if-v-p.true
 
-add_keys_agree : tie.Need-overflow-add-keys-agree
+add_keys_agree : tie.Need-overflow_add-t
 add_keys_agree c = let v = c.before.before.before.before in omega (arith, bits v, width_within (call (read v.before)).args.f)
 
-keys_agree_requires : tie.Need-keys-agree-requires
+keys_agree_requires : tie.Need-keys_agree-requires
 keys_agree_requires c κs =
     let v = c.before.before.before.before in
     let p = (read v.before).before in (bits v, some p, full p)
 
 -- the second test, that the page's first key leads back to it
-abbrev second : tie.After-keys-agree → tie.Else2
+abbrev second : tie.After-keys_agree → tie.Else-v-p
 second k = k.before.before.before
 
-returns_3 : tie.Need-returns-3
+returns_3 : tie.Need-returns-then-not-keys_agree
 returns_3 c =
     let k = c.before.before in
     let v = (second k).before.before in
     let r = read v.before in
-    c.first-row3.ensures
-    ∙ rows_alone _ _ _ _ _ _ _ r.before.page_at.ensures (first_is r) (agreed v.before) v.own_entry.ensures (second k).if2.false
-    (failed k.keys-agree.ensures c.before.if3.true)
+    c.first_row-then-not-keys_agree.ensures
+    ∙ rows_alone _ _ _ _ _ _ _ r.page_at-page.ensures (first_is r) (agreed v.before) v.own_entry-v.ensures (second k).if-v-p.false
+    (failed k.keys_agree.ensures c.if-not-keys_agree.true-raw)
 
 -- the page, from its count on, and its last record
-abbrev counted : tie.After-count-of → tie.After-page-at
+abbrev counted : tie.After-count_of-to → tie.After-page_at-page
 counted c = (read (second c.before.before).before.before.before).before
 
-sub_read_one : tie.Need-overflow-sub-read-one
-sub_read_one c = omega (arith, some (counted c), c.count_of.ensures.0)
+sub_read_one : tie.Need-overflow_sub-to
+sub_read_one c = omega (arith, some (counted c), c.count_of-to.ensures.0)
 
-read_one_requires_2 : tie.Need-read-one-requires-2
+read_one_requires_2 : tie.Need-read_one-last-requires
 read_one_requires_2 c κs =
-    (search rules, record_inside (full (counted c)) (omega (arith, some (counted c), c.count_of.ensures.0)))
+    (search rules, record_inside (full (counted c)) (omega (arith, some (counted c), c.count_of-to.ensures.0)))
 
-run_behind_requires : tie.Need-run-behind-requires
+run_behind_requires : tie.Need-run_behind-requires
 run_behind_requires c κs =
-    let p = (counted c.before).before.before.requires in (p.0, at_node _ _ _ _ p.0 p.1 p.2)
+    let p = (counted c.before).requires in (p.0, at_node _ _ _ _ p.0 p.1 p.2)
 
-returns_4 : tie.Need-returns-4
+returns_4 : tie.Need-returns
 returns_4 c =
     let n = c.before.before in
     let k = n.before.before in
     let v = (second k).before.before in
     let r = read v.before in
-    rows_whole _ _ _ _ _ _ _ r.before.page_at.ensures (first_is r) (agreed v.before) v.own_entry.ensures (second k).if2.false
-    (passed k.keys-agree.ensures n.before.if3.false) n.count_of.ensures.0
-    (ap (λ (x : Item). x.key) c.before.read-one2.ensures) c.run-behind.ensures.0
+    rows_whole _ _ _ _ _ _ _ r.page_at-page.ensures (first_is r) (agreed v.before) v.own_entry-v.ensures (second k).if-v-p.false
+    (passed k.keys_agree.ensures n.if-not-keys_agree.false-raw) n.count_of-to.ensures.0
+    (ap (λ (x : Item). x.key) c.read_one-last.ensures) c.run_behind.ensures.0
 
-pub reached-rows-spec : {M : Type 1} → statement M
-reached-rows-spec =
+pub reached_rows_spec : {M : Type 1} → statement M
+reached_rows_spec =
     tie.close
     (tie.spec page_at_requires read_one_requires (λ c κs. search rules) sub_low (λ c κs. search rules) (λ c κs. search rules)
     (λ c κs. search rules) returns own_entry_requires (λ c κs. search rules) returns_2 add_keys_agree keys_agree_requires

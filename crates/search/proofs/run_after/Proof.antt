@@ -6,16 +6,16 @@ use Rattle.search.proofs.NextLaws.{run_after_is}
 use Rattle.search.proofs.run_after.Statement.{statement}
 use Rattle.search.proofs.run_after.Tie as tie
 
-sub_result : tie.Need-overflow-sub-result
-sub_result c = omega (arith, mod-le c.to-index.result c.before.pow2.result)
+sub_result : tie.Need-overflow_sub-result
+sub_result c = omega (arith, mod-le c.to_index-at.result c.pow2-n.result)
 
 returns : tie.Need-returns
 returns c =
     let p = c.before in
-    run_after_is _ _ _ _ _ _ p.before.less.ensures p.pow2.ensures.0 c.to-index.ensures.0 p.pow2.ensures.2 (omega arith)
+    run_after_is _ _ _ _ _ _ p.less.ensures p.pow2-n.ensures.0 c.to_index-at.ensures.0 p.pow2-n.ensures.2 (omega arith)
 
-pub run-after-spec : {M : Type 1} → statement M
-run-after-spec =
+pub run_after_spec : {M : Type 1} → statement M
+run_after_spec =
     tie.close
     (tie.spec (λ c κs. search rules) (λ c κs. search rules) (λ c κs. search rules) (λ c. search rules) sub_result (λ c. search rules)
     returns)
