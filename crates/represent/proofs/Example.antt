@@ -81,8 +81,8 @@ example_holds =
           };
           spare_positive = refl;
         };
-        released_nodes_lem = record { each = tt; ends = refl };
-        released_pages_lem = record { each = tt; ends = refl };
+        released_nodes = record { each = tt; ends = refl };
+        released_pages = record { each = tt; ends = refl };
         free_nodes = λ n l h. let e : 4 ≡ n = omega arith in subst (λ x. node_at stored (head_of stored) x ≡ replicate 8 0) e refl;
         free_pages = λ p l h. let e : 4 ≡ p = omega arith in subst (λ x. page_at Plots stored (head_of stored) x ≡ replicate 5 0) e refl;
       };

@@ -186,8 +186,8 @@ module _ (f : Format) (θ C N P : ℕ) (z : List ℕ) (law : lawful_sizes θ C N
           pages_fit = omega arith;
           directory = subst (λ ns. Directory θ (node_at s h) 1 1 1 (λ n. count n ns) (leaf 0) (leaf 1 ∷ [])) (sym none_nodes) directory;
           pages = pages;
-          released_nodes_lem = released_nodes_lem;
-          released_pages_lem = released_pages_lem;
+          released_nodes = released_nodes_lem;
+          released_pages = released_pages_lem;
           free_nodes = λ n low high. free_node n low (omega arith);
           free_pages = λ p low high. free_page p low (omega arith);
         };

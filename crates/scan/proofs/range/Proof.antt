@@ -15,65 +15,65 @@ use Rattle.scan.proofs.range.Statement.{statement}
 use Rattle.scan.proofs.range.Tie as tie
 
 -- the places: the call, past both tests
-abbrev call : tie.Else2 → tie.Start
+abbrev call : tie.Else-high-low → tie.Start
 call c = c.before.before.before.before.before
 
-abbrev tested : tie.After-list → tie.Else2
+abbrev tested : tie.After-list-l → tie.Else-high-low
 tested c = c.before.before.before
 
 -- past both tests the head rule is kept, and low is not above high
-head_sound : (c : tie.Else2) → let a = (call c).args in head_rule a.f a.store.now ≡ true
-head_sound c = passed c.before.before.head_ok.ensures c.before.if1.false
+head_sound : (c : tie.Else-high-low) → let a = (call c).args in head_rule a.f a.store.now ≡ true
+head_sound c = passed c.head_ok.ensures c.if-not-head_ok.false-raw
 
-in_order : (c : tie.Else2) → let a = (call c).args in a.low ≤ a.high
-in_order c = c.if2.false
+in_order : (c : tie.Else-high-low) → let a = (call c).args in a.low ≤ a.high
+in_order c = c.if-high-low.false
 
 -- what `list` gives is the outcome
-list_is : (c : tie.After-list)
+list_is : (c : tie.After-list-l)
     → let a = (call (tested c)).args in
-    c.list.result
+    c.list-l.result
     ≡ listing (ranged a.f a.store.now (head_of a.store.now) a.low a.high (length a.out.now / words a.f))
-list_is c = rw (c.before.before.head_of.ensures, c.before.words_of.ensures.0) at c.list.ensures.0
+list_is c = rw (c.head_of-head.ensures, c.words_of.ensures.0) at c.list-l.ensures.0
 
-head_ok_requires : tie.Need-head-ok-requires
+head_ok_requires : tie.Need-head_ok-requires
 head_ok_requires c κs = search rules
 
-returns : tie.Need-returns
-returns c = range_head _ _ _ _ _ (failed c.before.head_ok.ensures c.if1.true)
+returns : tie.Need-returns-then-not-head_ok
+returns c = range_head _ _ _ _ _ (failed c.head_ok.ensures c.if-not-head_ok.true-raw)
 
-returns_2 : tie.Need-returns-2
-returns_2 c = range_order _ _ _ _ _ (passed c.before.before.head_ok.ensures c.before.if1.false) c.if2.true
+returns_2 : tie.Need-returns-then-high-low
+returns_2 c = range_order _ _ _ _ _ (passed c.head_ok.ensures c.if-not-head_ok.false-raw) c.if-high-low.true
 
-list_requires : tie.Need-list-requires
+list_requires : tie.Need-list-l-requires
 list_requires c κs =
-    (record { rule = head_sound c.before.before; head = c.before.head_of.ensures }, in_order c.before.before)
+    (record { rule = head_sound c.before.before; head = c.head_of-head.ensures }, in_order c.before.before)
 
-returns_3 : tie.Need-returns-3
+returns_3 : tie.Need-returns-then-not-l
 returns_3 c =
     let t = tested c.before.before in
-    range_damaged _ _ _ _ _ (head_sound t) (in_order t) _ (list_is c.before.before) (not-true _ c.if3.true)
+    range_damaged _ _ _ _ _ (head_sound t) (in_order t) _ (list_is c.before.before) (not-true _ c.if-not-l.true)
 
 fill_requires : tie.Need-fill-requires
 fill_requires c κs =
     let l = c.before.before.before in
     let t = tested l in
-    let head = l.before.before.head_of.ensures in
+    let head = l.head_of-head.ensures in
     let a = (call t).args in (
       record { rule = head_sound t; head = head },
-      records_fit a.f _ _ (rw l.before.words_of.ensures.0 at l.list.ensures.1),
-      rw head (range_length a.f _ _ _ a.out.now (head_sound t) (in_order t) _ (list_is l) (not-false _ c.before.if3.false)),
+      records_fit a.f _ _ (rw l.words_of.ensures.0 at l.list-l.ensures.1),
+      rw head (range_length a.f _ _ _ a.out.now (head_sound t) (in_order t) _ (list_is l) (not-false _ c.if-not-l.false)),
     )
 
-returns_4 : tie.Need-returns-4
+returns_4 : tie.Need-returns
 returns_4 c =
     let b = c.before.before.before in
     let l = b.before.before.before in
     let t = tested l in
-    range_listed _ _ _ _ _ (head_sound t) (in_order t) _ (list_is l) _ (not-false _ b.before.if3.false)
-    (rw l.before.before.head_of.ensures at c.before.before.fill.ensures)
+    range_listed _ _ _ _ _ (head_sound t) (in_order t) _ (list_is l) _ (not-false _ b.if-not-l.false)
+    (rw l.head_of-head.ensures at c.fill.ensures)
 
-pub range-spec : {M : Type 1} → statement M
-range-spec =
+pub range_spec : {M : Type 1} → statement M
+range_spec =
     tie.close
     (tie.spec
     head_ok_requires

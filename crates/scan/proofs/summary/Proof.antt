@@ -15,67 +15,67 @@ use Rattle.scan.proofs.summary.Statement.{statement}
 use Rattle.scan.proofs.summary.Tie as tie
 
 -- the places: the call, past the first test, past all tests
-abbrev call : tie.Else1 → tie.Start
+abbrev call : tie.Else-not-head_ok → tie.Start
 call c = c.before.before.before
 
-abbrev ruled : tie.Else3 → tie.Else1
+abbrev ruled : tie.Else-not-lawful_day → tie.Else-not-head_ok
 ruled c = c.before.before.before
 
-abbrev tested : tie.After-sum → tie.Else3
+abbrev tested : tie.After-sum-r → tie.Else-not-lawful_day
 tested c = c.before.before.before.before
 
 -- the head rule is kept
-head_sound : (c : tie.Else1) → let a = (call c).args in head_rule a.f a.store.now ≡ true
-head_sound c = passed c.before.head_ok.ensures c.if1.false
+head_sound : (c : tie.Else-not-head_ok) → let a = (call c).args in head_rule a.f a.store.now ≡ true
+head_sound c = passed c.head_ok.ensures c.if-not-head_ok.false-raw
 
 -- past all tests: low is not above high, and today is lawful
-in_order : (c : tie.Else3) → let a = (call (ruled c)).args in a.low ≤ a.high
-in_order c = c.before.before.if2.false
+in_order : (c : tie.Else-not-lawful_day) → let a = (call (ruled c)).args in a.low ≤ a.high
+in_order c = c.if-high-low.false
 
-day_lawful : (c : tie.Else3) → lawful_day (call (ruled c)).args.today ≡ true
-day_lawful c = passed c.before.lawful-day.ensures c.if3.false
+day_lawful : (c : tie.Else-not-lawful_day) → lawful_day (call (ruled c)).args.today ≡ true
+day_lawful c = passed c.lawful_day.ensures c.if-not-lawful_day.false-raw
 
 -- what `sum` gives is the summary
-sum_is : (c : tie.After-sum)
+sum_is : (c : tie.After-sum-r)
     → let a = (call (ruled (tested c))).args in
-    summing_reply c.sum.result ≡ summary_of a.f a.store.now a.low a.high a.today
+    summing_reply c.sum-r.result ≡ summary_of a.f a.store.now a.low a.high a.today
 sum_is c =
     let t = tested c in
     summary_is _ _ _ _ _ (head_sound (ruled t)) (in_order t) (day_lawful t) _
-    (rw (c.before.before.before.head_of.ensures, c.before.before.widen.ensures.0, c.before.widen2.ensures.0) at
-    c.sum.ensures)
+    (rw (c.head_of.ensures, c.widen.ensures.0, c.widen-2.ensures.0) at
+    c.sum-r.ensures)
 
-returns : tie.Need-returns
-returns c = summary_head _ _ _ _ _ (failed c.before.head_ok.ensures c.if1.true)
+returns : tie.Need-returns-then-not-head_ok
+returns c = summary_head _ _ _ _ _ (failed c.head_ok.ensures c.if-not-head_ok.true-raw)
 
-returns_2 : tie.Need-returns-2
-returns_2 c = summary_order _ _ _ _ _ (head_sound c.before) c.if2.true
+returns_2 : tie.Need-returns-then-high-low
+returns_2 c = summary_order _ _ _ _ _ (head_sound c.before) c.if-high-low.true
 
-lawful_day_requires : tie.Need-lawful-day-requires
+lawful_day_requires : tie.Need-lawful_day-requires
 lawful_day_requires c κs = search rules
 
-returns_3 : tie.Need-returns-3
+returns_3 : tie.Need-returns-then-not-lawful_day
 returns_3 c =
-    summary_day _ _ _ _ _ (head_sound c.before.before.before) c.before.before.if2.false
-    (failed c.before.lawful-day.ensures c.if3.true)
+    summary_day _ _ _ _ _ (head_sound c.before.before.before) c.if-high-low.false
+    (failed c.lawful_day.ensures c.if-not-lawful_day.true-raw)
 
-sum_requires : tie.Need-sum-requires
+sum_requires : tie.Need-sum-r-requires
 sum_requires c κs = (
-  record { rule = head_sound (ruled c.before.before.before); head = c.before.before.head_of.ensures },
+  record { rule = head_sound (ruled c.before.before.before); head = c.head_of.ensures },
   omega arith,
   omega arith,
   day_lawful c.before.before.before,
 )
 
-returns_4 : tie.Need-returns-4
-returns_4 c = summing_bad c.before.before.sum.result (not-true _ c.if4.true) ∙ sum_is c.before.before
+returns_4 : tie.Need-returns-then-not-r
+returns_4 c = summing_bad c.sum-r.result (not-true _ c.if-not-r.true) ∙ sum_is c.before.before
 
-returns_5 : tie.Need-returns-5
+returns_5 : tie.Need-returns
 returns_5 c =
-    summing_good c.before.before.before.sum.result (not-false _ c.before.if4.false) ∙ sum_is c.before.before.before
+    summing_good c.sum-r.result (not-false _ c.if-not-r.false) ∙ sum_is c.before.before.before
 
-pub summary-spec : {M : Type 1} → statement M
-summary-spec =
+pub summary_spec : {M : Type 1} → statement M
+summary_spec =
     tie.close
     (tie.spec
     (λ c κs. search rules)

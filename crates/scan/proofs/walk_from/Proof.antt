@@ -3,17 +3,17 @@ use Rattle.search.proofs.SpanLaws.{terminal_whole}
 use Rattle.scan.proofs.walk_from.Statement.{statement}
 use Rattle.scan.proofs.walk_from.Tie as tie
 
-terminal_of_requires : tie.Need-terminal-of-requires
-terminal_of_requires c κs = let p = c.before.requires in (p.0, λ z. terminal_whole _ _ _ _ _ (p.1 z))
+terminal_of_requires : tie.Need-terminal_of-terminal-requires
+terminal_of_requires c κs = let p = c.requires in (p.0, λ z. terminal_whole _ _ _ _ _ (p.1 z))
 
-span_at_requires : tie.Need-span-at-requires
+span_at_requires : tie.Need-span_at-requires
 span_at_requires c κs =
-    let p = c.before.before.requires in
-    let e = c.terminal-of.ensures in
+    let p = c.requires in
+    let e = c.terminal_of-terminal.ensures in
     (p.0, e, λ z. rw e (p.1 z))
 
 returns : tie.Need-returns
-returns c = rw c.before.terminal-of.ensures at c.span-at.ensures
+returns c = rw c.terminal_of-terminal.ensures at c.span_at.ensures
 
-pub walk-from-spec : {M : Type 1} → statement M
-walk-from-spec = tie.close (tie.spec terminal_of_requires span_at_requires returns)
+pub walk_from_spec : {M : Type 1} → statement M
+walk_from_spec = tie.close (tie.spec terminal_of_requires span_at_requires returns)
