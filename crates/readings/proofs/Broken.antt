@@ -76,6 +76,9 @@ no_back (suc (suc (suc (suc n)))) t = absurd (omega (arith, t.taken.within))
 
 -- no node is linked behind another, so the two are not in one list
 no_two : (ns : List ℕ) → InKeyOrder Plots unlinked ns → Memᴰ 1 ns → Memᴰ 2 ns → ⊥
+no_two [] o m m' = elim m [ ]
+no_two (n ∷ []) o (Memᴰ.head e) (Memᴰ.tail x18) = elim x18 [ ]
+no_two (n ∷ []) o (Memᴰ.tail x17) m' = elim x17 [ ]
 no_two (n ∷ []) o (Memᴰ.head e) (Memᴰ.head e') = omega arith
 no_two (n ∷ (n' ∷ ns)) o m m' =
     omega (arith, o.linked.2.0, no_back n' o.terminals.1.0.taken, o.terminals.0.taken.taken.positive)
@@ -95,6 +98,7 @@ terminals = (refl, refl)
 
 -- nothing stands behind a node with no forward link
 none_after : (ns : List ℕ) → All (Terminal Plots crossed) ns → 0 ≡ first ns → Memᴰ 1 ns → ⊥
+none_after [] a e m = elim m [ ]
 none_after (n ∷ ns) a e m = omega (arith, a.0.taken.taken.positive)
 
 not_after : (left right : List ℕ) → InKeyOrder Plots crossed (left ++ (2 ∷ right)) → Memᴰ 1 (2 ∷ right) → ⊥

@@ -64,6 +64,7 @@ module _ (e : ℕ → ℕ × ℕ) (v : Trie ℕ) (is : (j : ℕ) → j < 2 ^ hei
 
 -- lists of labels
 mem_left : {A : Type 0} (x : A) (xs ys : List A) → Memᴰ x xs → Memᴰ x (xs ++ ys)
+mem_left x [] ys x'' = elim x'' [ ]
 mem_left x (y ∷ xs) ys (Memᴰ.head e) = Memᴰ.head e
 mem_left x (y ∷ xs) ys (Memᴰ.tail m) = Memᴰ.tail (mem_left x xs ys m)
 

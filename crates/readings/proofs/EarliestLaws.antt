@@ -24,6 +24,7 @@ use Rattle.readings.specs.Listing.{first_key, leased, earliest_day, ending, high
 use Rattle.readings.proofs.FirstLaws.{all_mem}
 
 mem_filter : (test : Item → Bool) (x : Item) (its : List Item) → Memᴰ x its → test x ≡ true → Memᴰ x (filter test its)
+mem_filter test x [] x3 t = elim x3 [ ]
 mem_filter test x (y ∷ its) (Memᴰ.head e) t =
     subst (Memᴰ x) (sym (filter_true test y its (ap test (sym e) ∙ t))) (Memᴰ.head e)
 mem_filter test x (y ∷ its) (Memᴰ.tail m) t =
@@ -34,22 +35,27 @@ mem_filter test x (y ∷ its) (Memᴰ.tail m) t =
 
 day_low : (its : List Item) (x : Item) → Memᴰ x its → earliest_day its ≤ x.last
 unfolding earliest_day
+day_low [] x x3 = elim x3 [ ]
+day_low (y ∷ []) x (Memᴰ.tail m) = elim m [ ]
 day_low (y ∷ []) x (Memᴰ.head e) = omega (arith, ap (λ (it : Item). it.last) e)
 day_low (y ∷ z ∷ its) x (Memᴰ.head e) = omega (arith, ap (λ (it : Item). it.last) e)
 day_low (y ∷ z ∷ its) x (Memᴰ.tail m) = omega (arith, day_low (z ∷ its) x m)
 
 day_high : (its : List Item) (x : Item) (d : ℕ) → Memᴰ x its → All (λ it. d ≤ it.last) its → d ≤ earliest_day its
 unfolding earliest_day
+day_high [] x d m a = elim m [ ]
 day_high (y ∷ []) x d m a = a.0
 day_high (y ∷ z ∷ its) x d m a = omega (arith, a.0, day_high (z ∷ its) z d (Memᴰ.head refl) a.1)
 
 first_least : (its : List Item) (x : Item) → Memᴰ x its → Sorted key_of its → All (λ it. x.key ≤ it.key) its → first_key its ≡ x.key
 unfolding first_key
+first_least [] x x5 s a = elim x5 [ ]
 first_least (y ∷ its) x (Memᴰ.head e) s a = ap key_of (sym e)
 first_least (y ∷ its) x (Memᴰ.tail m) s a = omega (arith, a.0, all_mem (λ it. y.key < it.key) m s.0)
 
 price_high : (its : List Item) (x : Item) → Memᴰ x its → x.price ≤ highest_price its
 unfolding highest_price
+price_high [] x x3 = elim x3 [ ]
 price_high (y ∷ its) x (Memᴰ.head e) = omega (arith, ap (λ (it : Item). it.price) e)
 price_high (y ∷ its) x (Memᴰ.tail m) = omega (arith, price_high its x m)
 

@@ -9,5 +9,5 @@ returns : tie.Need-returns
 unfolding bit
 returns c = refl
 
-pub bit-set-spec : {M : Type 1} → statement M
-bit-set-spec = tie.close (tie.spec (λ c. search rules) returns)
+pub bit_set_spec : {M : Type 1} → statement M
+bit_set_spec = tie.close (tie.spec (λ c. search rules) returns)

@@ -8,7 +8,7 @@ returns : tie.Need-returns
 returns c k e =
     let run = c.before.before in
     let s = run.before.before.before in
-    aimed_words s.args.theta s.args.part.now s.args.i k e s.args.q run.write-run.ensures
+    aimed_words s.args.theta s.args.part.now s.args.i k e s.args.q run.write_run.ensures
 
-pub aim-run-spec : {M : Type 1} → statement M
-aim-run-spec = tie.close (tie.spec (λ c κs. search rules) (λ c. search rules) returns)
+pub aim_run_spec : {M : Type 1} → statement M
+aim_run_spec = tie.close (tie.spec (λ c κs. search rules) (λ c. search rules) returns)

@@ -13,25 +13,25 @@ use Rattle.split.proofs.SplitLaws.{reached_growable}
 use Rattle.split.proofs.grow_block.Statement.{statement}
 use Rattle.split.proofs.grow_block.Tie as tie
 
-abbrev call : tie.After-node-words → tie.Start
+abbrev call : tie.After-node_words → tie.Start
 call c = c.before.before.before.before.before
 
-lent : (c : tie.After-node-words) → let a = (call c).args in
-    let at = c.before.node_start.result in
-    take (at + c.node-words.result - at) (drop at a.store.now) ≡ node_at a.store.now a.head a.n
+lent : (c : tie.After-node_words) → let a = (call c).args in
+    let at = c.node_start-at.result in
+    take (at + c.node_words.result - at) (drop at a.store.now) ≡ node_at a.store.now a.head a.n
 lent c =
     let s = call c in
-    node_lent s.args.store.now s.args.head s.args.n c.before.node_start.ensures.0 c.node-words.ensures.0 s.pre.1
+    node_lent s.args.store.now s.args.head s.args.n c.node_start-at.ensures.0 c.node_words.ensures.0 s.requires.1
 
-grow_part_requires : tie.Need-grow-part-requires
+grow_part_requires : tie.Need-grow_part-requires
 grow_part_requires c κs =
     let words = c.before in
     let s = call words in
     let a = s.args in
-    let long = node_long a.store.now a.head a.n s.pre.1 in
-    let e = words.before.before.entry_in.ensures in
-    let g = reached_growable a.f a.head.theta _ a.key a.used s.pre.3 e long s.pre.4 (lent words) in
-    (s.pre.0, g.0, g.1, g.2, g.3, g.4)
+    let long = node_long a.store.now a.head a.n s.requires.1 in
+    let e = words.entry_in-i.ensures in
+    let g = reached_growable a.f a.head.theta _ a.key a.used s.requires.3 e long s.requires.4 (lent words) in
+    (s.requires.0, g.0, g.1, g.2, g.3, g.4)
 
 returns : tie.Need-returns
 returns c =
@@ -40,12 +40,12 @@ returns c =
     let a = (call words).args in
     let k = bits (width a.f - a.used) a.key in
     let l = lent words in
-    node_back a.store.now a.head a.n words.before.node_start.ensures.0 words.node-words.ensures.0
-    (part.grow-part.ensures k (ap (λ b. index (depth_word b 0) k) l ∙ words.before.before.entry_in.ensures)
+    node_back a.store.now a.head a.n words.node_start-at.ensures.0 words.node_words.ensures.0
+    (part.grow_part.ensures k (ap (λ b. index (depth_word b 0) k) l ∙ words.entry_in-i.ensures)
     ∙ ap (λ b. grow a.head.theta b k a.a a.c) l)
 
-pub grow-block-spec : {M : Type 1} → statement M
-grow-block-spec =
+pub grow_block_spec : {M : Type 1} → statement M
+grow_block_spec =
     tie.close
     (tie.spec (λ c κs. search rules) (λ c κs. search rules) (λ c κs. search rules) (λ c. search rules) (λ c. search rules)
     (λ c. search rules) (λ c. search rules) (λ c. search rules) grow_part_requires (λ c. search rules) returns)

@@ -8,7 +8,7 @@ returns : tie.Need-returns
 returns c k e =
     let run = c.before.before in
     let s = run.before.before.before in
-    halved_words s.args.theta s.args.part.now s.args.i k e s.args.a s.args.c run.write-run.ensures
+    halved_words s.args.theta s.args.part.now s.args.i k e s.args.a s.args.c run.write_run.ensures
 
-pub halve-run-spec : {M : Type 1} → statement M
-halve-run-spec = tie.close (tie.spec (λ c κs. search rules) (λ c. search rules) returns)
+pub halve_run_spec : {M : Type 1} → statement M
+halve_run_spec = tie.close (tie.spec (λ c κs. search rules) (λ c. search rules) returns)

@@ -8,11 +8,11 @@ returns : tie.Need-returns
 returns c =
     let words = c.before.before.before.before in
     let start = words.before.before.before.before in
-    node_back start.args.store.now start.args.head start.args.n words.before.node_start.ensures.0
-    words.node-words.ensures.0 c.before.before.copy.ensures
+    node_back start.args.store.now start.args.head start.args.n words.node_start-at.ensures.0
+    words.node_words.ensures.0 c.copy.ensures
 
-pub put-block-spec : {M : Type 1} → statement M
-put-block-spec =
+pub put_block_spec : {M : Type 1} → statement M
+put_block_spec =
     tie.close
     (tie.spec (λ c κs. search rules) (λ c κs. search rules) (λ c. search rules) (λ c. search rules) (λ c. search rules) (λ c. search rules)
     (λ c. search rules) (λ c κs. search rules) (λ c. search rules) returns)

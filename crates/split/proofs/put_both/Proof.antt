@@ -10,9 +10,9 @@ returns : tie.Need-returns
 returns c =
     let second = c.before.before in
     let first = second.before.before.before.before in
-    let a = first.before.before.before.before.before.args in
-    second.put-block2.ensures
-    ∙ ap (replaced (node_start a.head a.m) (node_words a.head.theta) a.high.now) first.put-block.ensures
+    let a = first.args in
+    second.put_block-2.ensures
+    ∙ ap (replaced (node_start a.head a.m) (node_words a.head.theta) a.high.now) first.put_block.ensures
 
-pub put-both-spec : {M : Type 1} → statement M
-put-both-spec = tie.close (tie.spec (λ c κs. search rules) (λ c κs. search rules) (λ c. search rules) returns)
+pub put_both_spec : {M : Type 1} → statement M
+put_both_spec = tie.close (tie.spec (λ c κs. search rules) (λ c κs. search rules) (λ c. search rules) returns)

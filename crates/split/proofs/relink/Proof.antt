@@ -8,26 +8,26 @@ use Rattle.split.proofs.ValueLaws.{four_words, relinked}
 use Rattle.split.proofs.relink.Statement.{statement}
 use Rattle.split.proofs.relink.Tie as tie
 
-returns : tie.Need-returns
-returns c = (λ e. refl, λ n. absurd (n c.if1.true))
+returns : tie.Need-returns-then-q-eq0
+returns c = (λ e. refl, λ n. absurd (n c.if-q-eq0.true))
 
 -- the word is in the store
-inside : (c : tie.After-node-start) → c.node_start.result + 2 < length c.before.before.before.args.store.now
+inside : (c : tie.After-node_start-at) → c.node_start-at.result + 2 < length c.args.store.now
 inside c =
     let s = c.before.before.before in
-    omega (arith, c.node_start.ensures.0, s.requires.1, four_words s.args.head.theta)
+    omega (arith, c.node_start-at.ensures.0, s.requires.1, four_words s.args.head.theta)
 
-slice_write_store : tie.Need-slice-write-store
+slice_write_store : tie.Need-bounds-store-at
 slice_write_store c = inside c
 
-returns_2 : tie.Need-returns-2
+returns_2 : tie.Need-returns
 returns_2 c =
     let s = c.before.before.before in (
-      λ e. absurd (c.before.if1.false e),
-      λ n. relinked s.args.store.now s.args.head s.args.q s.args.m s.requires.1 c.node_start.ensures.0,
+      λ e. absurd (c.if-q-eq0.false e),
+      λ n. relinked s.args.store.now s.args.head s.args.q s.args.m s.requires.1 c.node_start-at.ensures.0,
     )
 
-pub relink-spec : {M : Type 1} → statement M
-relink-spec =
+pub relink_spec : {M : Type 1} → statement M
+relink_spec =
     tie.close
     (tie.spec returns (λ c κs. search rules) (λ c. search rules) (λ c. search rules) slice_write_store (λ c. search rules) returns_2)

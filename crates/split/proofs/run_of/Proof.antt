@@ -10,25 +10,25 @@ use Rattle.split.proofs.run_of.Statement.{statement}
 use Rattle.split.proofs.run_of.Tie as tie
 
 -- how many entries the run has
-size : (c : tie.Joined1) → c.if1.n ≡ 2 ^ (c.before.args.depth - c.before.args.local)
+size : (c : tie.Joined-local-depth) → c.if-local-depth.n ≡ 2 ^ (c.args.depth - c.args.local)
 size c =
-    let a = c.before.args in
+    let a = c.args in
     ⊎_elim (λ w. w.2 ∙ w.1.ensures.0)
-    (λ w. let e : a.depth - a.local ≡ 0 = omega (arith, w.0.left) in w.1 ∙ ap (λ k. 2 ^ k) (sym e)) c.if1.branch
+    (λ w. let e : a.depth - a.local ≡ 0 = omega (arith, w.0.left) in w.1 ∙ ap (λ k. 2 ^ k) (sym e)) c.if-local-depth.branch
 
-room : (c : tie.Joined1) → let a = c.before.args in (a.i % c.if1.n ≤ a.i) × (a.i - a.i % c.if1.n + c.if1.n ≤ 2 ^ a.depth)
+room : (c : tie.Joined-local-depth) → let a = c.args in (a.i % c.if-local-depth.n ≤ a.i) × (a.i - a.i % c.if-local-depth.n + c.if-local-depth.n ≤ 2 ^ a.depth)
 room c =
-    let a = c.before.args in
-    run_room a.depth a.local a.i c.if1.n c.before.requires.1 (size c)
+    let a = c.args in
+    run_room a.depth a.local a.i c.if-local-depth.n c.requires.1 (size c)
 
-rem_t7 : tie.Need-nonzero-rem-t7
-rem_t7 c = let a = c.before.before.args in omega (arith, size c.before, pow_pos (a.depth - a.local))
+rem_t7 : tie.Need-nonzero_rem-result
+rem_t7 c = let a = c.args in omega (arith, size c.before, pow_pos (a.depth - a.local))
 
-sub_t8 : tie.Need-overflow-sub-t8
+sub_t8 : tie.Need-overflow_sub-result
 sub_t8 c = (room c.before).0
 
 returns : tie.Need-returns
 returns c = (size c.before, refl, (room c.before).1)
 
-pub run-of-spec : {M : Type 1} → statement M
-run-of-spec = tie.close (tie.spec (λ c. search rules) (λ c κs. search rules) rem_t7 sub_t8 returns)
+pub run_of_spec : {M : Type 1} → statement M
+run_of_spec = tie.close (tie.spec (λ c. search rules) (λ c κs. search rules) rem_t7 sub_t8 returns)

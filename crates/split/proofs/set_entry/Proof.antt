@@ -9,8 +9,8 @@ returns : tie.Need-returns
 unfolding with_entry
 returns c = refl
 
-pub set-entry-spec : {M : Type 1} → statement M
-set-entry-spec =
+pub set_entry_spec : {M : Type 1} → statement M
+set_entry_spec =
     tie.close
     (tie.spec (λ c. search rules) (λ c. search rules) (λ c. search rules) (λ c. search rules) (λ c. search rules) (λ c. search rules)
     (λ c. search rules) (λ c. search rules) (λ c. search rules) returns)

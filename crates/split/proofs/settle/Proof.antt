@@ -19,28 +19,28 @@ long c = c.requires.2
 room : (c : tie.Start) → 2 ^ c.args.depth ≤ 2 ^ c.args.theta
 room c = pow_mono {i = c.args.depth} {j = c.args.theta} c.requires.1
 
-slice_write_part : tie.Need-slice-write-part
+slice_write_part : tie.Need-bounds-part-0
 slice_write_part c = omega (arith, long c.before)
 
-slice_write_part_2 : tie.Need-slice-write-part-2
+slice_write_part_2 : tie.Need-bounds-part-1
 slice_write_part_2 c = simp length-set (omega (arith, long c.before))
 
-slice_write_part_3 : tie.Need-slice-write-part-3
+slice_write_part_3 : tie.Need-bounds-part-2
 slice_write_part_3 c = simp length-set (omega (arith, long c.before))
 
-slice_write_part_4 : tie.Need-slice-write-part-4
+slice_write_part_4 : tie.Need-bounds-part-3
 slice_write_part_4 c = simp length-set (omega (arith, long c.before))
 
-sub_clear : tie.Need-overflow-sub-clear
+sub_clear : tie.Need-slice_bounds-clear-count
 sub_clear c = simp length-set (omega (arith, c.pow2.ensures.0, long c.before.before, room c.before.before))
 
-part_clear_start : tie.Need-slice-bounds-clear-start
+part_clear_start : tie.Need-slice_bounds-clear-start
 part_clear_start c = sub_clear c
 
-same_length : tie.Need-same-length
+same_length : tie.Need-shape_of-part
 same_length c =
     let s = c.before.before.before.before.before.before in
-    c.before.part.given.1 ∙ length_headed s.args.depth s.args.level s.args.back s.args.forward s.args.part.now
+    c.part-1.given.1 ∙ length_headed s.args.depth s.args.level s.args.back s.args.forward s.args.part.now
 
 returns : tie.Need-returns
 returns c =
@@ -50,8 +50,8 @@ returns c =
     settled s.args.theta s.args.depth s.args.level s.args.back s.args.forward s.args.part.now pow.pow2.result _
     s.requires.1 s.requires.2 pow.pow2.ensures.0 clear.clear.ensures
 
-pub settle-spec : {M : Type 1} → statement M
-settle-spec =
+pub settle_spec : {M : Type 1} → statement M
+settle_spec =
     tie.close
     (tie.spec slice_write_part slice_write_part_2 slice_write_part_3 slice_write_part_4 (λ c κs. search rules) (λ c. search rules)
     (λ c. search rules) (λ c. search rules) sub_clear part_clear_start (λ c. search rules) (λ c κs. search rules) same_length returns)

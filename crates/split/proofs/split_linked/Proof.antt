@@ -14,54 +14,54 @@ use Rattle.split.proofs.split_linked.Statement.{statement}
 use Rattle.split.proofs.split_linked.Tie as tie
 
 -- a block's words of 132
-abbrev call : tie.After-node-words → tie.Start
+abbrev call : tie.After-node_words-w → tie.Start
 call c = c.before.before
 
-room : (c : tie.After-node-words) → length (take (c.node-words.result - 0) (drop 0 spare)) ≡ c.node-words.result
-room c = front_long spare c.node-words.result (omega (arith, c.node-words.ensures.2))
+room : (c : tie.After-node_words-w) → length (take (c.node_words-w.result - 0) (drop 0 spare)) ≡ c.node_words-w.result
+room c = front_long spare c.node_words-w.result (omega (arith, c.node_words-w.ensures.2))
 
-halves_of_requires : tie.Need-halves-of-requires
+halves_of_requires : tie.Need-halves_of-requires
 halves_of_requires c κs =
     let words = c.before.before.before in
     let s = call words in
     let long = room words ∙ words.node-words.ensures.0 in
-    (s.pre.0, s.pre.1, s.pre.2, s.pre.4, s.pre.5, s.pre.6, long, long)
+    (s.requires.0, s.requires.1, s.requires.2, s.requires.4, s.requires.5, s.requires.6, long, long)
 
-abbrev words : tie.After-halves-of → tie.After-node-words
+abbrev words : tie.After-halves_of → tie.After-node_words-w
 words c = c.before.before.before.before
 
 -- the two links are among them
-inside : (c : tie.After-halves-of) → 4 ≤ (words c).node-words.result
-inside c = omega (arith, (words c).node-words.ensures.0, four_words (call (words c)).args.head.theta)
+inside : (c : tie.After-halves_of) → 4 ≤ (words c).node_words-w.result
+inside c = omega (arith, (words c).node_words-w.ensures.0, four_words (call (words c)).args.head.theta)
 
-part_put_both_end : tie.Need-slice-bounds-put-both-end
+part_put_both_end : tie.Need-slice_bounds-put_both-end
 part_put_both_end c =
     let low = c.before.before.before in
     let halves = low.before in
     let w = words halves in
-    simp length-set (front_room spare w.node-words.result (low.low2.given ∙ room w) halves.halves_of.ensures.0)
+    simp length-set (front_room spare w.node_words-w.result (low.low2.given ∙ room w) halves.halves_of.ensures.0)
 
-part_put_both_end_2 : tie.Need-slice-bounds-put-both-end-2
+part_put_both_end_2 : tie.Need-slice_bounds-put_both-end-2
 part_put_both_end_2 c =
     let high = c.before.before.before.before in
     let halves = high.before.before in
     let w = words halves in
-    simp length-set (front_room spare w.node-words.result (high.high2.given ∙ room w) halves.halves_of.ensures.1)
+    simp length-set (front_room spare w.node_words-w.result (high.high2.given ∙ room w) halves.halves_of.ensures.1)
 
-put_both_requires : tie.Need-put-both-requires
+put_both_requires : tie.Need-put_both-requires
 put_both_requires c κs =
     let high = c.before.before.before.before.before in
     let halves = high.before.before in
     let w = words halves in
     let s = call w in
     let made = halves.halves_of.ensures in (
-      s.pre.1,
-      s.pre.2,
-      s.pre.3,
-      length_front_set spare w.node-words.result (high.before.low2.given ∙ room w) made.0 3 s.args.m
-          ∙ w.node-words.ensures.0,
-      length_front_set spare w.node-words.result (high.high2.given ∙ room w) made.1 2 s.args.n
-          ∙ w.node-words.ensures.0,
+      s.requires.1,
+      s.requires.2,
+      s.requires.3,
+      length_front_set spare w.node_words-w.result (high.before.low2.given ∙ room w) made.0 3 s.args.m
+          ∙ w.node_words-w.ensures.0,
+      length_front_set spare w.node_words-w.result (high.high2.given ∙ room w) made.1 2 s.args.n
+          ∙ w.node_words-w.ensures.0,
     )
 
 returns : tie.Need-returns
@@ -78,13 +78,13 @@ returns c =
     let made = halves.halves_of.ensures in
     put.put_both.ensures
     ∙ ap₂ (λ x y. replaced (node_start a.head a.m) n x (replaced (node_start a.head a.n) n y a.store.now))
-    (front_set spare w.node-words.result (high.high2.given ∙ room w) made.1 2 a.n (omega (arith, inside halves))
+    (front_set spare w.node_words-w.result (high.high2.given ∙ room w) made.1 2 a.n (omega (arith, inside halves))
     ∙ upper_linked θ a.a a.c ws k a.n)
-    (front_set spare w.node-words.result (high.before.low2.given ∙ room w) made.0 3 a.m (omega (arith, inside halves))
+    (front_set spare w.node_words-w.result (high.before.low2.given ∙ room w) made.0 3 a.m (omega (arith, inside halves))
     ∙ lower_linked θ a.a a.c ws k a.m)
 
-pub split-linked-spec : {M : Type 1} → statement M
-split-linked-spec =
+pub split_linked_spec : {M : Type 1} → statement M
+split_linked_spec =
     tie.close
     (tie.spec (λ c κs. search rules) (λ c. search rules) (λ c. search rules) (λ c. search rules) (λ c. search rules) (λ c. search rules)
     (λ c. search rules) halves_of_requires (λ c. search rules) (λ c. search rules) (λ c. search rules) (λ c. search rules)

@@ -11,13 +11,13 @@ use Rattle.split.proofs.write_root.Tie as tie
 long : (c : tie.Start) → 8 ≤ length c.args.part.now
 long c = entries_room c.args.theta 1 c.requires.0 c.requires.2
 
-set_entry_requires : tie.Need-set-entry-requires
+set_entry_requires : tie.Need-set_entry-requires
 set_entry_requires c κs = omega (arith, long c.before.before)
 
-set_entry_requires_2 : tie.Need-set-entry-requires-2
+set_entry_requires_2 : tie.Need-set_entry-requires-2
 set_entry_requires_2 c κs =
     let part = c.before.before in
-    omega (arith, long part.before.before.before.before, part.part.given)
+    omega (arith, long part.before.before.before.before, part.part-1.given)
 
 returns : tie.Need-returns
 returns c =
@@ -26,8 +26,8 @@ returns c =
     let first = second.before.before.before.before in
     let s = first.before.before.before in
     settle.settle.ensures
-    ∙ root_words s.args.theta s.args.level s.args.a s.args.c s.args.part.now (long s) first.set-entry.ensures
-    second.set-entry2.ensures
+    ∙ root_words s.args.theta s.args.level s.args.a s.args.c s.args.part.now (long s) first.set_entry.ensures
+    second.set_entry-2.ensures
 
-pub write-root-spec : {M : Type 1} → statement M
-write-root-spec = tie.close (tie.spec set_entry_requires set_entry_requires_2 (λ c κs. search rules) (λ c. search rules) returns)
+pub write_root_spec : {M : Type 1} → statement M
+write_root_spec = tie.close (tie.spec set_entry_requires set_entry_requires_2 (λ c κs. search rules) (λ c. search rules) returns)
