@@ -52,7 +52,7 @@ same_length c =
     let a = c.args in
     let w = c.words_of.result in
     let last = c.clear in
-    returned_long (set a.part.now 0 a.n) (1 + w * a.n) last.new.0 last.auto.0 ∙ length-set a.part.now 0 a.n
+    returned_long (set a.part.now 0 a.n) (1 + w * a.n) last.new.part last.auto.part ∙ length-set a.part.now 0 a.n
 
 returns : tie.Need-returns
 returns c =
@@ -60,7 +60,7 @@ returns c =
     let a = start.args in
     let w = c.words_of in
     let last = c.clear in
-    cut_words a.f a.capacity a.n w.result a.part.now last.new.0 start.requires.0 start.requires.1 w.ensures.0
+    cut_words a.f a.capacity a.n w.result a.part.now last.new.part start.requires.0 start.requires.1 w.ensures.0
     last.ensures
 
 pub cut_page_spec : {M : Type 1} → statement M

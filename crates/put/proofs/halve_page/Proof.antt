@@ -18,14 +18,14 @@ count_is c = c.to_index-n.ensures.0 ∙ c.word.ensures
 
 fits : (c : tie.After-page_words-size)
     → let a = c.args in
-    let w = c.before.before.before.before.words_of.result in
+    let w = c.words_of-w.result in
     let high = c.to_index-n.result - a.i in
     (a.from + 1 + w * a.i + w * high ≤ length a.store.now) × (a.to + 1 + w * high ≤ length a.store.now)
     × ((a.from + 1 + w * a.i + w * high ≤ a.to + 1) ⊎ (a.to + 1 ≤ a.from + 1 + w * a.i))
 fits c =
-    let start = c.before.before.before.before.before.before in
+    let start = c in
     let a = start.args in
-    let w = c.before.before.before.before.words_of in
+    let w = c.words_of-w in
     copy_fits a.f a.capacity a.from a.to a.i w.result c.to_index-n.result a.store.now start.requires
     w.ensures.0 (count_is c.before)
 
@@ -48,15 +48,15 @@ returns c rs is =
     let copy = low.before.before.before.before in
     let size = copy.before.before in
     let n = size.before in
-    let w = n.before.before.before in
+    let w = n.before.before in
     let start = w.before.before in
     let a = start.args in
     let from_size : a.from + size.page_words-size.result - a.from ≡ size.page_words-size.result = omega arith in
     let to_size : a.to + size.page_words-size.result - a.to ≡ size.page_words-size.result = omega arith in
     let same = size.page_words-size.ensures.0 in
-    halve_words a.f a.capacity a.from a.to a.i a.store.now start.requires rs is w.words_of.result n.to_index-n.result
+    halve_words a.f a.capacity a.from a.to a.i a.store.now start.requires rs is w.words_of-w.result n.to_index-n.result
     (a.from + size.page_words-size.result - a.from) (a.to + size.page_words-size.result - a.to) copy.copy_words.new.store
-    low.cut_page.new.part high.cut_page-2.new.part w.words_of.ensures.0
+    low.cut_page.new.part high.cut_page-2.new.part w.words_of-w.ensures.0
     (count_is n ∙ counted a.f a.capacity a.from a.to a.i a.store.now start.requires rs is) (from_size ∙ same)
     (to_size ∙ same) copy.copy_words.ensures copy.copy_words.auto.store low.cut_page.ensures low.cut_page.auto.part
     high.cut_page-2.ensures

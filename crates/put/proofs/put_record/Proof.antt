@@ -13,8 +13,8 @@ use Rattle.put.proofs.put_record.Statement.{statement}
 use Rattle.put.proofs.put_record.Tie as tie
 
 -- the new number is at most the count
-within : (c : tie.After-first_above-i) → c.first_above-i.result ≤ c.before.before.count_of.result
-within c = omega (arith, c.first_above-i.ensures.1, c.before.before.count_of.ensures.0)
+within : (c : tie.After-first_above-i) → c.first_above-i.result ≤ c.count_of-n.result
+within c = omega (arith, c.first_above-i.ensures.1, c.count_of-n.ensures.0)
 
 -- where the record goes
 abbrev at : tie.After-words_of-w → ℕ
@@ -22,11 +22,11 @@ at c = 1 + c.words_of-w.result * c.first_above-i.result
 
 room : (c : tie.After-words_of-w)
     → let w = c.words_of-w.result in
-    let n = c.before.before.before.count_of.result in
+    let n = c.count_of-n.result in
     at c + w * (n - c.first_above-i.result) + w ≤ length c.args.part.now
 room c =
-    let n = c.before.before.before.count_of in
-    let start = c.before.before.before.before.before.before in
+    let n = c.count_of-n in
+    let start = c in
     let a = start.args in
     room_more a.f a.capacity c.words_of-w.result n.result (length a.part.now) c.words_of-w.ensures.0 start.requires.0
     c.first_above-i.result (within c.before) (omega (arith, n.ensures.0, start.requires.1))
@@ -94,12 +94,12 @@ returns c rs is lawful =
     let m = i.before.before.before.before in
     let w = m.before.before in
     let first = w.before in
-    let n = first.before.before in
-    let start = n.before.before.before in
+    let n = first.before in
+    let start = n in
     let a = start.args in
-    let size : n.count_of.result ≡ length rs = n.count_of.ensures.0 ∙ page_count_lem a.f a.capacity a.part.now rs is in
+    let size : n.count_of-n.result ≡ length rs = n.count_of-n.ensures.0 ∙ page_count_lem a.f a.capacity a.part.now rs is in
     put_words a.f a.capacity rs a.item a.part.now m.move_up.new.part i.write_item.new.part w.words_of-w.result
-    n.count_of.result first.first_above-i.result is (within first) (omega (arith, n.count_of.ensures.0, start.requires.1)) size
+    n.count_of-n.result first.first_above-i.result is (within first) (omega (arith, n.count_of-n.ensures.0, start.requires.1)) size
     w.words_of-w.ensures.0 m.move_up.ensures i.write_item.ensures
     ∙ ap (page_image a.f a.capacity)
     (sym (insert_first a.f a.capacity a.part.now rs is lawful a.item _ first.first_above-i.ensures.0))

@@ -14,7 +14,7 @@ use Rattle.split.proofs.grow_block.Statement.{statement}
 use Rattle.split.proofs.grow_block.Tie as tie
 
 abbrev call : tie.After-node_words → tie.Start
-call c = c.before.before.before.before.before
+call c = c.before.before.before.before
 
 lent : (c : tie.After-node_words) → let a = (call c).args in
     let at = c.node_start-at.result in

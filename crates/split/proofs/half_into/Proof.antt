@@ -2,7 +2,6 @@
 -- half.
 use borrow.Author.Rules.{rules}
 use mathlib.Core.Path.{◌≡◌, sym, ap, ap₂, ◌∙◌}
-use mathlib.Core.Logic.{⊎_elim}
 use Prim.Native.Nat.{pred, ◌+◌, ◌*◌, ◌/◌, ◌^◌, ◌≤◌}
 use native.Mathlib.Numerals.{sub-one}
 use native.Mathlib.Omega.{arith}
@@ -12,6 +11,7 @@ use Rattle.split.specs.Value.{running}
 use Rattle.split.proofs.ValueLaws.{entries_room}
 use Rattle.split.proofs.GrowLaws.{start_of, depth_of, half_room, half_deep, half_step, half_words}
 use Rattle.split.proofs.half_into.Statement.{statement}
+use Rattle.split.proofs.half_into.Lts.{then-upper, else-upper}
 use Rattle.split.proofs.half_into.Tie as tie
 
 long : (c : tie.Start) → 4 + 2 * 2 ^ depth_word c.args.node.now 0 ≤ length c.args.node.now
@@ -33,10 +33,10 @@ size c = c.pow2-n.ensures.0 ∙ ap (λ d. 2 ^ d) (sub-one (depth_word (call c).a
 start : (c : tie.Joined-upper) → c.if-upper.start ≡ start_of (depth_word (call c.before).args.node.now 0) (call c.before).args.upper
 start c =
     let a = (call c.before).args in
-    ⊎_elim
-    (λ w. w.1 ∙ size c.before ∙ ap (start_of (depth_word a.node.now 0)) (sym w.0.taken))
-    (λ w. w.1 ∙ ap (start_of (depth_word a.node.now 0)) (sym w.0.left))
-    c.if-upper.branch
+    elim c.if-upper.branch [
+      | then-upper w ↦ w.start-is ∙ size c.before ∙ ap (start_of (depth_word a.node.now 0)) (sym w.if-upper.true)
+      | else-upper w ↦ w.start-is ∙ ap (start_of (depth_word a.node.now 0)) (sym w.if-upper.false)
+    ]
 
 -- the other block has room for the half
 room : (c : tie.After-pow2-n) → 4 + 2 * c.pow2-n.result ≤ length (call c).args.to.now
@@ -106,8 +106,7 @@ settle_requires c κs =
     let to = c.before.before.before.before.before in
     let l = lowers (thinned to.before) in
     let s = began l in
-    let first = (thinned to.before).before.before in
-    (s.requires.0, omega (arith, low l, s.requires.4.low), to.to-2-1.given ∙ first.to.given ∙ s.requires.2)
+    (s.requires.0, omega (arith, low l, s.requires.4.low), to.to-2-1.given ∙ to.to-1.given ∙ s.requires.2)
 
 returns : tie.Need-returns
 returns c =

@@ -7,14 +7,18 @@ use native.Mathlib.Omega.{arith}
 use lib.Pow.{pow_pos}
 use Rattle.split.proofs.GrowLaws.{run_room}
 use Rattle.split.proofs.run_of.Statement.{statement}
+use Rattle.split.proofs.run_of.Lts.{then-local-depth, else-local-depth}
 use Rattle.split.proofs.run_of.Tie as tie
 
 -- how many entries the run has
 size : (c : tie.Joined-local-depth) → c.if-local-depth.n ≡ 2 ^ (c.args.depth - c.args.local)
 size c =
     let a = c.args in
-    ⊎_elim (λ w. w.2 ∙ w.1.ensures.0)
-    (λ w. let e : a.depth - a.local ≡ 0 = omega (arith, w.0.left) in w.1 ∙ ap (λ k. 2 ^ k) (sym e)) c.if-local-depth.branch
+    elim c.if-local-depth.branch [
+      | then-local-depth w ↦ w.n-is ∙ w.pow2-n.ensures.0
+      | else-local-depth w ↦
+          let e : a.depth - a.local ≡ 0 = omega (arith, w.if-local-depth.false) in w.n-is ∙ ap (λ k. 2 ^ k) (sym e)
+    ]
 
 room : (c : tie.Joined-local-depth) → let a = c.args in (a.i % c.if-local-depth.n ≤ a.i) × (a.i - a.i % c.if-local-depth.n + c.if-local-depth.n ≤ 2 ^ a.depth)
 room c =

@@ -19,29 +19,29 @@ room c = front_long spare c.node_words-w.result (omega (arith, c.node_words-w.en
 
 halves_of_requires : tie.Need-halves_of-requires
 halves_of_requires c κs =
-    let words = c.before.before.before in
+    let words = c.before.before in
     let s = call words in
-    let long = room words ∙ words.node-words.ensures.0 in
+    let long = room words ∙ words.node_words-w.ensures.0 in
     (s.requires.0, s.requires.1, s.requires.2, s.requires.4, s.requires.5, s.requires.6, long, long)
 
 abbrev words : tie.After-halves_of → tie.After-node_words-w
-words c = c.before.before.before.before
+words c = c.before.before.before
 
 part_put_both_end : tie.Need-slice_bounds-put_both-end
 part_put_both_end c =
-    let low = c.before.before.before in
+    let low = c.before.before in
     let halves = low.before in
-    front_room spare (words halves).node_words-w.result (low.low2.given ∙ room (words halves)) halves.halves_of.ensures.0
+    front_room spare (words halves).node_words-w.result (low.low-2-1.given ∙ room (words halves)) halves.halves_of.ensures.0
 
 part_put_both_end_2 : tie.Need-slice_bounds-put_both-end-2
 part_put_both_end_2 c =
-    let high = c.before.before.before.before in
+    let high = c.before.before in
     let halves = high.before.before in
-    front_room spare (words halves).node_words-w.result (high.high2.given ∙ room (words halves)) halves.halves_of.ensures.1
+    front_room spare (words halves).node_words-w.result (high.high-2-1.given ∙ room (words halves)) halves.halves_of.ensures.1
 
 put_both_requires : tie.Need-put_both-requires
 put_both_requires c κs =
-    let high = c.before.before.before.before.before in
+    let high = c.before.before.before in
     let halves = high.before.before in
     let w = words halves in
     let s = call w in
@@ -49,14 +49,14 @@ put_both_requires c κs =
       s.requires.1,
       s.requires.2,
       s.requires.3,
-      length_front spare w.node_words-w.result (high.before.low2.given ∙ room w) made.0 ∙ w.node_words-w.ensures.0,
-      length_front spare w.node_words-w.result (high.high2.given ∙ room w) made.1 ∙ w.node_words-w.ensures.0,
+      length_front spare w.node_words-w.result (high.low-2-1.given ∙ room w) made.0 ∙ w.node_words-w.ensures.0,
+      length_front spare w.node_words-w.result (high.high-2-1.given ∙ room w) made.1 ∙ w.node_words-w.ensures.0,
     )
 
 returns : tie.Need-returns
 returns c =
     let put = c.before.before in
-    let high = put.before.before.before.before.before.before in
+    let high = put.before.before.before.before in
     let halves = high.before.before in
     let w = words halves in
     let a = (call w).args in
@@ -64,8 +64,8 @@ returns c =
     let made = halves.halves_of.ensures in
     put.put_both.ensures
     ∙ ap₂ (λ x y. replaced (node_start a.head a.m) n x (replaced (node_start a.head a.n) n y a.store.now))
-    (front_is spare w.node_words-w.result (high.high2.given ∙ room w) made.1)
-    (front_is spare w.node_words-w.result (high.before.low2.given ∙ room w) made.0)
+    (front_is spare w.node_words-w.result (high.high-2-1.given ∙ room w) made.1)
+    (front_is spare w.node_words-w.result (high.low-2-1.given ∙ room w) made.0)
 
 pub split_block_spec : {M : Type 1} → statement M
 split_block_spec =

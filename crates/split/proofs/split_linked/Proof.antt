@@ -22,13 +22,13 @@ room c = front_long spare c.node_words-w.result (omega (arith, c.node_words-w.en
 
 halves_of_requires : tie.Need-halves_of-requires
 halves_of_requires c κs =
-    let words = c.before.before.before in
+    let words = c.before.before in
     let s = call words in
-    let long = room words ∙ words.node-words.ensures.0 in
+    let long = room words ∙ words.node_words-w.ensures.0 in
     (s.requires.0, s.requires.1, s.requires.2, s.requires.4, s.requires.5, s.requires.6, long, long)
 
 abbrev words : tie.After-halves_of → tie.After-node_words-w
-words c = c.before.before.before.before
+words c = c.before.before.before
 
 -- the two links are among them
 inside : (c : tie.After-halves_of) → 4 ≤ (words c).node_words-w.result
@@ -36,21 +36,21 @@ inside c = omega (arith, (words c).node_words-w.ensures.0, four_words (call (wor
 
 part_put_both_end : tie.Need-slice_bounds-put_both-end
 part_put_both_end c =
-    let low = c.before.before.before in
+    let low = c.before.before in
     let halves = low.before in
     let w = words halves in
-    simp length-set (front_room spare w.node_words-w.result (low.low2.given ∙ room w) halves.halves_of.ensures.0)
+    simp length-set (front_room spare w.node_words-w.result (low.low-2-1.given ∙ room w) halves.halves_of.ensures.0)
 
 part_put_both_end_2 : tie.Need-slice_bounds-put_both-end-2
 part_put_both_end_2 c =
-    let high = c.before.before.before.before in
+    let high = c.before.before in
     let halves = high.before.before in
     let w = words halves in
-    simp length-set (front_room spare w.node_words-w.result (high.high2.given ∙ room w) halves.halves_of.ensures.1)
+    simp length-set (front_room spare w.node_words-w.result (high.high-2-1.given ∙ room w) halves.halves_of.ensures.1)
 
 put_both_requires : tie.Need-put_both-requires
 put_both_requires c κs =
-    let high = c.before.before.before.before.before in
+    let high = c.before.before.before in
     let halves = high.before.before in
     let w = words halves in
     let s = call w in
@@ -58,16 +58,16 @@ put_both_requires c κs =
       s.requires.1,
       s.requires.2,
       s.requires.3,
-      length_front_set spare w.node_words-w.result (high.before.low2.given ∙ room w) made.0 3 s.args.m
+      length_front_set spare w.node_words-w.result (high.low-2-1.given ∙ room w) made.0 3 s.args.m
           ∙ w.node_words-w.ensures.0,
-      length_front_set spare w.node_words-w.result (high.high2.given ∙ room w) made.1 2 s.args.n
+      length_front_set spare w.node_words-w.result (high.high-2-1.given ∙ room w) made.1 2 s.args.n
           ∙ w.node_words-w.ensures.0,
     )
 
 returns : tie.Need-returns
 returns c =
     let put = c.before.before in
-    let high = put.before.before.before.before.before.before in
+    let high = put.before.before.before.before in
     let halves = high.before.before in
     let w = words halves in
     let a = (call w).args in
@@ -78,9 +78,9 @@ returns c =
     let made = halves.halves_of.ensures in
     put.put_both.ensures
     ∙ ap₂ (λ x y. replaced (node_start a.head a.m) n x (replaced (node_start a.head a.n) n y a.store.now))
-    (front_set spare w.node_words-w.result (high.high2.given ∙ room w) made.1 2 a.n (omega (arith, inside halves))
+    (front_set spare w.node_words-w.result (high.high-2-1.given ∙ room w) made.1 2 a.n (omega (arith, inside halves))
     ∙ upper_linked θ a.a a.c ws k a.n)
-    (front_set spare w.node_words-w.result (high.before.low2.given ∙ room w) made.0 3 a.m (omega (arith, inside halves))
+    (front_set spare w.node_words-w.result (high.low-2-1.given ∙ room w) made.0 3 a.m (omega (arith, inside halves))
     ∙ lower_linked θ a.a a.c ws k a.m)
 
 pub split_linked_spec : {M : Type 1} → statement M

@@ -27,7 +27,7 @@ abbrev call : tie.After-slice_known-5-1 → tie.Start
 call c = c.before.before.before.before.before
 
 slice_read_forward : tie.Need-bounds-part-3
-slice_read_forward c = omega (arith, long (call c))
+slice_read_forward c = omega (arith, long c.before.before.before.before.before)
 
 mul_local : tie.Need-overflow_mul-local
 mul_local c = omega (arith, long (call c))
