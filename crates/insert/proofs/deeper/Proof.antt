@@ -5,7 +5,7 @@ use Rattle.insert.proofs.deeper.Statement.{statement}
 use Rattle.insert.proofs.deeper.Tie as tie
 
 returns : tie.Need-returns
-returns c f k = deeper_place f k c.before.args.t
+returns c f k = deeper_place f k c.args.t
 
-pub deeper-spec : {M : Type 1} → statement M
-deeper-spec = tie.close (tie.spec (λ c. search rules) returns)
+pub deeper_spec : {M : Type 1} → statement M
+deeper_spec = tie.close (tie.spec (λ c. search rules) returns)

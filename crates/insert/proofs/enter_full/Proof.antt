@@ -15,109 +15,109 @@ use Rattle.insert.proofs.enter_full.Statement.{statement}
 use Rattle.insert.proofs.enter_full.Tie as tie
 
 -- the places: the call, the way down, the plan, blocks remain and may be taken, room is made
-abbrev call : tie.After-descend → tie.Start
-call c = c.before.before.before
+abbrev call : tie.After-descend-down → tie.Start
+call c = c.before.before
 
-abbrev way : tie.After-plan-for → tie.After-descend
-way c = c.before.before
+abbrev way : tie.After-plan_for-plan → tie.After-descend-down
+way c = c.before
 
-abbrev planned : tie.Else1 → tie.After-plan-for
-planned c = c.before.before.before
+abbrev planned : tie.Else-not-room_for → tie.After-plan_for-plan
+planned c = c.before.before
 
-abbrev roomed : tie.Else2 → tie.Else1
-roomed c = c.before.before.before
+abbrev roomed : tie.Else-not-chains_ok → tie.Else-not-room_for
+roomed c = c.before.before
 
-abbrev chained : tie.After-make-room → tie.Else2
+abbrev chained : tie.After-make_room-course → tie.Else-not-chains_ok
 chained c = c.before.before
 
-under : (c : tie.After-slice-known) → let a = c.before.args in Under a.f a.store.now a.head
-under c = let p = c.before.requires in record { rule = p.rule; head = p.own }
+under : (c : tie.After-slice_known-1) → let a = c.args in Under a.f a.store.now a.head
+under c = let p = c.requires in record { rule = p.rule; head = p.own }
 
-tested : (c : tie.After-plan-for)
+tested : (c : tie.After-plan_for-plan)
     → let a = (call (way c)).args in
-    Tested a.f a.store.now a.item a.head (way c).descend.result c.plan-for.result
-tested c = accepted_tested (call (way c)).requires (way c).descend.ensures.0 c.plan-for.ensures
+    Tested a.f a.store.now a.item a.head (way c).descend-down.result c.plan_for-plan.result
+tested c = accepted_tested (call (way c)).requires (way c).descend-down.ensures.0 c.plan_for-plan.ensures
 
 -- blocks remain
-room : (c : tie.Else1)
+room : (c : tie.Else-not-room_for)
     → let p = planned c in
     let a = (call (way p)).args in
-    (leb p.plan-for.result.nodes (nodes_left a.store.now) && leb p.plan-for.result.pages (pages_left a.store.now)) ≡ true
-room c = passed c.before.room_for.ensures c.if1.false
+    (leb p.plan_for-plan.result.nodes (nodes_left a.store.now) && leb p.plan_for-plan.result.pages (pages_left a.store.now)) ≡ true
+room c = passed c.room_for.ensures c.if-not-room_for.false-raw
 
 -- and may be taken
-chain : (c : tie.Else2)
+chain : (c : tie.Else-not-chains_ok)
     → let p = planned (roomed c) in
     let a = (call (way p)).args in
-    (nodes_ok a.store.now p.plan-for.result.nodes && pages_ok a.f a.store.now p.plan-for.result.pages) ≡ true
-chain c = passed c.before.chains-ok.ensures c.if2.false
+    (nodes_ok a.store.now p.plan_for-plan.result.nodes && pages_ok a.f a.store.now p.plan_for-plan.result.pages) ≡ true
+chain c = passed c.chains_ok.ensures c.if-not-chains_ok.false-raw
 
 -- room is made
-roomy : (c : tie.After-make-room)
+roomy : (c : tie.After-make_room-course)
     → let p = planned (roomed (chained c)) in
     let d = way p in
     let a = (call d).args in
-    Roomy a.f a.store.now a.item a.head d.descend.result p.plan-for.result c.make-room.new.0
-    c.make-room.result.head c.make-room.result.down
+    Roomy a.f a.store.now a.item a.head d.descend-down.result p.plan_for-plan.result c.make_room-course.new.store
+    c.make_room-course.result.head c.make_room-course.result.down
 roomy c =
     let e = chained c in
-    let m = c.make-room.ensures in
+    let m = c.make_room-course.ensures in
     record { tested = tested (planned (roomed e)); room = room (roomed e); chain = chain e; own = m.0.head_is; way = m.1 }
 
-plan_for_requires : tie.Need-plan-for-requires
+plan_for_requires : tie.Need-plan_for-plan-requires
 plan_for_requires c κs =
-    let d = c.before in
+    let d = c in
     let a = (call d).requires in
-    let t = accepted_tested a d.descend.ensures.0 refl in
+    let t = accepted_tested a d.descend-down.ensures.0 refl in
     let l = accepted_limits a in
-    (l.0, l.1, l.2, l.3, l.4, d.descend.ensures.1, begun_long t.begun, accepted_own a d.descend.ensures.0)
+    (l.0, l.1, l.2, l.3, l.4, d.descend-down.ensures.1, begun_long t.begun, accepted_own a d.descend-down.ensures.0)
 
-returns : tie.Need-returns
+returns : tie.Need-returns-then-not-room_for
 returns c =
     let r = c.before in
-    refuses (no_room (tested r.before.before) (failed r.room_for.ensures c.if1.true))
+    refuses (no_room (tested r.before) (failed r.room_for.ensures c.if-not-room_for.true-raw))
 
-chains_ok_requires : tie.Need-chains-ok-requires
-chains_ok_requires c κs = let p = planned c.before in (under (way p).before.before, one_page (tested p))
+chains_ok_requires : tie.Need-chains_ok-requires
+chains_ok_requires c κs = let p = planned c in (under (way p).before, one_page (tested p))
 
-returns_2 : tie.Need-returns-2
+returns_2 : tie.Need-returns-then-not-chains_ok
 returns_2 c =
     let k = c.before in
-    let e = k.before.before in
-    refuses (no_chain (tested (planned e)) (room e) (failed k.chains-ok.ensures c.if2.true))
+    let e = k.before in
+    refuses (no_chain (tested (planned e)) (room e) (failed k.chains_ok.ensures c.if-not-chains_ok.true-raw))
 
-make_room_requires : tie.Need-make-room-requires
+make_room_requires : tie.Need-make_room-course-requires
 make_room_requires c κs =
     let e = c.before in
     let t = tested (planned (roomed e)) in
     (begun_carries t.begun, begun_narrow t.begun, tested_fine t (room (roomed e)) (chain e))
 
 ending_requires : tie.Need-ending-requires
-ending_requires c κs = c.before.before.before.make-room.ensures.0.long
+ending_requires c κs = c.make_room-course.ensures.0.long
 
-place_requires : tie.Need-place-requires
+place_requires : tie.Need-place-h-requires
 place_requires c κs =
-    let m = c.before.before.before.before in
-    (record { way = _; placing = room_placing (roomy m) m.make-room.ensures.0 c.ending.ensures }, begun_narrow (roomy m).tested.begun)
+    let m = c.before.before.before.before.before in
+    (record { way = _; placing = room_placing (roomy m) m.make_room-course.ensures.0 c.ending.ensures }, begun_narrow (roomy m).tested.begun)
 
 entered_requires : tie.Need-entered-requires
 entered_requires c κs =
-    let p = c.before.before.before in
-    let m = p.before.before.before.before.before in
-    (omega (arith, p.place.auto.0, m.make-room.auto.0, head_whole _ _ (roomy m).tested.begun.rule), p.place.ensures.0)
+    let p = c.before.before in
+    let m = p.before.before.before.before.before.before in
+    (omega (arith, p.place-h.auto.store, m.make_room-course.auto.store, head_whole _ _ (roomy m).tested.begun.rule), p.place-h.ensures.0)
 
-returns_3 : tie.Need-returns-3
+returns_3 : tie.Need-returns
 returns_3 c =
-    let p = c.before.before.before.before in
+    let p = c.before.before.before in
     let g = p.before in
-    let m = g.before.before.before.before in
+    let m = g.before.before.before.before.before in
     let a = (call (way (planned (roomed (chained m))))).args in
-    enters (roomy m) (p.place.ensures.1 _ (room_placing (roomy m) m.make-room.ensures.0 g.ending.ensures)) c.entered.result
+    enters (roomy m) (p.place-h.ensures.1 _ (room_placing (roomy m) m.make_room-course.ensures.0 g.ending.ensures)) c.entered.result
     (c.entered.ensures a.f a.item refl)
 
-pub enter-full-spec : {M : Type 1} → statement M
-enter-full-spec =
+pub enter_full_spec : {M : Type 1} → statement M
+enter_full_spec =
     tie.close
-    (tie.spec (λ c κs. (under c.before, λ z. accepted_way c.before.before.requires)) plan_for_requires (λ c κs. under (way c.before).before.before) (λ c. search rules) returns
+    (tie.spec (λ c κs. (under c, λ z. accepted_way c.requires)) plan_for_requires (λ c κs. under (way c).before) (λ c. search rules) returns
     chains_ok_requires (λ c. search rules) returns_2 make_room_requires ending_requires place_requires entered_requires
     (λ c. search rules) returns_3)

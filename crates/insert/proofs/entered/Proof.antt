@@ -7,7 +7,7 @@ use Rattle.insert.proofs.entered.Tie as tie
 returns : tie.Need-returns
 returns c f it e =
     let r = c.before.before in
-    entered_is f it _ e r.before.before.requires.1 r.released_of.ensures c.before.less.ensures c.less2.ensures
+    entered_is f it _ e r.requires.1 r.released_of-r.ensures c.less-nodes.ensures c.less-pages.ensures
 
-pub entered-spec : {M : Type 1} → statement M
-entered-spec = tie.close (tie.spec (λ c κs. search rules) (λ c κs. search rules) (λ c κs. search rules) returns)
+pub entered_spec : {M : Type 1} → statement M
+entered_spec = tie.close (tie.spec (λ c κs. search rules) (λ c κs. search rules) (λ c κs. search rules) returns)

@@ -5,17 +5,17 @@ use Rattle.insert.proofs.EnterCode.{held_null, held_some, own_rule}
 use Rattle.insert.proofs.held_at.Statement.{statement}
 use Rattle.insert.proofs.held_at.Tie as tie
 
-returns : tie.Need-returns
-returns c = held_null _ _ _ _ _ c.if1.true
+returns : tie.Need-returns-then-p-eq0
+returns c = held_null _ _ _ _ _ c.if-p-eq0.true
 
-key_held_requires : tie.Need-key-held-requires
+key_held_requires : tie.Need-key_held-requires
 key_held_requires c κs = (
-  own_rule _ _ _ _ _ _ c.before.if1.false c.page_at.ensures c.before.before.before.requires.2,
+  own_rule _ _ _ _ _ _ c.if-p-eq0.false c.page_at.ensures c.requires.2,
   rw c.page_at.ensures (page_lent _ _ _ _),
 )
 
-returns_2 : tie.Need-returns-2
-returns_2 c = held_some _ _ _ _ _ c.before.before.if1.false c.before.page_at.ensures c.key-held.ensures
+returns_2 : tie.Need-returns
+returns_2 c = held_some _ _ _ _ _ c.if-p-eq0.false c.page_at.ensures c.key_held.ensures
 
-pub held-at-spec : {M : Type 1} → statement M
-held-at-spec = tie.close (tie.spec returns (λ c κs. search rules) key_held_requires returns_2)
+pub held_at_spec : {M : Type 1} → statement M
+held_at_spec = tie.close (tie.spec returns (λ c κs. search rules) key_held_requires returns_2)

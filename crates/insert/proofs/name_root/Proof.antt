@@ -8,5 +8,5 @@ returns : tie.Need-returns
 unfolding put_head
 returns c = search rules
 
-pub name-root-spec : {M : Type 1} → statement M
-name-root-spec = tie.close (tie.spec (λ c. search rules) (λ c. search rules) (λ c. search rules) returns)
+pub name_root_spec : {M : Type 1} → statement M
+name_root_spec = tie.close (tie.spec (λ c. search rules) (λ c. search rules) (λ c. search rules) returns)

@@ -19,47 +19,47 @@ room c = room_left c.args.f c.args.store.now c.requires.1 c.args.head c.requires
 long : (c : tie.Start) → 16 ≤ length c.args.store.now
 long c = sized_long c.args.f c.args.store.now c.requires.1.sized
 
-take_node_requires : tie.Need-take-node-requires
+take_node_requires : tie.Need-take_node-g-requires
 take_node_requires c κs =
     let s = c.before.before in
     take_needs s.args.f s.args.store.now s.requires.1.sized s.requires.1.supply.fits s.args.head s.requires.0
 
-root_block_requires : tie.Need-root-block-requires
+root_block_requires : tie.Need-root_block-requires
 root_block_requires c κs =
     let x = c.before.before.before.before.before in
     let s = x.before.before.before in
     let a = s.args in
-    let e = x.take-node.ensures in
+    let e = x.take_node-g.ensures in
     root_needs a.f a.store.now a.a a.c s.requires.1.sized (room s).0 (room s).1 _ _ _ e.1 e.2 e.0
 
-name_root_requires : tie.Need-name-root-requires
+name_root_requires : tie.Need-name_root-requires
 name_root_requires c κs =
     let x = c.before.before.before.before.before.before.before.before.before.before in
     let l = long x.before.before.before in
     search rules
 
-head_of_requires : tie.Need-head-of-requires
+head_of_requires : tie.Need-head_of-requires
 head_of_requires c κs =
     let x = c.before.before.before.before.before.before.before.before.before.before.before.before.before.before in
-    let l = long x.before.before.before in
+    let l = long x.before.before in
     search rules
 
 returns : tie.Need-returns
 returns c =
-    let z = c.before.before.before.before in
+    let z = c.before.before.before in
     let y = z.before.before.before.before.before in
     let x = y.before.before.before.before.before.before in
     let s = x.before.before.before in
     let a = s.args in
-    let e = x.take-node.ensures in (
-      z.name-root.ensures
+    let e = x.take_node-g.ensures in (
+      z.name_root.ensures
           ∙ root_done a.f a.store.now a.a a.c s.requires.1.sized (room s).0 (room s).1 a.head _ _ _ _ s.requires.0
-          e.1 e.2 e.0 y.root-block.ensures,
+          e.1 e.2 e.0 y.root_block.ensures,
       c.head_of.ensures,
     )
 
-pub new-root-spec : {M : Type 1} → statement M
-new-root-spec =
+pub new_root_spec : {M : Type 1} → statement M
+new_root_spec =
     tie.close
     (tie.spec take_node_requires (λ c. search rules) root_block_requires (λ c. search rules) name_root_requires head_of_requires
     (λ c. search rules) returns)

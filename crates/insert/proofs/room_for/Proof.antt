@@ -14,54 +14,54 @@ use Rattle.store.proofs.Places.{under_limits, under_counts, under_chains}
 use Rattle.insert.proofs.room_for.Statement.{statement}
 use Rattle.insert.proofs.room_for.Tie as tie
 
-released_of_requires : tie.Need-released-of-requires
-released_of_requires c κs = head_whole _ _ c.before.requires.rule
+released_of_requires : tie.Need-released_of-r-requires
+released_of_requires c κs = head_whole _ _ c.requires.rule
 
-sub_if1 : tie.Need-overflow-sub-if1
-sub_if1 c = (under_counts c.before.before.before.requires).taken
+sub_if1 : tie.Need-overflow_sub-head
+sub_if1 c = (under_counts c.requires).taken
 
-add_if1 : tie.Need-overflow-add-if1
+add_if1 : tie.Need-overflow_add-r
 add_if1 c =
     let r = c.before.before in
-    let p = r.before.before.requires in
-    omega (arith, (under_chains p r.released_of.ensures).nodes, (under_counts p).taken, (under_limits p).nodes)
+    let p = r.requires in
+    omega (arith, (under_chains p r.released_of-r.ensures).nodes, (under_counts p).taken, (under_limits p).nodes)
 
 -- the nodes left, as the code counts them
-nodes_are : (r : tie.After-released-of) → let a = r.before.before.args in
-    r.released_of.result.nodes + (a.head.node_blocks - a.head.nodes_taken) ≡ nodes_left a.store.now
+nodes_are : (r : tie.After-released_of-r) → let a = r.args in
+    r.released_of-r.result.nodes + (a.head.node_blocks - a.head.nodes_taken) ≡ nodes_left a.store.now
 nodes_are r =
-    ap₂ (λ (x : Released) (h : Head). x.nodes + (h.node_blocks - h.nodes_taken)) r.released_of.ensures r.before.before.requires.head
+    ap₂ (λ (x : Released) (h : Head). x.nodes + (h.node_blocks - h.nodes_taken)) r.released_of-r.ensures r.requires.head
 
-pages_are : (r : tie.After-released-of) → let a = r.before.before.args in
-    r.released_of.result.pages + (a.head.page_blocks - a.head.pages_taken) ≡ pages_left a.store.now
+pages_are : (r : tie.After-released_of-r) → let a = r.args in
+    r.released_of-r.result.pages + (a.head.page_blocks - a.head.pages_taken) ≡ pages_left a.store.now
 pages_are r =
-    ap₂ (λ (x : Released) (h : Head). x.pages + (h.page_blocks - h.pages_taken)) r.released_of.ensures r.before.before.requires.head
+    ap₂ (λ (x : Released) (h : Head). x.pages + (h.page_blocks - h.pages_taken)) r.released_of-r.ensures r.requires.head
 
-returns : tie.Need-returns
+returns : tie.Need-returns-then-r-head
 returns c =
     let r = c.before.before.before.before in
-    let a = r.before.before.args in
-    let n : leb a.plan.nodes (nodes_left a.store.now) ≡ false = lt-leb a.plan.nodes (nodes_left a.store.now) (subst (λ n. n < a.plan.nodes) (nodes_are r) c.if1.true) in
+    let a = r.args in
+    let n : leb a.plan.nodes (nodes_left a.store.now) ≡ false = lt-leb a.plan.nodes (nodes_left a.store.now) (subst (λ n. n < a.plan.nodes) (nodes_are r) c.if-r-head.true) in
     sym (ap (λ b. b && leb a.plan.pages (pages_left a.store.now)) n)
 
-sub_result : tie.Need-overflow-sub-result
-sub_result c = (under_counts c.before.before.before.before.before.before.before.requires).filled
+sub_result : tie.Need-overflow_sub-result
+sub_result c = (under_counts c.requires).filled
 
-add_result : tie.Need-overflow-add-result
+add_result : tie.Need-overflow_add-result
 add_result c =
     let r = c.before.before.before.before.before.before in
-    let p = r.before.before.requires in
-    omega (arith, (under_chains p r.released_of.ensures).pages, (under_counts p).filled, (under_limits p).pages)
+    let p = r.requires in
+    omega (arith, (under_chains p r.released_of-r.ensures).pages, (under_counts p).filled, (under_limits p).pages)
 
-returns_2 : tie.Need-returns-2
+returns_2 : tie.Need-returns
 returns_2 c =
     let e = c.before.before.before in
     let r = e.before.before.before.before in
-    let a = r.before.before.args in
-    let n : leb a.plan.nodes (nodes_left a.store.now) ≡ true = le-leb a.plan.nodes (nodes_left a.store.now) (subst (λ n. a.plan.nodes ≤ n) (nodes_are r) e.if1.false) in
+    let a = r.args in
+    let n : leb a.plan.nodes (nodes_left a.store.now) ≡ true = le-leb a.plan.nodes (nodes_left a.store.now) (subst (λ n. a.plan.nodes ≤ n) (nodes_are r) e.if-r-head.false) in
     ap (leb a.plan.pages) (pages_are r) ∙ sym (ap (λ b. b && leb a.plan.pages (pages_left a.store.now)) n)
 
-pub room-for-spec : {M : Type 1} → statement M
-room-for-spec =
+pub room_for_spec : {M : Type 1} → statement M
+room_for_spec =
     tie.close
     (tie.spec released_of_requires sub_if1 add_if1 returns sub_result add_result returns_2)

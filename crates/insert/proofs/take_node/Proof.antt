@@ -6,60 +6,60 @@ use Rattle.insert.proofs.StepCode.{take_unused, take_last}
 use Rattle.insert.proofs.take_node.Statement.{statement}
 use Rattle.insert.proofs.take_node.Tie as tie
 
-slice_read_count : tie.Need-slice-read-count
+slice_read_count : tie.Need-bounds-store-10
 slice_read_count c = search rules
 
-add_number : tie.Need-overflow-add-number
+add_number : tie.Need-overflow_add-number
 add_number c = search rules
 
-slice_write_store : tie.Need-slice-write-store
+slice_write_store : tie.Need-bounds-store-4
 slice_write_store c = search rules
 
-head_of_requires : tie.Need-head-of-requires
+head_of_requires : tie.Need-head_of-requires
 head_of_requires c κs = simp length-set (omega arith)
 
-same_length : tie.Need-same-length
+same_length : tie.Need-shape_of-store-then-count-eq0
 same_length c = search rules
 
-returns : tie.Need-returns
+returns : tie.Need-returns-then-count-eq0
 returns c =
-    let p = c.before.before.before in
+    let p = c.before.before in
     let s = p.before.before.before in
-    let k = take_unused s.args.store.now s.args.head s.requires.1 p.if1.true in
+    let k = take_unused s.args.store.now s.args.head s.requires.1 p.if-count-eq0.true in
     (k.0, k.1, c.head_of.ensures)
 
-slice_read_number : tie.Need-slice-read-number
+slice_read_number : tie.Need-bounds-store-8
 slice_read_number c = search rules
 
-node_start_requires : tie.Need-node-start-requires
+node_start_requires : tie.Need-node_start-requires
 node_start_requires c κs = search rules
 
-add_word : tie.Need-overflow-add-word
+add_word : tie.Need-overflow_add-node_start
 add_word c = search rules
 
 word_requires : tie.Need-word-requires
 word_requires c κs = search rules
 
-slice_write_store_2 : tie.Need-slice-write-store-2
+slice_write_store_2 : tie.Need-bounds-store-8-2
 slice_write_store_2 c = search rules
 
-sub_store : tie.Need-overflow-sub-store
+sub_store : tie.Need-overflow_sub-store
 sub_store c = search rules
 
-slice_write_store_3 : tie.Need-slice-write-store-3
+slice_write_store_3 : tie.Need-bounds-store-10-2
 slice_write_store_3 c = simp length-set (omega arith)
 
-same_length_2 : tie.Need-same-length-2
+same_length_2 : tie.Need-shape_of-store
 same_length_2 c = search rules
 
-returns_2 : tie.Need-returns-2
+returns_2 : tie.Need-returns
 returns_2 c =
-    let p = c.before.before.before.before in
+    let p = c.before.before.before in
     let s = p.before.before.before in
-    take_last s.args.store.now s.args.head _ _ s.requires.1 c.before.node_start.ensures.0 c.word.ensures p.if1.false
+    take_last s.args.store.now s.args.head _ _ s.requires.1 c.node_start.ensures.0 c.word.ensures p.if-count-eq0.false
 
-pub take-node-spec : {M : Type 1} → statement M
-take-node-spec =
+pub take_node_spec : {M : Type 1} → statement M
+take_node_spec =
     tie.close
     (tie.spec
     slice_read_count

@@ -9,66 +9,66 @@ use Rattle.insert.proofs.take_own.Statement.{statement}
 use Rattle.insert.proofs.take_own.Tie as tie
 
 -- the places: a page taken, the call, its place in the words, the record written there
-abbrev taken : tie.After-page-start → tie.After-take-page
+abbrev taken : tie.After-page_start-at → tie.After-take_page-g
 taken a = a.before.before.before.before
 
-abbrev call : tie.After-take-page → tie.Start
+abbrev call : tie.After-take_page-g → tie.Start
 call t = t.before.before.before
 
-abbrev ready : tie.After-aim-block-arg → tie.After-write-first
+abbrev ready : tie.After-aim_block-arg-1 → tie.After-write_first
 ready c = c.before.before.before
 
-abbrev placed : tie.After-write-first → tie.After-page-words
+abbrev placed : tie.After-write_first → tie.After-page_words
 placed y = y.before.before
 
-take_page_requires : tie.Need-take-page-requires
+take_page_requires : tie.Need-take_page-g-requires
 take_page_requires c κs =
     let n = c.before.before in
     take_asks _ _ _ _ n.requires.0.placing n.requires.1
 
 -- the head with the page taken
-next : (t : tie.After-take-page) → (t.take-page.result.head.theta ≤ 6) × (t.take-page.result.head.capacity ≤ largest_capacity)
+next : (t : tie.After-take_page-g) → (t.take_page-g.result.head.theta ≤ 6) × (t.take_page-g.result.head.capacity ≤ largest_capacity)
 next t =
     let n = call t in
-    let e = t.take-page.ensures in
-    next_limits _ _ _ _ n.pre.0.placing n.pre.1 _ _ _ e.1 e.2 e.0
+    let e = t.take_page-g.ensures in
+    next_limits _ _ _ _ n.requires.0.placing n.requires.1 _ _ _ e.1 e.2 e.0
 
-page_start_requires : tie.Need-page-start-requires
+page_start_requires : tie.Need-page_start-at-requires
 page_start_requires c κs = next c.before.before.before
 
-page_words_requires : tie.Need-page-words-requires
+page_words_requires : tie.Need-page_words-requires
 page_words_requires c κs = (next (taken c)).1
 
 -- the new page lies in the words
-inside : (w : tie.After-page-words) → w.before.page_start.result + w.page-words.result ≤ length (taken w.before).take-page.new.0
+inside : (w : tie.After-page_words) → w.page_start-at.result + w.page_words.result ≤ length (taken w.before).take_page-g.new.store
 inside w =
     let a = w.before in
     let t = taken a in
     let n = call t in
-    let e = t.take-page.ensures in
-    first_inside _ _ _ _ n.pre.0.placing n.pre.1 _ _ _ e.1 e.2 e.0 _ _ a.page_start.ensures.0
-    w.page-words.ensures.0
+    let e = t.take_page-g.ensures in
+    first_inside _ _ _ _ n.requires.0.placing n.requires.1 _ _ _ e.1 e.2 e.0 _ _ a.page_start-at.ensures.0
+    w.page_words.ensures.0
 
-write_first_requires : tie.Need-write-first-requires
+write_first_requires : tie.Need-write_first-requires
 write_first_requires c κs =
     let w = c.before in
     let a = w.before in
     let t = taken a in
     let n = call t in
-    let e = t.take-page.ensures in
-    first_asks _ _ _ _ n.pre.0.placing n.pre.1 _ _ _ e.1 e.2 e.0 _ _ a.page_start.ensures.0
-    w.page-words.ensures.0
+    let e = t.take_page-g.ensures in
+    first_asks _ _ _ _ n.requires.0.placing n.requires.1 _ _ _ e.1 e.2 e.0 _ _ a.page_start-at.ensures.0
+    w.page_words.ensures.0
 
-aim_block_requires : tie.Need-aim-block-requires
+aim_block_requires : tie.Need-aim_block-requires
 aim_block_requires c κs =
     let y = ready c in
     let w = placed y in
     let a = w.before in
     let t = taken a in
     let n = call t in
-    let e = t.take-page.ensures in
-    aim_asks _ _ _ _ n.pre.0.placing n.pre.1 _ _ _ e.1 e.2 e.0 _ _ a.page_start.ensures.0
-    w.page-words.ensures.0 _ y.write-first.ensures n.pre.2
+    let e = t.take_page-g.ensures in
+    aim_asks _ _ _ _ n.requires.0.placing n.requires.1 _ _ _ e.1 e.2 e.0 _ _ a.page_start-at.ensures.0
+    w.page_words.ensures.0 _ y.write_first.ensures n.requires.2
 
 returns : tie.Need-returns
 returns c =
@@ -78,16 +78,16 @@ returns c =
     let a = w.before in
     let t = taken a in
     let n = call t in
-    let e = t.take-page.ensures in (
-      (aim_done _ _ _ _ n.pre.0.placing n.pre.1 _ _ _ e.1 e.2 e.0 _ _ a.page_start.ensures.0
-          w.page-words.ensures.0 _ y.write-first.ensures _ x.aim-block.ensures).0,
+    let e = t.take_page-g.ensures in (
+      (aim_done _ _ _ _ n.requires.0.placing n.requires.1 _ _ _ e.1 e.2 e.0 _ _ a.page_start-at.ensures.0
+          w.page_words.ensures.0 _ y.write_first.ensures _ x.aim_block.ensures).0,
       λ d p.
-          (aim_done _ _ _ _ p n.pre.1 _ _ _ e.1 e.2 e.0 _ _ a.page_start.ensures.0 w.page-words.ensures.0 _
-          y.write-first.ensures _ x.aim-block.ensures).1,
+          (aim_done _ _ _ _ p n.requires.1 _ _ _ e.1 e.2 e.0 _ _ a.page_start-at.ensures.0 w.page_words.ensures.0 _
+          y.write_first.ensures _ x.aim_block.ensures).1,
     )
 
-pub take-own-spec : {M : Type 1} → statement M
-take-own-spec =
+pub take_own_spec : {M : Type 1} → statement M
+take_own_spec =
     tie.close
     (tie.spec take_page_requires page_start_requires page_words_requires (λ c. search rules) (λ c. search rules) (λ c. search rules)
     (λ c. search rules) inside write_first_requires aim_block_requires (λ c. search rules) returns)

@@ -13,13 +13,13 @@ returns c =
     let at = w.before in
     let start = at.before.before.before.before in
     let a = start.args in
-    node_released a.store.now a.head start.requires.0 a.n at.node_start.result w.node-words.result blank.blank-block.new.0
-    name.name-released.new.0 at.node_start.ensures.0 w.node-words.ensures.0
-    (omega (arith, at.node_start.ensures.0, w.node-words.ensures.0, start.requires.3)) blank.blank-block.ensures
-    name.name-released.ensures
+    node_released a.store.now a.head start.requires.0 a.n at.node_start-at.result w.node_words.result blank.blank_block.new.part
+    name.name_released.new.store at.node_start-at.ensures.0 w.node_words.ensures.0
+    (omega (arith, at.node_start-at.ensures.0, w.node_words.ensures.0, start.requires.3)) blank.blank_block.ensures
+    name.name_released.ensures
 
-pub release-node-spec : {M : Type 1} → statement M
-release-node-spec =
+pub release_node_spec : {M : Type 1} → statement M
+release_node_spec =
     tie.close
     (tie.spec (λ c. search rules) (λ c. search rules) (λ c κs. search rules) (λ c κs. search rules) (λ c. search rules) (λ c. search rules)
     (λ c. search rules) (λ c. search rules) (λ c. search rules) (λ c κs. search rules) (λ c. search rules) (λ c κs. search rules)
