@@ -8,7 +8,7 @@ use Rattle.apply.proofs.PlanLaws.{sizes, bounds, few, pages_fit, nodes_fit, page
 use Rattle.apply.proofs.carry_out.Statement.{statement}
 use Rattle.apply.proofs.carry_out.Tie as tie
 
-write_kept_requires : tie.Need-write-kept-requires
+write_kept_requires : tie.Need-write_kept-requires
 write_kept_requires c κs =
     let start = c.before.before.before.before.before.before.before in
     let r = start.requires in
@@ -24,15 +24,15 @@ write_kept_requires c κs =
       back_ready _ _ _ _ _ _ _ _ _ r,
     )
 
-release_both_requires : tie.Need-release-both-requires
+release_both_requires : tie.Need-release_both-requires
 release_both_requires c κs =
     let kept = c.before.before.before in
     let start = kept.before.before.before.before.before.before.before.before in
     let r = start.requires in
     let b = bounds _ _ _ _ _ _ _ _ _ r in
-    let z = then_ready _ _ _ _ _ _ _ _ _ r kept.write_kept.new.0 kept.write_kept.ensures in
+    let z = then_ready _ _ _ _ _ _ _ _ _ r kept.write_kept.new.store kept.write_kept.ensures in
     let n = few _ _ _ _ _ _ _ _ _ r in
-    let long = kept.write_kept.auto.0 in (
+    let long = kept.write_kept.auto.store in (
       z.0,
       b.0,
       b.1,
@@ -46,26 +46,26 @@ release_both_requires c κs =
       λ i h. omega (arith, long, nodes_fit _ _ _ _ _ _ _ _ _ r i h),
     )
 
-sub_top : tie.Need-overflow-sub-top
+sub_top : tie.Need-overflow_sub-top
 sub_top c =
-    let r = c.before.before.before.before.before.before.before.before.before.before.before.before.before.before.before.requires in
-    omega (arith, r.some, c.to-index.ensures.0)
+    let r = c.requires in
+    omega (arith, r.some, c.to_index-top.ensures.0)
 
-shared_slice_read_name_root : tie.Need-shared-slice-read-name-root
+shared_slice_read_name_root : tie.Need-bounds-numbers-top
 shared_slice_read_name_root c =
     let i = c.before.before in
-    let r = i.before.before.before.before.before.before.before.before.before.before.before.before.before.before.before.requires in
+    let r = i.requires in
     let one = r.some in
     let long = r.numbers_long in
-    let e = i.to-index.ensures.0 in
+    let e = i.to_index-top.ensures.0 in
     search rules
 
-name_root_requires : tie.Need-name-root-requires
+name_root_requires : tie.Need-name_root-requires
 name_root_requires c κs =
     let both = c.before.before.before.before.before in
     let kept = both.before.before.before.before in
-    let r = kept.before.before.before.before.before.before.before.before.requires in
-    omega (arith, (bounds _ _ _ _ _ _ _ _ _ r).3, kept.write_kept.auto.0, both.release-both.auto.0)
+    let r = kept.requires in
+    omega (arith, (bounds _ _ _ _ _ _ _ _ _ r).3, kept.write_kept.auto.store, both.release_both.auto.store)
 
 returns : tie.Need-returns
 returns c p d k =
@@ -77,12 +77,12 @@ returns c p d k =
     let a = start.args in
     let r = start.requires in
     all_here a.f a.store.now a.head a.o a.items.now a.numbers.now a.blocks.now a.pages.now a.nodes.now r p d k
-    kept.write_kept.new.0 both.release-both.new.0 name.name-root.new.0 (word a.numbers.now (i.to-index.result - 1))
+    kept.write_kept.new.store both.release_both.new.store name.name_root.new.store (word a.numbers.now (i.to_index-top.result - 1))
     (kept.write_kept.ensures p.items (image_here _ _ _ _ _ _ _ _ _ r p d k) ∙ kept_here _ _ _ _ _ _ _ _ _ r p d k)
-    both.release-both.ensures (ap (λ n. word a.numbers.now (n - 1)) i.to-index.ensures.0) name.name-root.ensures
+    both.release_both.ensures (ap (λ n. word a.numbers.now (n - 1)) i.to_index-top.ensures.0) name.name_root.ensures
 
-pub carry-out-spec : {M : Type 1} → statement M
-carry-out-spec =
+pub carry_out_spec : {M : Type 1} → statement M
+carry_out_spec =
     tie.close
     (tie.spec write_kept_requires release_both_requires (λ c κs. search rules) sub_top (λ c. search rules) shared_slice_read_name_root
     name_root_requires (λ c. search rules) returns)

@@ -5,10 +5,10 @@ use Rattle.apply.proofs.PlanLaws.{both_is}
 use Rattle.apply.proofs.release_both.Statement.{statement}
 use Rattle.apply.proofs.release_both.Tie as tie
 
-release_pages_requires : tie.Need-release-pages-requires
+release_pages_requires : tie.Need-release_pages-requires
 release_pages_requires c κs =
-    let p = c.before.before.before.before.before.requires in
-    let e = c.to-index.ensures.0 in (
+    let p = c.requires in
+    let e = c.to_index.ensures.0 in (
       p.0,
       p.1,
       p.2,
@@ -19,13 +19,13 @@ release_pages_requires c κs =
       λ i h. p.9 i (omega (arith, e, h)),
     )
 
-release_nodes_requires : tie.Need-release-nodes-requires
+release_nodes_requires : tie.Need-release_nodes-requires
 release_nodes_requires c κs =
     let pg = c.before.before.before.before in
-    let p = pg.before.before.before.before.before.before.requires in
-    let q = pg.release-pages.ensures in
-    let long = pg.release-pages.auto.0 in
-    let e = c.to-index2.ensures.0 in (
+    let p = pg.requires in
+    let q = pg.release_pages.ensures in
+    let long = pg.release_pages.auto.store in
+    let e = c.to_index-2.ensures.0 in (
       q.1,
       p.1,
       omega (arith, long, p.4),
@@ -38,12 +38,12 @@ returns : tie.Need-returns
 returns c =
     let nd = c.before.before in
     let pg = nd.before.before.before.before.before in
-    let a = pg.before.before.before.before.before.before.args in
-    both_is a.f a.store.now pg.release-pages.new.0 nd.release-nodes.new.0 a.pages.now a.nodes.now a.o.pages a.o.nodes
-    pg.before.to-index.result nd.before.to-index2.result pg.before.to-index.ensures.0 nd.before.to-index2.ensures.0
-    pg.release-pages.ensures.0 nd.release-nodes.ensures
+    let a = pg.args in
+    both_is a.f a.store.now pg.release_pages.new.store nd.release_nodes.new.store a.pages.now a.nodes.now a.o.pages a.o.nodes
+    pg.to_index.result nd.to_index-2.result pg.to_index.ensures.0 nd.to_index-2.ensures.0
+    pg.release_pages.ensures.0 nd.release_nodes.ensures
 
-pub release-both-spec : {M : Type 1} → statement M
-release-both-spec =
+pub release_both_spec : {M : Type 1} → statement M
+release_both_spec =
     tie.close
     (tie.spec (λ c κs. search rules) release_pages_requires (λ c κs. search rules) release_nodes_requires (λ c. search rules) returns)

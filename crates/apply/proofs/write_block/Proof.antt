@@ -13,12 +13,12 @@ returns c =
     let w = call.before.before.before in
     let start = w.before.before.before in
     let a = start.args in
-    call.put-block.ensures
+    call.put_block.ensures
     ∙ node_put_is a.store.now a.head start.requires.0 a.n _
-    ∙ ap (put_node a.store.now a.n) (part_lent a.blocks.now a.at w.node-words.result _ w.node-words.ensures.0 start.requires.3)
+    ∙ ap (put_node a.store.now a.n) (part_lent a.blocks.now a.at w.node_words.result _ w.node_words.ensures.0 start.requires.3)
 
-pub write-block-spec : {M : Type 1} → statement M
-write-block-spec =
+pub write_block_spec : {M : Type 1} → statement M
+write_block_spec =
     tie.close
     (tie.spec (λ c κs. search rules) (λ c. search rules) (λ c. search rules) (λ c. search rules) (λ c. search rules) (λ c. search rules)
     (λ c κs. search rules) (λ c. search rules) returns)

@@ -4,11 +4,11 @@ use Rattle.siblings.proofs.TurnLaws.{any_level, first_level}
 use Rattle.siblings.proofs.may_join.Statement.{statement}
 use Rattle.siblings.proofs.may_join.Tie as tie
 
-returns : tie.Need-returns
-returns c = any_level _ _ _ _ _ _ _ _ c.if1.true
+returns : tie.Need-returns-then-level-ne1
+returns c = any_level _ _ _ _ _ _ _ _ c.if-level-ne1.true
 
-returns_2 : tie.Need-returns-2
-returns_2 c = first_level _ _ _ _ _ _ _ _ c.before.if1.false c.links_ok.ensures
+returns_2 : tie.Need-returns
+returns_2 c = first_level _ _ _ _ _ _ _ _ c.if-level-ne1.false c.links_ok.ensures
 
-pub may-join-spec : {M : Type 1} → statement M
-may-join-spec = tie.close (tie.spec returns (λ c κs. search rules) returns_2)
+pub may_join_spec : {M : Type 1} → statement M
+may_join_spec = tie.close (tie.spec returns (λ c κs. search rules) returns_2)
