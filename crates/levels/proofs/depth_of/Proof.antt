@@ -8,14 +8,14 @@ use Rattle.levels.proofs.RootLaws.{depth_carried, depth_stays}
 use Rattle.levels.proofs.depth_of.Statement.{statement}
 use Rattle.levels.proofs.depth_of.Tie as tie
 
-returns : tie.Need-returns
+returns : tie.Need-returns-then-l-changed
 returns c =
     let s = c.before.before.before.before.before.before in
-    let e = c.before.before.to-index.ensures.0 in
+    let e = c.to_index-i.ensures.0 in
     λ x y. c.word.ensures ∙ ap (λ i. word s.args.blocks.now (132 * i)) e
-    ∙ depth_carried _ _ _ _ _ _ x s.requires.1 s.requires.2 c.before.if1.true y
+    ∙ depth_carried _ _ _ _ _ _ x s.requires.1 s.requires.2 c.if-l-changed.true y
 
-returns_2 : tie.Need-returns-2
+returns_2 : tie.Need-returns
 returns_2 c =
     let n = c.before in
     let w = n.before in
@@ -23,12 +23,12 @@ returns_2 c =
     let i = e.before in
     let s = i.before.before.before.before in
     let a = s.args in
-    let high : a.changed ≤ a.l = omega (arith, e.if1.false) in
-    λ x y. c.word3.ensures ∙ ap (word a.store.now) n.node_start.ensures.0
-    ∙ ap (λ m. word a.store.now (node_start a.head m)) (w.word2.ensures ∙ ap (word a.numbers.now) i.to-index.ensures.0)
+    let high : a.changed ≤ a.l = omega (arith, e.if-l-changed.false) in
+    λ x y. c.word-3.ensures ∙ ap (word a.store.now) n.node_start.ensures.0
+    ∙ ap (λ m. word a.store.now (node_start a.head m)) (w.word-2.ensures ∙ ap (word a.numbers.now) i.to_index-i.ensures.0)
     ∙ depth_stays _ _ _ _ _ _ x s.requires.0 high (s.requires.3 _ high (omega arith)) y
 
-pub depth-of-spec : {M : Type 1} → statement M
-depth-of-spec =
+pub depth_of_spec : {M : Type 1} → statement M
+depth_of_spec =
     tie.close
     (tie.spec (λ c κs. search rules) (λ c. search rules) (λ c κs. search rules) returns (λ c κs. search rules) (λ c κs. search rules) (λ c κs. search rules) returns_2)

@@ -6,5 +6,5 @@ use Rattle.levels.proofs.lowest.Tie as tie
 returns : tie.Need-returns
 returns c = refl
 
-pub lowest-spec : {M : Type 1} → statement M
-lowest-spec = tie.close (tie.spec returns)
+pub lowest_spec : {M : Type 1} → statement M
+lowest_spec = tie.close (tie.spec returns)
