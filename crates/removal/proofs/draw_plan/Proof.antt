@@ -7,21 +7,21 @@ use Rattle.removal.proofs.PlanLaws.{blank_long}
 use Rattle.removal.proofs.draw_plan.Statement.{statement}
 use Rattle.removal.proofs.draw_plan.Tie as tie
 
-draw_over_requires : tie.Need-draw-over-requires
+draw_over_requires : tie.Need-draw_over-requires
 draw_over_requires c κs =
     let t = c.before.before.before.before.before.before in
-    let p = t.before.before.before.before.before.before.before.before.requires in
-    (p.0, p.1, p.2, p.3, p.4, p.5, p.6, p.7, omega (arith, t.if1.true, blank_long 1025), clear_zeros 1025)
+    let p = t.requires in
+    (p.0, p.1, p.2, p.3, p.4, p.5, p.6, p.7, omega (arith, t.if-head-le1024.true, blank_long 1025), clear_zeros 1025)
 
-draw_over_requires_2 : tie.Need-draw-over-requires-2
+draw_over_requires_2 : tie.Need-draw_over-requires-2
 draw_over_requires_2 c κs =
     let t = c.before.before.before.before.before.before in
-    let p = t.before.before.before.before.before.before.before.before.requires in
+    let p = t.requires in
     (p.0, p.1, p.2, p.3, p.4, p.5, p.6, p.7, omega (arith, (under_node p.0.under).1, blank_long 4097), clear_zeros 4097)
 
-pub draw-plan-spec : {M : Type 1} → statement M
-draw-plan-spec =
+pub draw_plan_spec : {M : Type 1} → statement M
+draw_plan_spec =
     tie.close
     (tie.spec (λ c. search rules) draw_over_requires (λ c. search rules) (λ c. search rules) (λ c. search rules) (λ c. search rules) (λ c. search rules)
-    (λ c. c.before.before.before.before.before.before.before.before.before.before.before.draw-over.ensures) (λ c. search rules) draw_over_requires_2 (λ c. search rules) (λ c. search rules) (λ c. search rules) (λ c. search rules)
-    (λ c. search rules) (λ c. c.before.before.before.before.before.before.before.before.before.before.before.draw-over2.ensures))
+    (λ c. c.draw_over.ensures) (λ c. search rules) draw_over_requires_2 (λ c. search rules) (λ c. search rules) (λ c. search rules) (λ c. search rules)
+    (λ c. search rules) (λ c. c.draw_over-2.ensures))
