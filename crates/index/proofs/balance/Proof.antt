@@ -6,5 +6,5 @@ use Rattle.index.proofs.balance.Tie as tie
 returns : tie.Need-returns
 returns c = c.balance.ensures
 
-pub balance-spec : {M : Type 1} → statement M
-balance-spec = tie.close (tie.spec (λ c κs. search rules) returns)
+pub balance_spec : {M : Type 1} → statement M
+balance_spec = tie.close (tie.spec (λ c κs. search rules) returns)

@@ -16,32 +16,32 @@ use Rattle.index.proofs.enter.Tie as tie
 -- the record as an item
 abbrev item : tie.After-widen → Item
 item c =
-    let r = c.before.before.args.«record» in
+    let r = c.args.«record» in
     record { key = c.widen.result; price = r.price; lease = r.lease; last = r.last }
 
-item_is : (c : tie.After-widen) → item c ≡ item_of c.before.before.args.«record»
+item_is : (c : tie.After-widen) → item c ≡ item_of c.args.«record»
 item_is c =
-    let r = c.before.before.args.«record» in
+    let r = c.args.«record» in
     ap (λ k. record { key = k; price = r.price; lease = r.lease; last = r.last }) c.widen.ensures.0
 
 enter_requires : tie.Need-enter-requires
 unfolding width
-enter_requires c κs = c.before.widen.ensures.1
+enter_requires c κs = c.widen.ensures.1
 
-entered_of_requires : tie.Need-entered-of-requires
+entered_of_requires : tie.Need-entered_of-requires
 entered_of_requires c κs =
     let e = c.before.before in
     let w = e.before.before in
-    let low : (enter_of Plots w.before.before.args.store.now (item w)).reply.key < 2 ^ 32 =
-    omega (arith, replied_key Plots w.before.before.args.store.now (item w), w.widen.ensures.1) in
+    let low : (enter_of Plots w.args.store.now (item w)).reply.key < 2 ^ 32 =
+    omega (arith, replied_key Plots w.args.store.now (item w), w.widen.ensures.1) in
     subst (λ (r : Reply). r.key < 2 ^ 32) (sym e.enter.ensures.0) low
 
 returns : tie.Need-returns
 returns c =
     let e = c.before.before.before in
     let w = e.before.before in
-    let s = w.before.before.args.store.now in (
-      c.Entered-of.ensures ∙ e.enter.ensures.0 ∙ ap (λ it. (enter_of Plots s it).reply) (item_is w),
+    let s = w.args.store.now in (
+      c.entered_of.ensures ∙ e.enter.ensures.0 ∙ ap (λ it. (enter_of Plots s it).reply) (item_is w),
       e.enter.ensures.1 ∙ ap (λ it. (enter_of Plots s it).words) (item_is w),
     )
 

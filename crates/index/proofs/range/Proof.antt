@@ -15,16 +15,16 @@ narrow e l h = omega (arith, ap (λ (r : RangeReply). r.more) e)
 replied : {a r q : RangeReply} {t u : List ℕ} → a ≡ r → (r ≡ q) × (t ≡ u) → (a ≡ q) × (t ≡ u)
 replied e p = (e ∙ p.0, p.1)
 
-listed_of_requires : tie.Need-listed-of-requires
+listed_of_requires : tie.Need-listed_of-requires
 listed_of_requires c κs =
-    narrow c.before.before.range.ensures.0 (range_more _ _ _ _ _) c.before.before.before.before.widen2.ensures.1
+    narrow c.range.ensures.0 (range_more _ _ _ _ _) c.widen-2.ensures.1
 
 returns : tie.Need-returns
 returns c =
     let w = c.before.before.before.before.before in
-    replied c.Listed-of.ensures
-    (rw (w.before.widen.ensures.0, w.widen2.ensures.0) at c.before.before.before.range.ensures)
+    replied c.listed_of.ensures
+    (rw (w.widen.ensures.0, w.widen-2.ensures.0) at c.range.ensures)
 
-pub range-spec : {M : Type 1} → statement M
-range-spec =
+pub range_spec : {M : Type 1} → statement M
+range_spec =
     tie.close (tie.spec (λ c κs. search rules) (λ c κs. search rules) (λ c κs. search rules) listed_of_requires (λ c. search rules) returns)

@@ -7,5 +7,5 @@ use Rattle.index.proofs.record_of.Tie as tie
 returns : tie.Need-returns
 returns c = refl
 
-pub record-of-spec : {M : Type 1} → statement M
-record-of-spec = tie.close (tie.spec (λ c. search rules) returns)
+pub record_of_spec : {M : Type 1} → statement M
+record_of_spec = tie.close (tie.spec (λ c. search rules) returns)

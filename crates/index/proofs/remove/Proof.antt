@@ -14,7 +14,7 @@ remove_requires : tie.Need-remove-requires
 unfolding width
 remove_requires c κs = c.widen.ensures.1
 
-found_of_requires : tie.Need-found-of-requires
+found_of_requires : tie.Need-found_of-requires
 unfolding width
 found_of_requires c κs =
     let e = c.before.before in
@@ -24,10 +24,10 @@ returns : tie.Need-returns
 returns c =
     let e = c.before.before.before in
     let w = e.before in
-    let s = w.before.before.before.args.store.now in (
+    let s = w.args.store.now in (
       c.found_of.ensures ∙ e.remove.ensures.0 ∙ ap (λ k. (remove_of Plots s k).reply) w.widen.ensures.0,
       e.remove.ensures.1 ∙ ap (λ k. (remove_of Plots s k).words) w.widen.ensures.0,
     )
 
-pub remove-spec : {M : Type 1} → statement M
-remove-spec = tie.close (tie.spec (λ c κs. search rules) remove_requires found_of_requires (λ c. search rules) returns)
+pub remove_spec : {M : Type 1} → statement M
+remove_spec = tie.close (tie.spec (λ c κs. search rules) remove_requires found_of_requires (λ c. search rules) returns)

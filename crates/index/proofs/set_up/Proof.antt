@@ -4,7 +4,7 @@ use Rattle.index.proofs.set_up.Statement.{statement}
 use Rattle.index.proofs.set_up.Tie as tie
 
 returns : tie.Need-returns
-returns c = c.before.before.set-up.ensures
+returns c = c.set_up.ensures
 
-pub set-up-spec : {M : Type 1} → statement M
-set-up-spec = tie.close (tie.spec (λ c κs. search rules) (λ c. search rules) returns)
+pub set_up_spec : {M : Type 1} → statement M
+set_up_spec = tie.close (tie.spec (λ c κs. search rules) (λ c. search rules) returns)
