@@ -1,5 +1,5 @@
 /* The sample of the scope paper through the library, and the other operations once each. It must print c/sample.out:
- *   rt staticlib exports
+ *   rust/library
  *   gcc -std=c11 -Wall -Wextra -Werror -Iinclude c/sample.c target/staticlib/libexports.a -o target/sample
  *   target/sample | diff - c/sample.out
  */

@@ -1,4 +1,4 @@
-/* The plot index. Link with libexports.a (`rt staticlib exports`, x86-64 Linux).
+/* The plot index. Link with target/staticlib/libexports.a (`rust/library` builds it, x86-64 Linux).
  *
  * A slice is a pointer and then its number of words. Its pointer is never null, also where that number is 0, and it stands at a multiple
  * of the word's bytes. The slices of one call do not overlap. Nothing is kept after a call, and no memory is taken.

@@ -21,6 +21,6 @@ fn main() {
 
 fn missing(archive: &Path) -> ! {
     eprintln!("The proved library is not at {}.", archive.display());
-    eprintln!("Build it with `rt staticlib exports` in the root of the repository, or set PLOTS_LIB to its directory.");
+    eprintln!("Build it with `rust/library` in the root of the repository, or set PLOTS_LIB to its directory.");
     process::exit(1)
 }

@@ -13,7 +13,6 @@ use lib.Signed.{le_z}
 use lib.ListN.{length, take, drop, replicate, length-append, length-take}
 use lib.Seq.{drop-drop, drop-length}
 use borrow.Author.Tests.{ltb-true, ltb-false, lt-ltb, le-ltb, le-leb, leb-true, leb-false}
-use Rattle.io.specs.Counts.{clamp_len}
 use Rattle.desk.specs.declared.Desk.{Desk}
 use Rattle.desk.specs.declared.Listing.{Listing}
 use Rattle.desk.specs.declared.Progress.{Progress}
@@ -22,7 +21,7 @@ use Rattle.desk.specs.Transcript.{Served, ending, store_words, transcript}
 use Rattle.desk.specs.Serving.{line_of, rest_of, Serves, Finishes, Run, over, call, finished}
 use Rattle.desk.proofs.ServeLaws.{part_from, part_long_lem}
 use Rattle.desk.proofs.Delivery.{delivered, end_put}
-use Rattle.counter.specs.Program.{came, failed, Whole, Answered, most_reads, joined, Ran}
+use Rattle.counter.specs.Program.{clamp_len, came, failed, Whole, Answered, most_reads, joined, Ran}
 
 -- runs, one after another
 pub run_then : {s : List ℕ} {d : Desk} {is xs t : List ℕ} {e : Desk} {bs ys u : List ℕ} {f : Desk} → Run s d is xs t e → Run t e bs ys u f

@@ -1,5 +1,6 @@
 -- What the counter program does between reads and writes.
 --   came got, failed got == a read's answer says that bytes came; that it failed
+--   clamp_len got most   == a read's answer brought into 0 .. most
 --   Whole s d input t e  == calls of serve take the whole input, and leave no listing open
 --   Told t               == the program goes on where bytes came and were answered; all is well where no read and no write failed
 --   Answered s e input bytes == calls of serve, from a store of zeros and an empty desk on, took the whole input and put the bytes; they left the
@@ -8,7 +9,7 @@
 --   joined chunks        == the chunks, one after another
 --   Ran s e ok last left == chunks, one for each read, are answered so, and so many reads are left to make; where all is well, the bytes
 --                           put, and then the last reply, are the transcript of the chunks
-use Rattle.std.specs.Prelude.{◌≡◌, Bool, true, false, not, ◌&&◌, List, [], ◌∷◌, ◌++◌, ℕ, ◌+◌, ltb, ℤ, pos, negsuc, length, replicate}
+use Rattle.std.specs.Prelude.{◌≡◌, Bool, true, false, not, ◌&&◌, List, [], ◌∷◌, ◌++◌, ℕ, ◌+◌, ltb, ℤ, pos, negsuc, min, length, replicate}
 use Rattle.desk.specs.declared.Desk.{Desk}
 use Rattle.desk.specs.Listing.{no_listing}
 use Rattle.desk.specs.Transcript.{store_words, transcript}
@@ -22,6 +23,10 @@ came (negsuc n) = false
 unfoldable pub failed : ℤ → Bool
 failed (pos n) = false
 failed (negsuc n) = true
+
+abbrev pub clamp_len : ℤ → ℕ → ℕ
+clamp_len (pos k) most = min k most
+clamp_len (negsuc k) most = 0
 
 abbrev pub Whole : List ℕ → Desk → List ℕ → List ℕ → Desk → Type 0
 Whole s d input t e = (bytes : List ℕ) × Run s d input bytes t e × (e.listing.active ≡ false)

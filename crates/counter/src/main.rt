@@ -1,17 +1,20 @@
 // The counter program: requests on standard input, replies on standard output, over a store of 8,192 words. What it writes is crate
 // desk's transcript; here bytes are only moved.
 ghost use Rattle.std.specs.Prelude.{◌≡◌, true, false, ◌-◌, ◌≤◌, ltb, length, take, replicate};
-ghost use Rattle.io.specs.Counts.{clamp_len};
 ghost use Rattle.desk.specs.Listing.{part_bytes};
 ghost use Rattle.desk.specs.Transcript.{ending, store_words};
 ghost use Rattle.desk.specs.Serving.{line_of, Serves, Finishes};
-ghost use Rattle.counter.specs.Program.{Whole, Told, Ran};
+ghost use Rattle.counter.specs.Program.{clamp_len, Whole, Told, Ran};
 
 use desk::Desk;
-use libc::{STDERR_FILENO, STDIN_FILENO, STDOUT_FILENO};
+use std::io::{Read, Write};
+use std::process::ExitCode;
 
 // The store's words.
 pub const STORE_WORDS: usize = 8192;
+
+// The bytes of a read, and of a write.
+const BUFFER_BYTES: usize = 65536;
 
 // How far input is served: the bytes taken, the bytes put, whether their write went well, and whether the output had no room for a part,
 // so that more may be left.
@@ -57,14 +60,20 @@ pub struct End {
 }
 
 // Hands the first n bytes of the output on, and says whether all were written.
-fn hand_on(out: &[u8], n: usize) -> bool
+fn hand_on<W: Write>(writer: &mut W, out: &[u8], n: usize) -> bool
     requires { n ≤ length out.now }
 {
-    io::write_all(STDOUT_FILENO, &out[..n])
+    writer.write_all(&out[..n]).is_ok()
 }
 
 // Serves input as far as the output has room, and hands the replies on.
-fn serve_once(store: &mut [u32], d: Desk, input: &[u8], out: &mut [u8]) -> Step
+fn serve_once<W: Write>(
+    writer: &mut W,
+    store: &mut [u32],
+    d: Desk,
+    input: &[u8],
+    out: &mut [u8],
+) -> Step
     ensures { Serves store.old d input.now out.old store.new out.new
         (record { desk = result.desk; taken = result.taken; put = result.put })
         × Finishes input.now out.old (record { desk = result.desk; taken = result.taken; put = result.put })
@@ -73,7 +82,7 @@ fn serve_once(store: &mut [u32], d: Desk, input: &[u8], out: &mut [u8]) -> Step
     let p = desk::serve(store, d, input, out);
     let put = p.put;
     let desk = p.desk;
-    let ok = hand_on(out, put);
+    let ok = hand_on(writer, out, put);
     Step {
         desk,
         taken: p.taken,
@@ -84,7 +93,13 @@ fn serve_once(store: &mut [u32], d: Desk, input: &[u8], out: &mut [u8]) -> Step
 }
 
 // Serves a chunk: its replies go out in one write, or in several where the output has no room for all.
-fn serve_chunk(store: &mut [u32], d: Desk, input: &[u8], out: &mut [u8]) -> Chunk
+fn serve_chunk<W: Write>(
+    writer: &mut W,
+    store: &mut [u32],
+    d: Desk,
+    input: &[u8],
+    out: &mut [u8],
+) -> Chunk
     requires { part_bytes ≤ length out.old }
     ensures { result.ok ≡ true → Whole store.old d input.now store.new result.desk }
 {
@@ -98,20 +113,47 @@ fn serve_chunk(store: &mut [u32], d: Desk, input: &[u8], out: &mut [u8]) -> Chun
     let mut from: usize = 0;
     while s.ok && s.left {
         let desk = s.desk;
-        s = serve_once(store, desk, &input[from..], out);
+        s = serve_once(writer, store, desk, &input[from..], out);
         from += s.taken;
     }
     let desk = s.desk;
     Chunk { desk, ok: s.ok }
 }
 
+// Reads once: how many bytes came, or -1 where the read failed.
+fn read_some<R: Read>(reader: &mut R, input: &mut [u8]) -> isize {
+    match reader.read(input) {
+        Ok(n) => n as isize,
+        Err(_) => -1,
+    }
+}
+
+// What a read answered as a number of the input's bytes: 0 where it failed.
+fn count(got: isize, input: &[u8]) -> usize
+    ensures within { result ≤ length input.now }
+    ensures value { result ≡ clamp_len got (length input.now) }
+{
+    if got <= 0 {
+        return 0;
+    }
+    let n = got as usize;
+    if n < input.len() { n } else { input.len() }
+}
+
 // Reads once, and serves what was read.
-fn read_once(store: &mut [u32], d: Desk, input: &mut [u8], out: &mut [u8]) -> Turn
+fn read_once<R: Read, W: Write>(
+    reader: &mut R,
+    writer: &mut W,
+    store: &mut [u32],
+    d: Desk,
+    input: &mut [u8],
+    out: &mut [u8],
+) -> Turn
     requires { (part_bytes ≤ length out.old) × (d.listing.active ≡ false) }
     ensures { Told result × (result.wrote ≡ true
         → Whole store.old d (take (clamp_len result.got (length input.new)) input.new) store.new result.desk) }
 {
-    let got = libc::read(STDIN_FILENO, input);
+    let got = read_some(reader, input);
     if got <= 0 {
         return Turn {
             desk: d,
@@ -121,8 +163,8 @@ fn read_once(store: &mut [u32], d: Desk, input: &mut [u8], out: &mut [u8]) -> Tu
             ok: got >= 0,
         };
     }
-    let n = io::count(got, input);
-    let c = serve_chunk(store, d, &input[..n], out);
+    let n = count(got, input);
+    let c = serve_chunk(writer, store, d, &input[..n], out);
     let desk = c.desk;
     Turn {
         desk,
@@ -134,18 +176,24 @@ fn read_once(store: &mut [u32], d: Desk, input: &mut [u8], out: &mut [u8]) -> Tu
 }
 
 // Puts the reply to bytes after the last 0A, and hands it on.
-fn end_line(d: Desk, out: &mut [u8]) -> Last
+fn end_line<W: Write>(writer: &mut W, d: Desk, out: &mut [u8]) -> Last
     requires { part_bytes ≤ length out.old }
     ensures { take result.put out.new ≡ ending (line_of d) }
 {
     let put = desk::finish(d, out);
-    let wrote = hand_on(out, put);
+    let wrote = hand_on(writer, out, put);
     Last { put, wrote }
 }
 
 // Reads to the end of the input, or until a read or a write fails. A proved loop has to end, so it counts its turns down, from a number
 // that no run uses up.
-fn run(store: &mut [u32], input: &mut [u8], out: &mut [u8]) -> End
+fn run<R: Read, W: Write>(
+    reader: &mut R,
+    writer: &mut W,
+    store: &mut [u32],
+    input: &mut [u8],
+    out: &mut [u8],
+) -> End
     requires { (store.old ≡ replicate store_words 0) × (part_bytes ≤ length out.old) }
     ensures { Told result.turn × (result.turn.more ≡ true → result.turns ≡ 0)
         × (result.turn.wrote ≡ true → Ran store.new result.turn.desk result.turn.ok (take result.last.put out.new) result.turns) }
@@ -160,7 +208,7 @@ fn run(store: &mut [u32], input: &mut [u8], out: &mut [u8]) -> End
     let mut turns = u64::MAX;
     while turns > 0 && t.more {
         let desk = t.desk;
-        t = read_once(store, desk, input, out);
+        t = read_once(reader, writer, store, desk, input, out);
         turns -= 1;
     }
     if !t.ok {
@@ -174,7 +222,7 @@ fn run(store: &mut [u32], input: &mut [u8], out: &mut [u8]) -> End
         };
     }
     let desk = t.desk;
-    let last = end_line(desk, out);
+    let last = end_line(writer, desk, out);
     End {
         turn: t,
         turns,
@@ -182,22 +230,31 @@ fn run(store: &mut [u32], input: &mut [u8], out: &mut [u8]) -> End
     }
 }
 
-// Tells on standard error that a read or a write failed.
-fn tell(read: bool, wrote: bool) {
+// Tells on standard error that a read or a write failed. Where that fails too, there is nobody left to tell.
+fn tell(rt: &impl Eprint, read: bool, wrote: bool) {
     if !read {
-        io::write_all(STDERR_FILENO, b"counter: reading failed\n");
+        let _ = eprintln!(rt; "counter: reading failed");
     }
     if !wrote {
-        io::write_all(STDERR_FILENO, b"counter: writing failed\n");
+        let _ = eprintln!(rt; "counter: writing failed");
     }
 }
 
-fn main() {
+fn main(rt: HostRuntime) -> ExitCode {
     let mut store = [0u32; STORE_WORDS];
-    let mut input = io::large_buffer();
-    let mut out = io::large_buffer();
-    let e = run(&mut store, &mut input, &mut out);
+    let mut input = [0u8; BUFFER_BYTES];
+    let mut out = [0u8; BUFFER_BYTES];
+    let mut reader = rt.stdin();
+    let mut writer = rt.stdout();
+    let e = run(&mut reader, &mut writer, &mut store, &mut input, &mut out);
     let t = e.turn;
     let last = e.last;
-    tell(t.got >= 0, t.wrote && last.wrote);
+    let read = t.got >= 0;
+    let wrote = t.wrote && last.wrote;
+    tell(&rt, read, wrote);
+    if read && wrote {
+        ExitCode::SUCCESS
+    } else {
+        ExitCode::FAILURE
+    }
 }

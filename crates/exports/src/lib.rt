@@ -1,5 +1,5 @@
 // The plot index for other languages: each public operation with numbers and slices only. A function returns the answer's number and
-// writes the answer's values into the lent slice `reply`, as far as they fit.
+// writes the answer's values into the lent slice `reply`, as far as they fit. Crate exports_c hands them to C under the same names.
 ghost use Rattle.std.specs.Prelude.{◌≡◌, set};
 ghost use Rattle.plot.specs.Money.{balance_reply};
 ghost use Rattle.plot.specs.Label.{key_reply, key_of_reply, label_reply, label_of_reply, convert_reply};
@@ -226,8 +226,7 @@ fn put_answer(reply: &mut [u64], answer: Answer) -> u32
 }
 
 // Sets a store up: refused with 4 or 5, or cleared and headed. Words beyond the size stay.
-#[unsafe(no_mangle)]
-pub extern "C" fn plots_set_up(
+pub fn plots_set_up(
     store: &mut [u32],
     theta: u32,
     capacity: u32,
@@ -246,8 +245,7 @@ pub extern "C" fn plots_set_up(
 }
 
 // Enters a record: refused with 3, 6, 9, 8 or 10 before any word of the store is written, or done.
-#[unsafe(no_mangle)]
-pub extern "C" fn plots_enter(
+pub fn plots_enter(
     store: &mut [u32],
     key: u32,
     price: u32,
@@ -269,8 +267,7 @@ pub extern "C" fn plots_enter(
 }
 
 // Removes the record with a key and gives it, or none: refused with 3 or 9 before any word of the store is written.
-#[unsafe(no_mangle)]
-pub extern "C" fn plots_remove(store: &mut [u32], key: u32, reply: &mut [u64]) -> u32
+pub fn plots_remove(store: &mut [u32], key: u32, reply: &mut [u64]) -> u32
     ensures { let a = remove_of Plots store.old key in
         (result ≡ a.reply.number) × (store.new ≡ a.words)
         × (reply.new ≡ filled (record_values a.reply) reply.old) }
@@ -279,8 +276,7 @@ pub extern "C" fn plots_remove(store: &mut [u32], key: u32, reply: &mut [u64]) -
 }
 
 // The record with a key, or none.
-#[unsafe(no_mangle)]
-pub extern "C" fn plots_find(store: &[u32], key: u32, reply: &mut [u64]) -> u32
+pub fn plots_find(store: &[u32], key: u32, reply: &mut [u64]) -> u32
     ensures { let a = find_reply Plots store.now key in
         (result ≡ a.number) × (reply.new ≡ filled (record_values a) reply.old) }
 {
@@ -288,8 +284,7 @@ pub extern "C" fn plots_find(store: &[u32], key: u32, reply: &mut [u64]) -> u32
 }
 
 // The record with the smallest key above the given one, or none.
-#[unsafe(no_mangle)]
-pub extern "C" fn plots_next(store: &[u32], key: u32, reply: &mut [u64]) -> u32
+pub fn plots_next(store: &[u32], key: u32, reply: &mut [u64]) -> u32
     ensures { let a = next_reply Plots store.now key in
         (result ≡ a.number) × (reply.new ≡ filled (record_values a) reply.old) }
 {
@@ -297,14 +292,7 @@ pub extern "C" fn plots_next(store: &[u32], key: u32, reply: &mut [u64]) -> u32
 }
 
 // Lists the records from low to high in the lent output: as many whole ones as fit.
-#[unsafe(no_mangle)]
-pub extern "C" fn plots_range(
-    store: &[u32],
-    low: u32,
-    high: u32,
-    out: &mut [u32],
-    reply: &mut [u64],
-) -> u32
+pub fn plots_range(store: &[u32], low: u32, high: u32, out: &mut [u32], reply: &mut [u64]) -> u32
     ensures { let a = range_of Plots store.now low high out.old in
         (result ≡ a.reply.number) × (out.new ≡ a.words)
         × (reply.new ≡ filled (range_values a.reply) reply.old) }
@@ -313,14 +301,7 @@ pub extern "C" fn plots_range(
 }
 
 // Counts the records from low to high, adds up their balances today, and names the earliest to end.
-#[unsafe(no_mangle)]
-pub extern "C" fn plots_summary(
-    store: &[u32],
-    low: u32,
-    high: u32,
-    today: u32,
-    reply: &mut [u64],
-) -> u32
+pub fn plots_summary(store: &[u32], low: u32, high: u32, today: u32, reply: &mut [u64]) -> u32
     ensures { let a = summary_of Plots store.now low high today in
         (result ≡ a.number) × (reply.new ≡ filled (summary_values a) reply.old) }
 {
@@ -331,14 +312,7 @@ pub extern "C" fn plots_summary(
 }
 
 // What is left of a price today.
-#[unsafe(no_mangle)]
-pub extern "C" fn plots_balance(
-    price: u32,
-    lease: u32,
-    last: u32,
-    today: u32,
-    reply: &mut [u64],
-) -> u32
+pub fn plots_balance(price: u32, lease: u32, last: u32, today: u32, reply: &mut [u64]) -> u32
     ensures { let a = balance_reply price lease last today in
         (result ≡ a.number) × (reply.new ≡ filled (balance_values a) reply.old) }
 {
@@ -349,14 +323,7 @@ pub extern "C" fn plots_balance(
 }
 
 // The key of a label.
-#[unsafe(no_mangle)]
-pub extern "C" fn plots_key_of(
-    section: u32,
-    row: u32,
-    place: u32,
-    letter: u32,
-    reply: &mut [u64],
-) -> u32
+pub fn plots_key_of(section: u32, row: u32, place: u32, letter: u32, reply: &mut [u64]) -> u32
     ensures { let a = key_of_reply (record { section = section; row = row; place = place; letter = letter }) in
         (result ≡ a.number) × (reply.new ≡ filled (key_values a) reply.old) }
 {
@@ -370,8 +337,7 @@ pub extern "C" fn plots_key_of(
 }
 
 // The label of a key.
-#[unsafe(no_mangle)]
-pub extern "C" fn plots_label_of(key: u32, reply: &mut [u64]) -> u32
+pub fn plots_label_of(key: u32, reply: &mut [u64]) -> u32
     ensures { let a = label_of_reply key in
         (result ≡ a.number) × (reply.new ≡ filled (label_values a) reply.old) }
 {
@@ -379,8 +345,7 @@ pub extern "C" fn plots_label_of(key: u32, reply: &mut [u64]) -> u32
 }
 
 // The key of a key of the old packing.
-#[unsafe(no_mangle)]
-pub extern "C" fn plots_convert(key: u32, reply: &mut [u64]) -> u32
+pub fn plots_convert(key: u32, reply: &mut [u64]) -> u32
     ensures { let a = convert_reply key in
         (result ≡ a.number) × (reply.new ≡ filled (key_values a) reply.old) }
 {

@@ -179,24 +179,30 @@ pub fn numbered(number: u32, got: Reply) -> Reply
 }
 
 // Makes a call and compares the number of its answer.
-pub fn answer(store: &mut [u32], call: Call, number: u32, tally: &mut [u64])
+pub fn answer(rt: &impl Print, store: &mut [u32], call: Call, number: u32, tally: &mut [u64])
     ensures { let q = answered_in (both store.old tally.old) call number in
         (store.new ≡ q.store) × (tally.new ≡ q.tally) }
 {
     let outcome = calls::watched_in(store, 64, call);
     let got = outcome.reply;
-    report::judge_outcome(tally, numbered(number, got), outcome);
+    report::judge_outcome(rt, tally, numbered(number, got), outcome);
 }
 
 // Makes the calls of a row at its key; enter comes last.
-fn answers(store: &mut [u32], rows: &[[u32; 10]], i: usize, tally: &mut [u64])
+fn answers(rt: &impl Print, store: &mut [u32], rows: &[[u32; 10]], i: usize, tally: &mut [u64])
     ensures { let q = answers_from rows.now i (both store.old tally.old) 0 5 in
         (store.new ≡ q.store) × (tally.new ≡ q.tally) }
 {
     let key = script::cell(rows, i, 4);
     let mut j: usize = 0;
     while j < 5 {
-        answer(store, call_at(key, j), script::cell(rows, i, 5 + j), tally);
+        answer(
+            rt,
+            store,
+            call_at(key, j),
+            script::cell(rows, i, 5 + j),
+            tally,
+        );
         j += 1;
     }
 }
@@ -214,47 +220,60 @@ fn break_word(store: &mut [u32], rows: &[[u32; 10]], i: usize)
 }
 
 // Breaks a word; with a key, tries the operations and makes the store sound again.
-fn break_row(sound: &[u32], store: &mut [u32], rows: &[[u32; 10]], i: usize, tally: &mut [u64])
+fn break_row(
+    rt: &impl Print,
+    sound: &[u32],
+    store: &mut [u32],
+    rows: &[[u32; 10]],
+    i: usize,
+    tally: &mut [u64],
+)
     ensures { let q = broken_row sound.now rows.now (both store.old tally.old) i in
         (store.new ≡ q.store) × (tally.new ≡ q.tally) }
 {
     break_word(store, rows, i);
     if script::cell(rows, i, 4) != 0 {
-        answers(store, rows, i, tally);
+        answers(rt, store, rows, i, tally);
         words::copy(sound, store, SIZE);
     }
 }
 
-fn break_rows(sound: &[u32], store: &mut [u32], rows: &[[u32; 10]], tally: &mut [u64])
+fn break_rows(
+    rt: &impl Print,
+    sound: &[u32],
+    store: &mut [u32],
+    rows: &[[u32; 10]],
+    tally: &mut [u64],
+)
     ensures { let rs = rows.now in
         let q = broken_from sound.now rs (both store.old tally.old) 0 (length rs) in
         (store.new ≡ q.store) × (tally.new ≡ q.tally) }
 {
     let mut i: usize = 0;
     while i < rows.len() {
-        break_row(sound, store, rows, i, tally);
+        break_row(rt, sound, store, rows, i, tally);
         i += 1;
     }
 }
 
-fn break_head(sound: &[u32], store: &mut [u32], tally: &mut [u64]) {
+fn break_head(rt: &impl Print, sound: &[u32], store: &mut [u32], tally: &mut [u64]) {
     let rows = HEAD;
-    break_rows(sound, store, &rows, tally);
+    break_rows(rt, sound, store, &rows, tally);
 }
 
-fn break_nodes(sound: &[u32], store: &mut [u32], tally: &mut [u64]) {
+fn break_nodes(rt: &impl Print, sound: &[u32], store: &mut [u32], tally: &mut [u64]) {
     let rows = NODES;
-    break_rows(sound, store, &rows, tally);
+    break_rows(rt, sound, store, &rows, tally);
 }
 
-fn break_pages(sound: &[u32], store: &mut [u32], tally: &mut [u64]) {
+fn break_pages(rt: &impl Print, sound: &[u32], store: &mut [u32], tally: &mut [u64]) {
     let rows = PAGES;
-    break_rows(sound, store, &rows, tally);
+    break_rows(rt, sound, store, &rows, tally);
 }
 
-fn break_links(sound: &[u32], store: &mut [u32], tally: &mut [u64]) {
+fn break_links(rt: &impl Print, sound: &[u32], store: &mut [u32], tally: &mut [u64]) {
     let rows = LINKS;
-    break_rows(sound, store, &rows, tally);
+    break_rows(rt, sound, store, &rows, tally);
 }
 
 // The path of six nodes, θ = 6: five with H = 6 use up 30 bits; the last has the depth of the row, all its entries null.
@@ -310,35 +329,35 @@ fn put_deep(store: &mut [u32], depth: u32)
     put_levels(store);
 }
 
-fn deep_paths(store: &mut [u32], tally: &mut [u64]) {
+fn deep_paths(rt: &impl Print, store: &mut [u32], tally: &mut [u64]) {
     let rows = DEEP;
     let mut i: usize = 0;
     while i < 3 {
         put_deep(store, script::cell(&rows, i, 3));
-        answers(store, &rows, i, tally);
+        answers(rt, store, &rows, i, tally);
         i += 1;
     }
 }
 
-fn tables(sound: &mut [u32], store: &mut [u32], tally: &mut [u64]) {
+fn tables(rt: &impl Print, sound: &mut [u32], store: &mut [u32], tally: &mut [u64]) {
     let build = BUILD;
-    script::play(&build, store, tally);
+    script::play(rt, &build, store, tally);
     words::copy(store, sound, SIZE);
-    break_head(sound, store, tally);
-    break_nodes(sound, store, tally);
-    break_pages(sound, store, tally);
-    break_links(sound, store, tally);
+    break_head(rt, sound, store, tally);
+    break_nodes(rt, sound, store, tally);
+    break_pages(rt, sound, store, tally);
+    break_links(rt, sound, store, tally);
 }
 
-fn tables_in(sound: &mut [u32], store: &mut [u32], tally: &mut [u64]) {
+fn tables_in(rt: &impl Print, sound: &mut [u32], store: &mut [u32], tally: &mut [u64]) {
     if SIZE <= store.len() {
-        tables(sound, &mut store[0..SIZE], tally);
+        tables(rt, sound, &mut store[0..SIZE], tally);
     }
 }
 
-pub fn run(sound: &mut [u32], store: &mut [u32], tally: &mut [u64]) {
+pub fn run(rt: &impl Print, sound: &mut [u32], store: &mut [u32], tally: &mut [u64]) {
     report::start(tally, 5);
-    tables_in(sound, store, tally);
-    deep_paths(store, tally);
-    report::finish(tally, b"broken rules");
+    tables_in(rt, sound, store, tally);
+    deep_paths(rt, store, tally);
+    report::finish(rt, tally, b"broken rules");
 }

@@ -63,20 +63,27 @@ fn record_in(list: &[u32], drawn: &[u32], order: u32, i: u32) -> Record
 }
 
 // An entry is done; levels and blocks are compared at the end.
-fn enter(store: &mut [u32], plot: Record, tally: &mut [u64])
+fn enter(rt: &impl Print, store: &mut [u32], plot: Record, tally: &mut [u64])
     ensures { let q = entered_once (both store.old tally.old) plot in
         (store.new ≡ q.store) × (tally.new ≡ q.tally) }
 {
     let mut out = [0u32; 1];
     let got = calls::reply_to(store, &mut out, calls::entry(plot));
     let expected = calls::done(plot.key as u64, got.b, got.c, got.d);
-    report::judge(tally, expected, got);
+    report::judge(rt, tally, expected, got);
     if got.number == 0 {
         report::add(tally, report::ENTRIES);
     }
 }
 
-fn enter_all(store: &mut [u32], list: &[u32], drawn: &[u32], order: u32, tally: &mut [u64])
+fn enter_all(
+    rt: &impl Print,
+    store: &mut [u32],
+    list: &[u32],
+    drawn: &[u32],
+    order: u32,
+    tally: &mut [u64],
+)
     ensures { let l = list.now in
         let q = entered_from l drawn.now order (both store.old tally.old) 0 (word l 0) in
         (store.new ≡ q.store) × (tally.new ≡ q.tally) }
@@ -84,13 +91,14 @@ fn enter_all(store: &mut [u32], list: &[u32], drawn: &[u32], order: u32, tally: 
     let n = model::size(list);
     let mut i: u32 = 0;
     while i < n {
-        enter(store, record_in(list, drawn, order, i), tally);
+        enter(rt, store, record_in(list, drawn, order, i), tally);
         i += 1;
     }
 }
 
 // Sets a store up and enters the set in an order; the size.
 pub fn fill_store(
+    rt: &impl Print,
     store: &mut [u32],
     list: &[u32],
     drawn: &[u32],
@@ -103,18 +111,19 @@ pub fn fill_store(
         (result ≡ q.size) × (store.new ≡ q.played.store) × (tally.new ≡ q.played.tally) }
 {
     let size = sets::prepare(store, setting);
-    report::hold(tally, size > 0, b"the store is set up");
-    enter_all(store, list, drawn, order, tally);
+    report::hold(rt, tally, size > 0, b"the store is set up");
+    enter_all(rt, store, list, drawn, order, tally);
     size
 }
 
 // The listing is the list, and the tree is that of the first store.
-fn compare(first: &[u32], store: &mut [u32], list: &[u32], tally: &mut [u64])
+fn compare(rt: &impl Print, first: &[u32], store: &mut [u32], list: &[u32], tally: &mut [u64])
     ensures { let q = compared_in first.now list.now (both store.old tally.old) in
         (store.new ≡ q.store) × (tally.new ≡ q.tally) }
 {
-    sets::parts(store, list, 1023, tally);
+    sets::parts(rt, store, list, 1023, tally);
     report::hold(
+        rt,
         tally,
         twins::same_tree(first, store),
         b"the trees are the same",
@@ -123,6 +132,7 @@ fn compare(first: &[u32], store: &mut [u32], list: &[u32], tally: &mut [u64])
 
 // The other orders of a set, each in a second store.
 fn other_orders(
+    rt: &impl Print,
     first: &[u32],
     store: &mut [u32],
     list: &[u32],
@@ -136,14 +146,15 @@ fn other_orders(
 {
     let mut order: u32 = 1;
     while order < 4 {
-        fill_store(store, list, drawn, setting, order, tally);
-        compare(first, store, list, tally);
+        fill_store(rt, store, list, drawn, setting, order, tally);
+        compare(rt, first, store, list, tally);
         order += 1;
     }
 }
 
 // One set: ascending into the first store, and every other order compared with that.
 fn set_of(
+    rt: &impl Print,
     first: &mut [u32],
     store: &mut [u32],
     list: &mut [u32],
@@ -152,9 +163,9 @@ fn set_of(
     tally: &mut [u64],
 ) {
     draw_set(list, drawn, setting);
-    fill_store(first, list, drawn, setting, 0, tally);
-    sets::parts(first, list, 1023, tally);
-    other_orders(first, store, list, drawn, setting, tally);
+    fill_store(rt, first, list, drawn, setting, 0, tally);
+    sets::parts(rt, first, list, 1023, tally);
+    other_orders(rt, first, store, list, drawn, setting, tally);
 }
 
 fn setting_at(i: usize) -> Setting {
@@ -163,6 +174,7 @@ fn setting_at(i: usize) -> Setting {
 }
 
 fn sets_of(
+    rt: &impl Print,
     first: &mut [u32],
     store: &mut [u32],
     list: &mut [u32],
@@ -171,12 +183,13 @@ fn sets_of(
 ) {
     let mut i: usize = 0;
     while i < 16 {
-        set_of(first, store, list, drawn, setting_at(i), tally);
+        set_of(rt, first, store, list, drawn, setting_at(i), tally);
         i += 1;
     }
 }
 
 pub fn run(
+    rt: &impl Print,
     first: &mut [u32],
     store: &mut [u32],
     list: &mut [u32],
@@ -184,6 +197,6 @@ pub fn run(
     tally: &mut [u64],
 ) {
     report::start(tally, 3);
-    sets_of(first, store, list, drawn, tally);
-    report::finish(tally, b"orders of entry");
+    sets_of(rt, first, store, list, drawn, tally);
+    report::finish(rt, tally, b"orders of entry");
 }

@@ -151,31 +151,38 @@ pub fn booked(list: &mut [u32], setting: Setting, plot: Record) -> Reply
 }
 
 // An accepted entry is counted, and its reply compared with the head's words.
-fn accepted(store: &[u32], reply: Reply, tally: &mut [u64])
+fn accepted(rt: &impl Print, store: &[u32], reply: Reply, tally: &mut [u64])
     ensures { tally.new ≡ accepted_in store.now reply tally.old }
 {
     let levels = word(store, 7) as u64;
     let nodes = word(store, 4) as u64;
     let pages = word(store, 5) as u64;
     report::add(tally, report::ENTRIES);
-    report::compare(tally, calls::done(reply.a, levels, nodes, pages), reply);
+    report::compare(rt, tally, calls::done(reply.a, levels, nodes, pages), reply);
 }
 
 // Enters a record, and compares the reply with the book's.
-fn entry(store: &mut [u32], expected: Reply, plot: Record, tally: &mut [u64])
+fn entry(rt: &impl Print, store: &mut [u32], expected: Reply, plot: Record, tally: &mut [u64])
     ensures { let q = entered_in (both store.old tally.old) expected plot in
         (store.new ≡ q.store) × (tally.new ≡ q.tally) }
 {
     let outcome = calls::watched_in(store, 64, calls::entry(plot));
     let reply = outcome.reply;
-    report::judge_outcome(tally, expected, outcome);
+    report::judge_outcome(rt, tally, expected, outcome);
     if reply.number == 0 {
-        accepted(store, reply, tally);
+        accepted(rt, store, reply, tally);
     }
 }
 
 // A range, with the records that it lists; the first key not written.
-fn part_in(store: &mut [u32], list: &[u32], out: &mut [u32], call: Call, tally: &mut [u64]) -> u32
+fn part_in(
+    rt: &impl Print,
+    store: &mut [u32],
+    list: &[u32],
+    out: &mut [u32],
+    call: Call,
+    tally: &mut [u64],
+) -> u32
     ensures { let q = part_in list.now (both store.old tally.old) out.old call in
         (result ≡ q.next) × (store.new ≡ q.store) × (out.new ≡ q.out) × (tally.new ≡ q.tally) }
 {
@@ -185,8 +192,9 @@ fn part_in(store: &mut [u32], list: &[u32], out: &mut [u32], call: Call, tally: 
     }
     let outcome = calls::watched(store, &mut out[0..n], call);
     let reply = outcome.reply;
-    report::judge_outcome(tally, model::reply_to(list, call), outcome);
+    report::judge_outcome(rt, tally, model::reply_to(list, call), outcome);
     report::hold(
+        rt,
         tally,
         model::lists(list, call.a, out, words::low(reply.a)),
         b"the records are listed",
@@ -195,25 +203,25 @@ fn part_in(store: &mut [u32], list: &[u32], out: &mut [u32], call: Call, tally: 
 }
 
 // The same with an output of its own, of at most 1,024 words.
-fn part(store: &mut [u32], list: &[u32], call: Call, tally: &mut [u64]) -> u32
+fn part(rt: &impl Print, store: &mut [u32], list: &[u32], call: Call, tally: &mut [u64]) -> u32
     ensures { let q = part_of list.now (both store.old tally.old) call in
         (result ≡ q.next) × (store.new ≡ q.store) × (tally.new ≡ q.tally) }
 {
     let mut out = [0u32; 1024];
-    part_in(store, list, &mut out, call, tally)
+    part_in(rt, store, list, &mut out, call, tally)
 }
 
 // A reading, compared with the list's.
-fn reading(store: &mut [u32], list: &[u32], call: Call, tally: &mut [u64])
+fn reading(rt: &impl Print, store: &mut [u32], list: &[u32], call: Call, tally: &mut [u64])
     ensures { let q = read_in list.now (both store.old tally.old) call in
         (store.new ≡ q.store) × (tally.new ≡ q.tally) }
 {
     if call.kind == calls::RANGE {
-        part(store, list, call, tally);
+        part(rt, store, list, call, tally);
         return;
     }
     let outcome = calls::watched_in(store, 0, call);
-    report::judge_outcome(tally, model::reply_to(list, call), outcome);
+    report::judge_outcome(rt, tally, model::reply_to(list, call), outcome);
 }
 
 // The reading j after an entry: finds and nexts at the key, beside it and elsewhere; ranges and summaries over windows.
@@ -232,32 +240,59 @@ fn reading_at(key: u32, seed: u32, j: u32) -> Call {
     }
 }
 
-fn readings(store: &mut [u32], list: &[u32], key: u32, seed: u32, tally: &mut [u64]) {
+fn readings(
+    rt: &impl Print,
+    store: &mut [u32],
+    list: &[u32],
+    key: u32,
+    seed: u32,
+    tally: &mut [u64],
+) {
     let mut j: u32 = 0;
     while j < 15 {
-        reading(store, list, reading_at(key, seed, j), tally);
+        reading(rt, store, list, reading_at(key, seed, j), tally);
         j += 1;
     }
 }
 
 // One try: the entry, and readings after it.
-fn try_at(store: &mut [u32], list: &mut [u32], setting: Setting, i: u32, tally: &mut [u64]) {
+fn try_at(
+    rt: &impl Print,
+    store: &mut [u32],
+    list: &mut [u32],
+    setting: Setting,
+    i: u32,
+    tally: &mut [u64],
+) {
     let record = tried_at(setting, i);
     let expected = booked(list, setting, record);
-    entry(store, expected, record, tally);
-    readings(store, list, record.key, words::sum(setting.seed, i), tally);
+    entry(rt, store, expected, record, tally);
+    readings(
+        rt,
+        store,
+        list,
+        record.key,
+        words::sum(setting.seed, i),
+        tally,
+    );
 }
 
-fn tries(store: &mut [u32], list: &mut [u32], setting: Setting, tally: &mut [u64]) {
+fn tries(
+    rt: &impl Print,
+    store: &mut [u32],
+    list: &mut [u32],
+    setting: Setting,
+    tally: &mut [u64],
+) {
     let mut i: u32 = 0;
     while i < setting.records {
-        try_at(store, list, setting, i, tally);
+        try_at(rt, store, list, setting, i, tally);
         i += 1;
     }
 }
 
 // The whole range in parts, each from the first key that the one before did not write.
-pub fn parts(store: &mut [u32], list: &[u32], room: u32, tally: &mut [u64])
+pub fn parts(rt: &impl Print, store: &mut [u32], list: &[u32], room: u32, tally: &mut [u64])
     ensures { let q = parts_of list.now room (both store.old tally.old) in
         (store.new ≡ q.store) × (tally.new ≡ q.tally) }
 {
@@ -265,6 +300,7 @@ pub fn parts(store: &mut [u32], list: &[u32], room: u32, tally: &mut [u64])
     let mut turn: u32 = 0;
     while turn < 1024 {
         low = part(
+            rt,
             store,
             list,
             calls::ask(calls::RANGE, low, 4294967295, room, 0),
@@ -275,7 +311,7 @@ pub fn parts(store: &mut [u32], list: &[u32], room: u32, tally: &mut [u64])
         }
         turn += 1;
     }
-    report::hold(tally, false, b"the parts end");
+    report::hold(rt, tally, false, b"the parts end");
 }
 
 // Sets a store up for a setting; the size, 0 if refused.
@@ -294,21 +330,32 @@ pub fn prepare(store: &mut [u32], setting: Setting) -> u32
     words::low(calls::reply_to(store, &mut out, call).a)
 }
 
-fn all_parts(store: &mut [u32], list: &[u32], tally: &mut [u64])
+fn all_parts(rt: &impl Print, store: &mut [u32], list: &[u32], tally: &mut [u64])
     ensures { let q = all_parts list.now (both store.old tally.old) in
         (store.new ≡ q.store) × (tally.new ≡ q.tally) }
 {
-    parts(store, list, 1023, tally);
-    parts(store, list, 30, tally);
-    parts(store, list, 4, tally);
+    parts(rt, store, list, 1023, tally);
+    parts(rt, store, list, 30, tally);
+    parts(rt, store, list, 4, tally);
 }
 
 // One set: entries with readings, then the whole range in parts of several sizes.
-fn set_of(store: &mut [u32], list: &mut [u32], setting: Setting, tally: &mut [u64]) {
-    report::hold(tally, prepare(store, setting) > 0, b"the store is set up");
+fn set_of(
+    rt: &impl Print,
+    store: &mut [u32],
+    list: &mut [u32],
+    setting: Setting,
+    tally: &mut [u64],
+) {
+    report::hold(
+        rt,
+        tally,
+        prepare(store, setting) > 0,
+        b"the store is set up",
+    );
     words::fill(list, 0);
-    tries(store, list, setting, tally);
-    all_parts(store, list, tally);
+    tries(rt, store, list, setting, tally);
+    all_parts(rt, store, list, tally);
 }
 
 fn setting_at(i: usize) -> Setting {
@@ -316,16 +363,16 @@ fn setting_at(i: usize) -> Setting {
     setting_of(&rows, i)
 }
 
-fn sets(store: &mut [u32], list: &mut [u32], tally: &mut [u64]) {
+fn sets(rt: &impl Print, store: &mut [u32], list: &mut [u32], tally: &mut [u64]) {
     let mut i: usize = 0;
     while i < 32 {
-        set_of(store, list, setting_at(i), tally);
+        set_of(rt, store, list, setting_at(i), tally);
         i += 1;
     }
 }
 
-pub fn run(store: &mut [u32], list: &mut [u32], tally: &mut [u64]) {
+pub fn run(rt: &impl Print, store: &mut [u32], list: &mut [u32], tally: &mut [u64]) {
     report::start(tally, 2);
-    sets(store, list, tally);
-    report::finish(tally, b"random sets");
+    sets(rt, store, list, tally);
+    report::finish(rt, tally, b"random sets");
 }

@@ -22,12 +22,12 @@ pub const MET: usize = 4;
 // Failures that are printed of a group.
 const SHOWN: u64 = 10;
 
-fn say(text: &[u8]) {
-    io::write_all(1, text);
+fn say(rt: &impl Print, text: &[u8]) {
+    let _ = rt.write_all(text);
 }
 
-fn say_number(n: u64) {
-    io::print_decimal(1, n);
+fn say_number(rt: &impl Print, n: u64) {
+    let _ = rt.print(n);
 }
 
 // A count of the tally.
@@ -76,124 +76,124 @@ pub fn start(tally: &mut [u64], group: u64)
     set(tally, GROUP, group);
 }
 
-fn say_reply(reply: Reply) {
-    say(b" ");
-    say_number(widen(reply.number));
-    say(b" ");
-    say_number(reply.a);
-    say(b" ");
-    say_number(reply.b);
-    say(b" ");
-    say_number(reply.c);
-    say(b" ");
-    say_number(reply.d);
+fn say_reply(rt: &impl Print, reply: Reply) {
+    say(rt, b" ");
+    say_number(rt, widen(reply.number));
+    say(rt, b" ");
+    say_number(rt, reply.a);
+    say(rt, b" ");
+    say_number(rt, reply.b);
+    say(rt, b" ");
+    say_number(rt, reply.c);
+    say(rt, b" ");
+    say_number(rt, reply.d);
 }
 
 // Counts a failure; whether it is to be printed, with the start of its line.
-fn failure(tally: &mut [u64]) -> bool
+fn failure(rt: &impl Print, tally: &mut [u64]) -> bool
     ensures { (result ≡ leb (word (counted tally.old 2) 2) 10) × (tally.new ≡ counted tally.old 2) }
 {
     add(tally, FAILED);
     if count(tally, FAILED) > SHOWN {
         return false;
     }
-    say(b"  group ");
-    say_number(count(tally, GROUP));
-    say(b", trial ");
-    say_number(count(tally, TRIED));
-    say(b": ");
+    say(rt, b"  group ");
+    say_number(rt, count(tally, GROUP));
+    say(rt, b", trial ");
+    say_number(rt, count(tally, TRIED));
+    say(rt, b": ");
     true
 }
 
 // A trial of a fact.
-pub fn hold(tally: &mut [u64], holds: bool, fact: &[u8])
+pub fn hold(rt: &impl Print, tally: &mut [u64], holds: bool, fact: &[u8])
     ensures { tally.new ≡ tried tally.old holds }
 {
     add(tally, TRIED);
     if !holds {
-        if failure(tally) {
-            say(b"expected that ");
-            say(fact);
-            say(b", got that not\n");
+        if failure(rt, tally) {
+            say(rt, b"expected that ");
+            say(rt, fact);
+            say(rt, b", got that not\n");
         }
     }
 }
 
-fn say_difference(expected: Reply, got: Reply) {
-    say(b"expected");
-    say_reply(expected);
-    say(b", got");
-    say_reply(got);
-    say(b"\n");
+fn say_difference(rt: &impl Print, expected: Reply, got: Reply) {
+    say(rt, b"expected");
+    say_reply(rt, expected);
+    say(rt, b", got");
+    say_reply(rt, got);
+    say(rt, b"\n");
 }
 
 // A trial of a value that is not a call's answer.
-pub fn compare(tally: &mut [u64], expected: Reply, got: Reply)
+pub fn compare(rt: &impl Print, tally: &mut [u64], expected: Reply, got: Reply)
     ensures { tally.new ≡ compared tally.old expected got }
 {
     add(tally, TRIED);
     if !calls::same(expected, got) {
-        if failure(tally) {
-            say_difference(expected, got);
+        if failure(rt, tally) {
+            say_difference(rt, expected, got);
         }
     }
 }
 
 // A trial of a reply.
-pub fn judge(tally: &mut [u64], expected: Reply, got: Reply)
+pub fn judge(rt: &impl Print, tally: &mut [u64], expected: Reply, got: Reply)
     ensures { tally.new ≡ judged tally.old expected got }
 {
     add(tally, answer_place(got.number));
-    compare(tally, expected, got);
+    compare(rt, tally, expected, got);
 }
 
 // A trial of a reply, and of the words that the call may not change.
-pub fn judge_outcome(tally: &mut [u64], expected: Reply, got: Outcome)
+pub fn judge_outcome(rt: &impl Print, tally: &mut [u64], expected: Reply, got: Outcome)
     ensures { tally.new ≡ judged_outcome tally.old expected got }
 {
     let reply = got.reply;
-    judge(tally, expected, reply);
-    hold(tally, got.kept, b"the words stay");
+    judge(rt, tally, expected, reply);
+    hold(rt, tally, got.kept, b"the words stay");
 }
 
 // Prints how many answers had a number, if any.
-fn say_count(tally: &[u64], number: u32) {
+fn say_count(rt: &impl Print, tally: &[u64], number: u32) {
     let n = count(tally, answer_place(number));
     if n > 0 {
-        say(b" ");
-        say_number(widen(number));
-        say(b":");
-        say_number(n);
+        say(rt, b" ");
+        say_number(rt, widen(number));
+        say(rt, b":");
+        say_number(rt, n);
     }
 }
 
-fn say_counts(tally: &[u64]) {
+fn say_counts(rt: &impl Print, tally: &[u64]) {
     let mut number: u32 = 0;
     while number < 12 {
-        say_count(tally, number);
+        say_count(rt, tally, number);
         number += 1;
     }
 }
 
-fn say_entries(tally: &[u64]) {
+fn say_entries(rt: &impl Print, tally: &[u64]) {
     let n = count(tally, ENTRIES);
     if n > 0 {
-        say(b", entries accepted ");
-        say_number(n);
+        say(rt, b", entries accepted ");
+        say_number(rt, n);
     }
 }
 
 // Prints a group's line.
-pub fn finish(tally: &[u64], name: &[u8]) {
-    say_number(count(tally, GROUP));
-    say(b" ");
-    say(name);
-    say(b": tried ");
-    say_number(count(tally, TRIED));
-    say(b", failed ");
-    say_number(count(tally, FAILED));
-    say_entries(tally);
-    say(b", answers");
-    say_counts(tally);
-    say(b"\n");
+pub fn finish(rt: &impl Print, tally: &[u64], name: &[u8]) {
+    say_number(rt, count(tally, GROUP));
+    say(rt, b" ");
+    say(rt, name);
+    say(rt, b": tried ");
+    say_number(rt, count(tally, TRIED));
+    say(rt, b", failed ");
+    say_number(rt, count(tally, FAILED));
+    say_entries(rt, tally);
+    say(rt, b", answers");
+    say_counts(rt, tally);
+    say(rt, b"\n");
 }

@@ -47,7 +47,7 @@ pub fn reply_at(rows: &[[u32; 10]], i: usize) -> Reply
 }
 
 // Makes a call and compares its reply. A range's third number is the words of its output.
-fn play_call(store: &mut [u32], call: Call, expected: Reply, tally: &mut [u64])
+fn play_call(rt: &impl Print, store: &mut [u32], call: Call, expected: Reply, tally: &mut [u64])
     ensures { let p = played_call (both store.old tally.old) call expected in
         (store.new ≡ p.store) × (tally.new ≡ p.tally) }
 {
@@ -56,28 +56,28 @@ fn play_call(store: &mut [u32], call: Call, expected: Reply, tally: &mut [u64])
         return;
     }
     let outcome = calls::watched_in(store, to_index(call.c), call);
-    report::judge_outcome(tally, expected, outcome);
+    report::judge_outcome(rt, tally, expected, outcome);
 }
 
 // Makes the calls of a table one after the other.
-pub fn play(rows: &[[u32; 10]], store: &mut [u32], tally: &mut [u64])
+pub fn play(rt: &impl Print, rows: &[[u32; 10]], store: &mut [u32], tally: &mut [u64])
     ensures { let rs = rows.now in
         let p = played rs (both store.old tally.old) 0 (length rs) in
         (store.new ≡ p.store) × (tally.new ≡ p.tally) }
 {
     let mut i: usize = 0;
     while i < rows.len() {
-        play_call(store, call_at(rows, i), reply_at(rows, i), tally);
+        play_call(rt, store, call_at(rows, i), reply_at(rows, i), tally);
         i += 1;
     }
 }
 
 // The same on the first n words of a store.
-pub fn play_in(rows: &[[u32; 10]], store: &mut [u32], n: usize, tally: &mut [u64])
+pub fn play_in(rt: &impl Print, rows: &[[u32; 10]], store: &mut [u32], n: usize, tally: &mut [u64])
     ensures { let p = played_in rows.now (both store.old tally.old) n in
         (store.new ≡ p.store) × (tally.new ≡ p.tally) }
 {
     if n <= store.len() {
-        play(rows, &mut store[0..n], tally);
+        play(rt, rows, &mut store[0..n], tally);
     }
 }

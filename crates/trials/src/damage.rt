@@ -82,36 +82,37 @@ fn sensible(call: Call, reply: Reply) -> bool {
 }
 
 // An accepted entry is found again.
-fn found_again(store: &mut [u32], call: Call, tally: &mut [u64]) {
+fn found_again(rt: &impl Print, store: &mut [u32], call: Call, tally: &mut [u64]) {
     let find = faults::call_at(call.a, 0);
     let outcome = calls::watched_in(store, 64, find);
     report::add(tally, report::ENTRIES);
-    report::judge_outcome(tally, calls::held(calls::record_of(call)), outcome);
+    report::judge_outcome(rt, tally, calls::held(calls::record_of(call)), outcome);
 }
 
 // What holds after a call that was done.
-fn judge_done(store: &mut [u32], call: Call, reply: Reply, tally: &mut [u64]) {
-    report::hold(tally, sensible(call, reply), b"the reply fits the key");
+fn judge_done(rt: &impl Print, store: &mut [u32], call: Call, reply: Reply, tally: &mut [u64]) {
+    report::hold(rt, tally, sensible(call, reply), b"the reply fits the key");
     if call.kind == calls::ENTER {
-        found_again(store, call, tally);
+        found_again(rt, store, call, tally);
     }
 }
 
 // A call on a damaged store.
-fn call_damaged(store: &mut [u32], call: Call, tally: &mut [u64]) {
+fn call_damaged(rt: &impl Print, store: &mut [u32], call: Call, tally: &mut [u64]) {
     let outcome = calls::watched_in(store, 64, call);
     let reply = outcome.reply;
-    report::judge_outcome(tally, faults::numbered(reply.number, reply), outcome);
+    report::judge_outcome(rt, tally, faults::numbered(reply.number, reply), outcome);
     if reply.number == 0 {
-        judge_done(store, call, reply, tally);
+        judge_done(rt, store, call, reply, tally);
     }
 }
 
 // Every operation on a store damaged anew; enter comes last.
-fn calls_damaged(store: &mut [u32], list: &[u32], seed: u32, tally: &mut [u64]) {
+fn calls_damaged(rt: &impl Print, store: &mut [u32], list: &[u32], seed: u32, tally: &mut [u64]) {
     let mut j: u32 = 0;
     while j < 5 {
         call_damaged(
+            rt,
             store,
             faults::call_at(key_near(list, seed, j), to_index(j)),
             tally,
@@ -121,6 +122,7 @@ fn calls_damaged(store: &mut [u32], list: &[u32], seed: u32, tally: &mut [u64]) 
 }
 
 fn damage_once(
+    rt: &impl Print,
     sound: &[u32],
     size: u32,
     store: &mut [u32],
@@ -130,20 +132,28 @@ fn damage_once(
 ) {
     words::copy(sound, store, to_index(size));
     damage_some(store, size, seed);
-    calls_damaged(store, list, seed, tally);
+    calls_damaged(rt, store, list, seed, tally);
 }
 
-fn damage_often(sound: &[u32], store: &mut [u32], list: &[u32], seed: u32, tally: &mut [u64]) {
+fn damage_often(
+    rt: &impl Print,
+    sound: &[u32],
+    store: &mut [u32],
+    list: &[u32],
+    seed: u32,
+    tally: &mut [u64],
+) {
     let size = words::low(store.len() as u64);
     let mut i: u32 = 0;
     while i < TIMES {
-        damage_once(sound, size, store, list, words::sum(seed, i), tally);
+        damage_once(rt, sound, size, store, list, words::sum(seed, i), tally);
         i += 1;
     }
 }
 
 // On a store of exactly the size.
 fn damage_in(
+    rt: &impl Print,
     sound: &[u32],
     store: &mut [u32],
     n: usize,
@@ -152,12 +162,13 @@ fn damage_in(
     tally: &mut [u64],
 ) {
     if n <= store.len() {
-        damage_often(sound, &mut store[0..n], list, seed, tally);
+        damage_often(rt, sound, &mut store[0..n], list, seed, tally);
     }
 }
 
 // One setting: a sound store with the records that the book accepts, and damaged copies of it.
 fn damage_setting(
+    rt: &impl Print,
     sound: &mut [u32],
     store: &mut [u32],
     list: &mut [u32],
@@ -166,9 +177,9 @@ fn damage_setting(
     tally: &mut [u64],
 ) {
     orders::draw_set(list, drawn, setting);
-    let size = orders::fill_store(sound, list, drawn, setting, 2, tally);
+    let size = orders::fill_store(rt, sound, list, drawn, setting, 2, tally);
     let seed = words::low(widen(setting.seed) * 100 + 5000000);
-    damage_in(sound, store, to_index(size), list, seed, tally);
+    damage_in(rt, sound, store, to_index(size), list, seed, tally);
 }
 
 fn setting_at(i: usize) -> Setting {
@@ -177,6 +188,7 @@ fn setting_at(i: usize) -> Setting {
 }
 
 fn damage_settings(
+    rt: &impl Print,
     sound: &mut [u32],
     store: &mut [u32],
     list: &mut [u32],
@@ -185,12 +197,13 @@ fn damage_settings(
 ) {
     let mut i: usize = 0;
     while i < 10 {
-        damage_setting(sound, store, list, drawn, setting_at(i), tally);
+        damage_setting(rt, sound, store, list, drawn, setting_at(i), tally);
         i += 1;
     }
 }
 
 pub fn run(
+    rt: &impl Print,
     sound: &mut [u32],
     store: &mut [u32],
     list: &mut [u32],
@@ -198,6 +211,6 @@ pub fn run(
     tally: &mut [u64],
 ) {
     report::start(tally, 6);
-    damage_settings(sound, store, list, drawn, tally);
-    report::finish(tally, b"damaged stores");
+    damage_settings(rt, sound, store, list, drawn, tally);
+    report::finish(rt, tally, b"damaged stores");
 }

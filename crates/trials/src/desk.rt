@@ -53,39 +53,46 @@ const SIZES: [[u32; 10]; 5] = [
 ];
 
 // Makes a call on the first n words of a store.
-fn call_in(store: &mut [u32], n: usize, call: Call, expected: Reply, tally: &mut [u64]) {
+fn call_in(
+    rt: &impl Print,
+    store: &mut [u32],
+    n: usize,
+    call: Call,
+    expected: Reply,
+    tally: &mut [u64],
+) {
     if n > store.len() {
         return;
     }
     let outcome = calls::watched_in(&mut store[0..n], 0, call);
-    report::judge_outcome(tally, expected, outcome);
+    report::judge_outcome(rt, tally, expected, outcome);
 }
 
 // A store of the size is set up, and one that is a word shorter is not.
-fn size_row(i: usize, store: &mut [u32], tally: &mut [u64]) {
+fn size_row(rt: &impl Print, i: usize, store: &mut [u32], tally: &mut [u64]) {
     let rows = SIZES;
     let call = script::call_at(&rows, i);
     let n = to_index(script::cell(&rows, i, 6));
-    call_in(store, n, call, script::reply_at(&rows, i), tally);
-    call_in(store, words::less(n, 1), call, calls::refusal(5), tally);
+    call_in(rt, store, n, call, script::reply_at(&rows, i), tally);
+    call_in(rt, store, words::less(n, 1), call, calls::refusal(5), tally);
 }
 
-fn sizes(store: &mut [u32], tally: &mut [u64]) {
+fn sizes(rt: &impl Print, store: &mut [u32], tally: &mut [u64]) {
     let mut i: usize = 0;
     while i < 5 {
-        size_row(i, store, tally);
+        size_row(rt, i, store, tally);
         i += 1;
     }
 }
 
-fn sample(store: &mut [u32], tally: &mut [u64]) {
+fn sample(rt: &impl Print, store: &mut [u32], tally: &mut [u64]) {
     let rows = CALLS;
-    script::play_in(&rows, store, 68, tally);
+    script::play_in(rt, &rows, store, 68, tally);
 }
 
-pub fn run(store: &mut [u32], tally: &mut [u64]) {
+pub fn run(rt: &impl Print, store: &mut [u32], tally: &mut [u64]) {
     report::start(tally, 1);
-    sizes(store, tally);
-    sample(store, tally);
-    report::finish(tally, b"desk checks");
+    sizes(rt, store, tally);
+    sample(rt, store, tally);
+    report::finish(rt, tally, b"desk checks");
 }

@@ -7,16 +7,20 @@ mod refusals; // group 4
 use groups::orders; // group 3
 use groups::sets; // group 2
 
-fn main() {
+fn main(rt: HostRuntime) {
     let mut store = [0u32; 16384];
     let mut other = [0u32; 16384];
     let mut list = [0u32; 2048];
     let mut drawn = [0u32; 2048];
     let mut tally = [0u64; 16];
-    desk::run(&mut store, &mut tally);
-    sets::run(&mut store, &mut list, &mut tally);
-    orders::run(&mut other, &mut store, &mut list, &mut drawn, &mut tally);
-    refusals::run(&mut store, &mut tally);
-    faults::run(&mut other, &mut store, &mut tally);
-    damage::run(&mut other, &mut store, &mut list, &mut drawn, &mut tally);
+    desk::run(&rt, &mut store, &mut tally);
+    sets::run(&rt, &mut store, &mut list, &mut tally);
+    orders::run(
+        &rt, &mut other, &mut store, &mut list, &mut drawn, &mut tally,
+    );
+    refusals::run(&rt, &mut store, &mut tally);
+    faults::run(&rt, &mut other, &mut store, &mut tally);
+    damage::run(
+        &rt, &mut other, &mut store, &mut list, &mut drawn, &mut tally,
+    );
 }

@@ -100,32 +100,32 @@ const SHORTER: [[u32; 10]; 5] = [
     [5, 1, 9, 0, 0, 3, 0, 0, 0, 0],
 ];
 
-fn fresh(store: &mut [u32], tally: &mut [u64]) {
+fn fresh(rt: &impl Print, store: &mut [u32], tally: &mut [u64]) {
     let rows = FRESH;
     words::fill(store, 0);
-    script::play_in(&rows, store, 68, tally);
+    script::play_in(rt, &rows, store, 68, tally);
 }
 
-fn sound(store: &mut [u32], tally: &mut [u64]) {
+fn sound(rt: &impl Print, store: &mut [u32], tally: &mut [u64]) {
     let rows = SOUND;
-    script::play_in(&rows, store, 68, tally);
+    script::play_in(rt, &rows, store, 68, tally);
 }
 
-fn broken(store: &mut [u32], tally: &mut [u64]) {
+fn broken(rt: &impl Print, store: &mut [u32], tally: &mut [u64]) {
     let rows = BROKEN;
-    script::play_in(&rows, store, 68, tally);
+    script::play_in(rt, &rows, store, 68, tally);
 }
 
-fn shorter(store: &mut [u32], tally: &mut [u64]) {
+fn shorter(rt: &impl Print, store: &mut [u32], tally: &mut [u64]) {
     let rows = SHORTER;
-    script::play_in(&rows, store, 67, tally);
+    script::play_in(rt, &rows, store, 67, tally);
 }
 
-pub fn run(store: &mut [u32], tally: &mut [u64]) {
+pub fn run(rt: &impl Print, store: &mut [u32], tally: &mut [u64]) {
     report::start(tally, 4);
-    fresh(store, tally);
-    sound(store, tally);
-    broken(store, tally);
-    shorter(store, tally);
-    report::finish(tally, b"refusals");
+    fresh(rt, store, tally);
+    sound(rt, store, tally);
+    broken(rt, store, tally);
+    shorter(rt, store, tally);
+    report::finish(rt, tally, b"refusals");
 }
