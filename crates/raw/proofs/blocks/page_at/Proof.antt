@@ -13,13 +13,13 @@ returns c =
     let p = c.before in
     let q = p.before.before in
     let w = q.before.before in
-    let k = q.before.node-words.ensures ∙ ap node_size w.word2.ensures in
-    let nodes = words_cut q.words_of.ensures.0 w.before.word.ensures k in
-    let pages = words_cut c.words-of2.ensures.0 p.before.difference.ensures p.page-words.ensures.0 in
+    let k = q.node_words.ensures ∙ ap node_size w.word-2.ensures in
+    let nodes = words_cut q.words_of-nodes.ensures.0 w.word.ensures k in
+    let pages = words_cut c.words_of.ensures.0 p.difference.ensures p.page_words.ensures.0 in
     (ap₂ (λ x y. 16 + x + y) nodes pages, search rules)
 
-pub page-at-spec : {M : Type 1} → statement M
-page-at-spec =
+pub page_at_spec : {M : Type 1} → statement M
+page_at_spec =
     tie.close
     (tie.spec (λ c κs. search rules) (λ c κs. search rules) (λ c κs. search rules) (λ c κs. search rules)
     (λ c. search rules) (λ c κs. search rules) (λ c κs. search rules) (λ c κs. search rules) (λ c. search rules)

@@ -8,7 +8,7 @@ returns : tie.Need-returns
 unfolding page_size
 returns c = search rules
 
-pub page-words-spec : {M : Type 1} → statement M
-page-words-spec =
+pub page_words_spec : {M : Type 1} → statement M
+page_words_spec =
     tie.close
     (tie.spec (λ c κs. search rules) (λ c. search rules) (λ c. search rules) (λ c. search rules) (λ c. search rules) returns)

@@ -7,7 +7,7 @@ use Rattle.raw.proofs.twins.entries.Tie as tie
 
 returns : tie.Need-returns
 returns c =
-    (c.pow2.ensures.0 ∙ ap (λ h. 2 ^ (h % 7)) c.before.node_word.ensures, c.pow2.ensures.2)
+    (c.pow2.ensures.0 ∙ ap (λ h. 2 ^ (h % 7)) c.node_word.ensures, c.pow2.ensures.2)
 
-pub entries-spec : {M : Type 1} → statement M
-entries-spec = tie.close (tie.spec (λ c κs. search rules) (λ c κs. search rules) returns)
+pub entries_spec : {M : Type 1} → statement M
+entries_spec = tie.close (tie.spec (λ c κs. search rules) (λ c κs. search rules) returns)

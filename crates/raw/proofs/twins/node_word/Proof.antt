@@ -8,8 +8,8 @@ use Rattle.raw.proofs.twins.node_word.Tie as tie
 
 returns : tie.Need-returns
 returns c =
-    let a = c.before.before.before.args in
-    c.word.ensures ∙ ap (λ j. word a.store.now (j + a.i)) c.before.node_at.ensures.0
+    let a = c.args in
+    c.word.ensures ∙ ap (λ j. word a.store.now (j + a.i)) c.node_at.ensures.0
 
-pub node-word-spec : {M : Type 1} → statement M
-node-word-spec = tie.close (tie.spec (λ c κs. search rules) (λ c. search rules) (λ c κs. search rules) returns)
+pub node_word_spec : {M : Type 1} → statement M
+node_word_spec = tie.close (tie.spec (λ c κs. search rules) (λ c. search rules) (λ c κs. search rules) returns)

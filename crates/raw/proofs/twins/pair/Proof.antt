@@ -4,22 +4,13 @@ use Rattle.raw.proofs.TwinLaws.{pair_kept, pair_made}
 use Rattle.raw.proofs.twins.pair.Statement.{statement}
 use Rattle.raw.proofs.twins.pair.Tie as tie
 
-returns : tie.Need-returns
-returns c = let p = c.before in pair_kept _ _ _ _ p.before.to-index.ensures.0 p.word.ensures c.if1.true
+returns : tie.Need-returns-then-word-ne0
+returns c = let p = c.before in pair_kept _ _ _ _ p.to_index.ensures.0 p.word.ensures c.if-word-ne0.true
 
-returns_2 : tie.Need-returns-2
+returns_2 : tie.Need-returns
 returns_2 c =
-    let p₃ = c.before.before in
-    let p₂ = p₃.before.before.before.before in
-    let i₃ = p₂.before in
-    let p₁ = i₃.before.before.before.before in
-    let i₂ = p₁.before in
-    let s = i₂.before.before in
-    let q = s.before in
-    let e = q.before.before in
-    let w = e.before in
-    pair_made _ _ _ _ w.before.to-index.ensures.0 w.word.ensures e.if1.false q.word2.ensures s.sum.ensures
-    i₂.to-index2.ensures.0 p₁.put.ensures i₃.to-index3.ensures.0 p₂.put2.ensures p₃.put3.ensures
+    pair_made _ _ _ _ c.to_index.ensures.0 c.word.ensures c.if-word-ne0.false c.word-2.ensures c.sum-n.ensures
+    c.to_index-2.ensures.0 c.put.ensures c.to_index-3.ensures.0 c.put-2.ensures c.put-3.ensures
 
 pub pair_spec : {M : Type 1} → statement M
 pair_spec =

@@ -9,27 +9,24 @@ use Rattle.raw.proofs.TwinLaws.{next_first, next_turn, next_done}
 use Rattle.raw.proofs.twins.pair_all.Statement.{statement}
 use Rattle.raw.proofs.twins.pair_all.Tie as tie
 
-abbrev invariant-loop : tie.invariant-loop
+abbrev invariant-loop : tie.invariant-loop-i
 invariant-loop x y twins₀ queue₀ nodes i₀ twins queue i =
     (length twins ≡ length twins₀)
     × (length queue ≡ length queue₀)
     × (paired_next x y (both twins queue) i (nodes - i) ≡ paired_next x y (both twins₀ queue₀) 0 nodes)
 
-abbrev decreases-loop : tie.decreases-loop
+abbrev decreases-loop : tie.decreases-loop-i
 decreases-loop x y twins₀ queue₀ nodes i₀ twins queue i = nodes - i
 
-loop_holds : tie.Need-loop-init invariant-loop decreases-loop
+loop_holds : tie.Need-loop-i-init invariant-loop decreases-loop
 loop_holds c = (search rules, search rules, next_first _ _ _ _)
 
-loop_again : tie.Need-loop-preserved invariant-loop decreases-loop
+loop_again : tie.Need-loop-i-preserved invariant-loop decreases-loop
 loop_again c =
-    let p = c.before.before.before.before in
-    let w = p.before in
-    let t = w.before.before.before.before in
-    let l = t.before.loop in (
+    let l = c.loop-i in (
       search rules,
       search rules,
-      next_turn _ _ _ _ l.i _ t.loop-test.true l.invariant.2 w.word4.ensures p.pair-below.ensures,
+      next_turn _ _ _ _ l.i _ c.loop-i-test.true l.invariant.2 c.word-in-loop-i.ensures c.pair_below.ensures,
     )
 
 returns : tie.Need-returns invariant-loop decreases-loop
@@ -39,11 +36,11 @@ returns c =
     let n = i.before in
     let p = n.before.before.before.before.before in
     let w = p.before in
-    next_done _ _ _ _ l.loop.i _ _ (omega arith) l.loop.invariant.2 p.pair.ensures w.before.word.ensures w.word2.ensures
-    i.to-index.ensures.0 n.word3.ensures
+    next_done _ _ _ _ l.loop-i.i _ _ (omega arith) l.loop-i.invariant.2 p.pair.ensures w.word.ensures w.word-2.ensures
+    i.to_index-nodes.ensures.0 n.word-3.ensures
 
-pub pair-all-spec : {M : Type 1} → statement M
-pair-all-spec =
+pub pair_all_spec : {M : Type 1} → statement M
+pair_all_spec =
     tie.close
     (tie.spec invariant-loop decreases-loop (λ c κs. search rules) (λ c κs. search rules) (λ c κs. search rules) (λ c κs. search rules)
     (λ c κs. search rules) loop_holds (λ c. search rules) (λ c κs. search rules) (λ c κs. search rules) (λ c. search rules)

@@ -11,43 +11,36 @@ use Rattle.raw.proofs.TwinLaws.{from_first, from_turn, from_done}
 use Rattle.raw.proofs.twins.pair_children.Statement.{statement}
 use Rattle.raw.proofs.twins.pair_children.Tie as tie
 
-abbrev invariant-loop : tie.invariant-loop
+abbrev invariant-loop : tie.invariant-loop-j
 invariant-loop x y twins₀ queue₀ a ax ay n j₀ twins queue j =
     (length twins ≡ length twins₀)
     × (length queue ≡ length queue₀)
     × (paired_from x y a (word twins₀ a) (both twins queue) j (n - j) ≡ paired_from x y a (word twins₀ a) (both twins₀ queue₀) 0 n)
 
-abbrev decreases-loop : tie.decreases-loop
+abbrev decreases-loop : tie.decreases-loop-j
 decreases-loop x y twins₀ queue₀ a ax ay n j₀ twins queue j = n - j
 
-loop_holds : tie.Need-loop-init invariant-loop decreases-loop
+loop_holds : tie.Need-loop-j-init invariant-loop decreases-loop
 loop_holds c = (search rules, search rules, from_first _ _ _ _ _ _)
 
-loop_again : tie.Need-loop-preserved invariant-loop decreases-loop
+loop_again : tie.Need-loop-j-preserved invariant-loop decreases-loop
 loop_again c =
-    let p = c.before.before.before.before in
-    let k = p.before in
-    let i = k.before in
-    let t = i.before.before.before in
-    let l = t.before in
-    let y = l.before.before in
-    let w = y.before in
-    let x = w.before.before.before in
-    let a = x.before.before.before.before.before.args in
-    let b = w.word.ensures ∙ ap (word a.twins.now) w.before.to-index.ensures.0 in (
+    let l = c.loop-j in
+    let a = c.args in
+    let b = c.word.ensures ∙ ap (word a.twins.now) c.to_index.ensures.0 in (
       search rules,
       search rules,
-      from_turn _ _ _ _ _ _ _ l.loop.j _ l.loop.invariant.2 t.loop-test.true x.node_at.ensures.0
-          (y.node-at2.ensures.0 ∙ ap (node_block a.y.now) b) i.pointer.ensures k.pointer2.ensures p.pair.ensures,
+      from_turn _ _ _ _ _ _ _ l.j _ l.invariant.2 c.loop-j-test.true c.node_at-ax.ensures.0
+          (c.node_at-ay.ensures.0 ∙ ap (node_block a.y.now) b) c.pointer.ensures c.pointer-in-loop-j.ensures c.pair.ensures,
     )
 
 returns : tie.Need-returns invariant-loop decreases-loop
 returns c =
     let l = c.before in
-    from_done _ _ _ _ _ _ _ l.loop.j _ l.loop.invariant.2 (omega arith) l.before.entries.ensures.0
+    from_done _ _ _ _ _ _ _ l.loop-j.j _ l.loop-j.invariant.2 (omega arith) l.entries-n.ensures.0
 
-pub pair-children-spec : {M : Type 1} → statement M
-pair-children-spec =
+pub pair_children_spec : {M : Type 1} → statement M
+pair_children_spec =
     tie.close
     (tie.spec invariant-loop decreases-loop (λ c κs. search rules) (λ c κs. search rules) (λ c κs. search rules) (λ c κs. search rules)
     (λ c κs. search rules) loop_holds (λ c κs. search rules) (λ c κs. search rules) (λ c κs. search rules) (λ c. search rules)

@@ -12,36 +12,36 @@ use Rattle.raw.proofs.TwinLaws.{same_entry, entry_depth_lem, entry_pointer_lem, 
 use Rattle.raw.proofs.twins.same_entries.Statement.{statement}
 use Rattle.raw.proofs.twins.same_entries.Tie as tie
 
-abbrev invariant-loop : tie.invariant-loop
+abbrev invariant-loop : tie.invariant-loop-j
 invariant-loop x y twins a b ax ay level n j₀ j = (j ≤ n) × (every j (same_entry x y twins a b) ≡ true)
 
-abbrev decreases-loop : tie.decreases-loop
+abbrev decreases-loop : tie.decreases-loop-j
 decreases-loop x y twins a b ax ay level n j₀ j = n - j
 
-loop_holds : tie.Need-loop-init invariant-loop decreases-loop
+loop_holds : tie.Need-loop-j-init invariant-loop decreases-loop
 loop_holds c = (search rules, every_none _)
 
-returns : tie.Need-returns invariant-loop decreases-loop
+returns : tie.Need-returns-then-local_depth invariant-loop decreases-loop
 returns c =
     let e = c.before in
     let d = e.before in
     let t = d.before in
     let l = t.before in
     let y = l.before.before.before in
-    entries_fail _ _ _ _ _ _ l.loop.j l.before.entries.ensures.0 t.loop-test.true
-    (entry_depth_lem _ _ _ _ _ y.before.node_at.ensures.0 y.node-at2.ensures.0 l.loop.j d.local_depth.ensures
-    e.local-depth2.ensures c.if1.true)
+    entries_fail _ _ _ _ _ _ l.loop-j.j l.entries-n.ensures.0 t.loop-j-test.true
+    (entry_depth_lem _ _ _ _ _ y.node_at-ax.ensures.0 y.node_at-ay.ensures.0 l.loop-j.j d.local_depth.ensures
+    e.local_depth-in-loop-j.ensures c.if-local_depth.true)
 
 -- an entry whose pointers are compared
-abbrev call : tie.After-same-pointer invariant-loop decreases-loop → tie.In-loop invariant-loop decreases-loop
+abbrev call : tie.After-same_pointer invariant-loop decreases-loop → tie.In-loop-j invariant-loop decreases-loop
 call c = c.before.before.before.before.before.before
 
-abbrev args : tie.In-loop invariant-loop decreases-loop → tie.Start invariant-loop decreases-loop
+abbrev args : tie.In-loop-j invariant-loop decreases-loop → tie.Start invariant-loop decreases-loop
 args t = let n = t.before.before.before in n.before.before.before.before.before.before
 
-compared : (c : tie.After-same-pointer invariant-loop decreases-loop)
+compared : (c : tie.After-same_pointer invariant-loop decreases-loop)
     → let a = (args (call c)).args in
-    same_entry a.x.now a.y.now a.twins.now a.a a.b (call c).before.loop.j ≡ c.same-pointer.result
+    same_entry a.x.now a.y.now a.twins.now a.a a.b (call c).loop-j.j ≡ c.same_pointer.result
 compared c =
     let q = c.before in
     let p = q.before in
@@ -50,29 +50,29 @@ compared c =
     let l = (call c).before in
     let n = l.before.before in
     let y = n.before in
-    entry_pointer_lem _ _ _ _ _ y.before.node_at.ensures.0 y.node-at2.ensures.0 l.loop.j e.before.local_depth.ensures
-    e.local-depth2.ensures i.if1.false n.node_word.ensures p.pointer.ensures q.pointer2.ensures
-    c.same-pointer.ensures
+    entry_pointer_lem _ _ _ _ _ y.node_at-ax.ensures.0 y.node_at-ay.ensures.0 l.loop-j.j e.local_depth.ensures
+    e.local_depth-in-loop-j.ensures i.if-local_depth.false n.node_word-level.ensures p.pointer.ensures q.pointer-in-loop-j.ensures
+    c.same_pointer.ensures
 
-returns_2 : tie.Need-returns-2 invariant-loop decreases-loop
+returns_2 : tie.Need-returns-then-not-same_pointer invariant-loop decreases-loop
 returns_2 c =
     let t = call c.before in
-    entries_fail _ _ _ _ _ _ t.before.loop.j t.before.before.entries.ensures.0 t.loop-test.taken
-    (compared c.before ∙ not-true _ c.if2.true)
+    entries_fail _ _ _ _ _ _ t.loop-j.j t.entries-n.ensures.0 t.loop-j-test.true
+    (compared c.before ∙ not-true _ c.if-not-same_pointer.true-raw)
 
-loop_again : tie.Need-loop-preserved invariant-loop decreases-loop
+loop_again : tie.Need-loop-j-preserved invariant-loop decreases-loop
 loop_again c =
-    let l = (call c.before).before.loop in
-    (search rules, tests_more l.j _ l.inv.1 (compared c.before ∙ not-false _ c.if2.false))
+    let l = (call c.before).loop-j in
+    (search rules, tests_more l.j _ l.invariant.1 (compared c.before ∙ not-false _ c.if-not-same_pointer.false-raw))
 
-returns_3 : tie.Need-returns-3 invariant-loop decreases-loop
+returns_3 : tie.Need-returns invariant-loop decreases-loop
 returns_3 c =
     let l = c.before in
-    let e : l.loop.j ≡ l.before.entries.result = omega arith in
-    entries_all _ _ _ _ _ l.before.entries.ensures.0 e l.loop.invariant.1
+    let e : l.loop-j.j ≡ l.entries-n.result = omega arith in
+    entries_all _ _ _ _ _ l.entries-n.ensures.0 e l.loop-j.invariant.1
 
-pub same-entries-spec : {M : Type 1} → statement M
-same-entries-spec =
+pub same_entries_spec : {M : Type 1} → statement M
+same_entries_spec =
     tie.close
     (tie.spec invariant-loop decreases-loop (λ c κs. search rules) (λ c κs. search rules) (λ c κs. search rules) (λ c κs. search rules) loop_holds
     (λ c κs. search rules) (λ c κs. search rules) returns (λ c κs. search rules) (λ c κs. search rules) (λ c κs. search rules) returns_2

@@ -9,8 +9,8 @@ returns : tie.Need-returns
 returns c =
     let q = c.before in
     let p = q.before in
-    let a = p.before.before.before.before.args in
-    c.same-twin.ensures ∙ ap₂ (twin a.twins.now) p.node_word.ensures q.node-word2.ensures
+    let a = p.args in
+    c.same_twin.ensures ∙ ap₂ (twin a.twins.now) p.node_word.ensures q.node_word-2.ensures
 
-pub same-link-spec : {M : Type 1} → statement M
-same-link-spec = tie.close (tie.spec (λ c κs. search rules) (λ c κs. search rules) (λ c κs. search rules) returns)
+pub same_link_spec : {M : Type 1} → statement M
+same_link_spec = tie.close (tie.spec (λ c κs. search rules) (λ c κs. search rules) (λ c κs. search rules) returns)

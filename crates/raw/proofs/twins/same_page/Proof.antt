@@ -10,11 +10,11 @@ returns c =
     let t = c.before in
     let w = t.before in
     let q = w.before in
-    let n = t.to-index.ensures.0 ∙ w.page-words.ensures.0 in
-    c.same.ensures ∙ page_same _ _ _ _ q.before.page_at.ensures.0 q.page-at2.ensures.0 n
+    let n = t.to_index.ensures.0 ∙ w.page_words.ensures.0 in
+    c.same.ensures ∙ page_same _ _ _ _ q.page_at-px.ensures.0 q.page_at-py.ensures.0 n
 
-pub same-page-spec : {M : Type 1} → statement M
-same-page-spec =
+pub same_page_spec : {M : Type 1} → statement M
+same_page_spec =
     tie.close
     (tie.spec (λ c κs. search rules) (λ c κs. search rules) (λ c κs. search rules) (λ c κs. search rules)
     (λ c κs. search rules) returns)

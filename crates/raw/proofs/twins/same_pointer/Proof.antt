@@ -7,21 +7,21 @@ use Rattle.raw.proofs.TwinLaws.{pointer_page, pointer_twin}
 use Rattle.raw.proofs.twins.same_pointer.Statement.{statement}
 use Rattle.raw.proofs.twins.same_pointer.Tie as tie
 
-returns : tie.Need-returns
+returns : tie.Need-returns-then-q-ne0
 returns c =
     let t = c.before in
-    let l = eq-eqb _ _ t.before.before.if1.true in
-    c.same_page.ensures ∙ pointer_page _ _ _ _ _ _ l t.before.if2.true t.if3.true
+    let l = eq-eqb _ _ t.if-level-eq1.true in
+    c.same_page.ensures ∙ pointer_page _ _ _ _ _ _ l t.if-p-ne0.true-raw t.if-q-ne0.true-raw
 
-returns_2 : tie.Need-returns-2
+returns_2 : tie.Need-returns
 returns_2 c =
-    c.same-twin.ensures
+    c.same_twin.ensures
     ∙ pointer_twin _ _ _ _ _ _
-    (elim c.before.if1.branch [
-      | inl w ↦ inr (inr w.2.left)
-      | inr (inl w) ↦ inr (inl w.1.left)
-      | inr (inr w) ↦ inl (ne_eqb _ _ w.left)
+    (elim c.else-level-eq1.branch-raw [
+      | inl w ↦ inr (inr w.if-q-ne0.false-raw)
+      | inr (inl w) ↦ inr (inl w.if-p-ne0.false-raw)
+      | inr (inr w) ↦ inl (ne_eqb _ _ w.if-level-eq1.false)
     ])
 
-pub same-pointer-spec : {M : Type 1} → statement M
-same-pointer-spec = tie.close (tie.spec (λ c κs. search rules) returns (λ c κs. search rules) returns_2)
+pub same_pointer_spec : {M : Type 1} → statement M
+same_pointer_spec = tie.close (tie.spec (λ c κs. search rules) returns (λ c κs. search rules) returns_2)

@@ -5,8 +5,8 @@ use lib.Seq.{set_out}
 use Rattle.raw.proofs.words.put.Statement.{statement}
 use Rattle.raw.proofs.words.put.Tie as tie
 
-returns_2 : tie.Need-returns-2
-returns_2 c = sym (set_out c.before.args.words.now c.before.args.i c.before.args.value c.if1.false)
+returns_2 : tie.Need-returns-else-i-words
+returns_2 c = sym (set_out c.args.words.now c.args.i c.args.value c.if-i-words.false)
 
 pub put_spec : {M : Type 1} → statement M
 put_spec =

@@ -9,33 +9,33 @@ use Rattle.raw.proofs.Laws.{alike_none, alike_more, alike_fail}
 use Rattle.raw.proofs.words.same.Statement.{statement}
 use Rattle.raw.proofs.words.same.Tie as tie
 
-abbrev invariant-loop : tie.invariant-loop
+abbrev invariant-loop : tie.invariant-loop-t
 invariant-loop a i b j n t₀ t = (t ≤ n) × (alike a i b j t ≡ true)
 
-abbrev decreases-loop : tie.decreases-loop
+abbrev decreases-loop : tie.decreases-loop-t
 decreases-loop a i b j n t₀ t = n - t
 
-loop_holds : tie.Need-loop-init invariant-loop decreases-loop
+loop_holds : tie.Need-loop-t-init invariant-loop decreases-loop
 loop_holds c = (search rules, alike_none _ _ _ _)
 
-returns : tie.Need-returns invariant-loop decreases-loop
+returns : tie.Need-returns-then-word invariant-loop decreases-loop
 returns c =
     let p = c.before in
     let q = p.before in
-    alike_fail _ _ _ _ _ q.before.before.loop.t q.before.loop-test.true
-    (λ e. c.if1.true (q.word.ensures ∙ e ∙ sym p.word2.ensures))
+    alike_fail _ _ _ _ _ q.loop-t.t q.loop-t-test.true
+    (λ e. c.if-word.true (q.word.ensures ∙ e ∙ sym p.word-in-loop-t.ensures))
 
-loop_again : tie.Need-loop-preserved invariant-loop decreases-loop
+loop_again : tie.Need-loop-t-preserved invariant-loop decreases-loop
 loop_again c =
     let p = c.before in
     let q = p.before in
-    let l = q.before.before.loop in
-    (search rules, alike_more _ _ _ _ l.t l.invariant.1 (sym q.word.ensures ∙ c.if1.false ∙ p.word2.ensures))
+    let l = q.loop-t in
+    (search rules, alike_more _ _ _ _ l.t l.invariant.1 (sym q.word.ensures ∙ c.if-word.false ∙ p.word-in-loop-t.ensures))
 
-returns_2 : tie.Need-returns-2 invariant-loop decreases-loop
+returns_2 : tie.Need-returns invariant-loop decreases-loop
 returns_2 c =
-    let l = c.before.loop in
-    let e : l.t ≡ c.before.before.before.before.args.n = omega arith in
+    let l = c.loop-t in
+    let e : l.t ≡ c.args.n = omega arith in
     sym l.invariant.1 ∙ ap (alike _ _ _ _) e
 
 pub same_spec : {M : Type 1} → statement M
