@@ -64,7 +64,7 @@ fn pair(twins: &mut [u32], queue: &mut [u32], a: u32, b: u32)
 
 // Pairs the nodes that two paired nodes point to.
 fn pair_children(x: &[u32], y: &[u32], twins: &mut [u32], queue: &mut [u32], a: u32)
-    ensures { let x = x.entry.now in let y = y.entry.now in
+    ensures { let x = x.now in let y = y.now in
         let q = paired_from x y a (word twins.old a) (both twins.old queue.old) 0 (entries_of x a) in
         (twins.new ≡ q.twins) × (queue.new ≡ q.queue) }
 {
@@ -154,7 +154,7 @@ fn same_entries(x: &[u32], y: &[u32], twins: &[u32], a: u32, b: u32) -> bool
 // Whether a link of two nodes, back or forward, leads to paired nodes, or neither leads anywhere.
 fn same_link(x: &[u32], y: &[u32], twins: &[u32], a: u32, b: u32, which: usize) -> bool
     requires { which < 4 }
-    ensures { let x = x.entry.now in let y = y.entry.now in
+    ensures { let x = x.now in let y = y.now in
         result ≡ same_link x y twins.now a b which }
 {
     same_twin(twins, node_word(x, a, which), node_word(y, b, which))
@@ -184,7 +184,7 @@ fn same_node(x: &[u32], y: &[u32], twins: &[u32], a: u32) -> bool
 }
 
 fn same_nodes(x: &[u32], y: &[u32], twins: &[u32]) -> bool
-    ensures { let x = x.entry.now in result ≡ every (word x 4) (λ a. same_node x y.now twins.now (a + 1)) }
+    ensures { let x = x.now in result ≡ every (word x 4) (λ a. same_node x y.now twins.now (a + 1)) }
 {
     let nodes = word(x, 4);
     let mut a: u32 = 0;

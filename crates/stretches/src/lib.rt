@@ -205,11 +205,11 @@ fn taller(counts: Counts, nodes: u32) -> Counts
 // The levels above a row, counted until one has a single stretch.
 fn climb(row: &mut [u32], above: &mut [u32], theta: u32, pages: u32) -> Counts
     ensures { let q = climbed_from theta (record {
-      row = row.entry.now;
+      row = row.old;
       above = above.old;
       counts = record { levels = 0; nodes = 0; pages = pages };
     }) 33 in
-        (result ≡ q.counts) × (row.exit.now ≡ q.row) × (above.new ≡ q.above) }
+        (result ≡ q.counts) × (row.new ≡ q.row) × (above.new ≡ q.above) }
 {
     let mut counts = Counts {
         levels: 0,

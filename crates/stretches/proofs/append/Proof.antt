@@ -11,11 +11,11 @@ returns c =
     let p2 = s.before.before.before.before in
     let p1 = p2.before.before.before.before in
     let i = p1.before.before in
-    stretch_put _ _ _ i.before.word.ensures i.to-index.ensures.0 p1.put.ensures p2.put2.ensures s.sum.ensures
-    p3.put3.ensures
+    stretch_put _ _ _ i.word-n.ensures i.to_index.ensures.0 p1.put.ensures p2.put-2.ensures s.sum.ensures
+    p3.put-3.ensures
 
-pub append-spec : {M : Type 1} → statement M
-append-spec =
+pub append_spec : {M : Type 1} → statement M
+append_spec =
     tie.close
     (tie.spec (λ c κs. search rules) (λ c κs. search rules) (λ c. search rules) (λ c. search rules) (λ c κs. search rules)
     (λ c. search rules) (λ c κs. search rules) (λ c κs. search rules) (λ c κs. search rules) (λ c. search rules) returns)

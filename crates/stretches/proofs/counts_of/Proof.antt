@@ -9,9 +9,9 @@ returns : tie.Need-returns
 returns c =
     let k = c.before.before in
     let s = k.before.before.before.before in
-    counts_are _ _ _ refl s.sweep-over.ensures k.climb.ensures.0
+    counts_are _ _ _ refl s.sweep_over-pages.ensures k.climb.ensures.0
 
-pub counts-of-spec : {M : Type 1} → statement M
-counts-of-spec =
+pub counts_of_spec : {M : Type 1} → statement M
+counts_of_spec =
     tie.close
     (tie.spec (λ c. search rules) (λ c κs. search rules) (λ c. search rules) (λ c. search rules) (λ c κs. search rules) returns)

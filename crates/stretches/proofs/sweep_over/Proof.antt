@@ -8,43 +8,43 @@ use Rattle.stretches.proofs.Laws.{swept_first, swept_full, swept_more, swept_out
 use Rattle.stretches.proofs.sweep_over.Statement.{statement}
 use Rattle.stretches.proofs.sweep_over.Tie as tie
 
-abbrev invariant-loop : tie.invariant-loop
+abbrev invariant-loop : tie.invariant-loop-turn
 invariant-loop below rule above₀ sweep₀ turn₀ above sweep turn =
     (length above ≡ length above₀)
     × (swept_from below rule (record { sweep = sweep; row = above }) (4095 - turn)
     ≡ swept_from below rule (record { sweep = sweep₀; row = above₀ }) (4095 - turn₀))
 
-abbrev decreases-loop : tie.decreases-loop
+abbrev decreases-loop : tie.decreases-loop-turn
 decreases-loop below rule above₀ sweep₀ turn₀ above sweep turn = 4095 - turn
 
-loop_holds : tie.Need-loop-init invariant-loop decreases-loop
+loop_holds : tie.Need-loop-turn-init invariant-loop decreases-loop
 loop_holds c = (search rules, refl)
 
-returns : tie.Need-returns invariant-loop decreases-loop
+returns : tie.Need-returns-then-sweep-ge-KEYS invariant-loop decreases-loop
 returns c =
     let t = c.before.before in
     let a = t.before in
-    let l = a.loop in
-    let e = swept_first _ _ _ a.before.before.before.put.ensures in
-    swept_full _ _ _ _ 4095 l.turn (l.invariant.1 ∙ e) t.loop-test.true c.if1.true
+    let l = a.loop-turn in
+    let e = swept_first _ _ _ a.put.ensures in
+    swept_full _ _ _ _ 4095 l.turn (l.invariant.1 ∙ e) t.loop-turn-test.true c.if-sweep-ge-KEYS.true
 
-loop_again : tie.Need-loop-preserved invariant-loop decreases-loop
+loop_again : tie.Need-loop-turn-preserved invariant-loop decreases-loop
 loop_again c =
     let s = c.before.before in
     let e = s.before.before in
     let t = e.before.before in
-    let l = t.before.loop in
-    (search rules, swept_more _ _ _ _ 4095 l.turn l.invariant.1 t.loop-test.true e.if1.false s.step.ensures)
+    let l = t.loop-turn in
+    (search rules, swept_more _ _ _ _ 4095 l.turn l.invariant.1 t.loop-turn-test.true e.if-sweep-ge-KEYS.false s.step-sweep.ensures)
 
-returns_2 : tie.Need-returns-2 invariant-loop decreases-loop
+returns_2 : tie.Need-returns invariant-loop decreases-loop
 returns_2 c =
     let a = c.before in
-    let l = a.loop in
-    let e = swept_first _ _ _ a.before.before.before.put.ensures in
-    swept_out _ _ _ _ 4095 l.turn (l.invariant.1 ∙ e) c.loop-test.false
+    let l = a.loop-turn in
+    let e = swept_first _ _ _ a.put.ensures in
+    swept_out _ _ _ _ 4095 l.turn (l.invariant.1 ∙ e) c.loop-turn-test.false
 
-pub sweep-over-spec : {M : Type 1} → statement M
-sweep-over-spec =
+pub sweep_over_spec : {M : Type 1} → statement M
+sweep_over_spec =
     tie.close
     (tie.spec invariant-loop decreases-loop (λ c κs. search rules) loop_holds (λ c. search rules) returns (λ c κs. search rules) (λ c. search rules)
     (λ c. search rules) loop_again (λ c. search rules) returns_2)
