@@ -2,7 +2,7 @@
 --   placed_in list drawn order i == the record at place i of an order: 0 ascending, 1 descending, 2 as drawn, 3 with a stride
 --   entered_once p r == an entry that is to be done; levels and blocks are compared at the end
 --   entered_from list drawn order p i n == n entries of an order, from place i on
---   Filled, filled_in_lem list drawn st order p == a store set up and the set entered; the size
+--   Filled, filled_in list drawn st order p == a store set up and the set entered; the size
 --   compared_in first list p == the listing is the list, and the tree is that of the first store
 --   ordered_from first list drawn st p order n == n orders, each in the second store
 use Rattle.std.specs.Prelude.{true, false, List, [], ◌∷◌, ℕ, ◌+◌, ◌-◌, ◌*◌, ◌%◌, ◌^◌, min, eqb, ltb, get_or}

@@ -7,7 +7,7 @@
 --   entered_in p x r  == an entry, its reply compared with the book's
 --   set_up_call st     == the call that sets a store up
 --   Part             == the first key not written by a range, and the words of the store, the output and the tally after it
---   part_in_lem list p out c == a range, with the records that it lists
+--   part_in list p out c == a range, with the records that it lists
 --   read_in list p c  == a reading, compared with the list's
 --   parts_from list room p low n == n parts of the whole range, each from the first key that the one before did not write, until one is the
 --                       last; a trial fails if none is

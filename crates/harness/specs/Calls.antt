@@ -11,7 +11,7 @@
 --   ran_of c s out == the call that they stand for; a kind past the list converts a key
 --   reply_to c s out == its reply
 --   mark, marked n == what the words of an output hold before a call; an output of n words
---   written_out_lem kind r == the words of the output that a call has written
+--   written_out kind r == the words of the output that a call has written
 --   open_words s kind n == the words of the store that a call with the answer n may change: the store's size, or none
 --   stays s kept out kind r == no word has changed but those that the call may write
 --   kept s        == the words of a store, kept: at most 16,384

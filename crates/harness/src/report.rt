@@ -168,10 +168,8 @@ fn say_count(rt: &impl Print, tally: &[u64], number: u32) {
 }
 
 fn say_counts(rt: &impl Print, tally: &[u64]) {
-    let mut number: u32 = 0;
-    while number < 12 {
+    for number in 0..12u32 {
         say_count(rt, tally, number);
-        number += 1;
     }
 }
 

@@ -5,11 +5,11 @@
 --   with_record s i r == s with the record r at a place
 --   leading n t     == how many of 0, .., n − 1 pass the test t before the first that does not
 --   rank_of s k, rank_after s k == how many keys are below a key; at most a key
---   moved_up_lem s i n, moved_down s i n == the n records from place i on moved up by one; those after place i moved down by one
+--   moved_up s i n, moved_down s i n == the n records from place i on moved up by one; those after place i moved down by one
 --   inserted s r, appended s r == s with the record r in order; at the end
 --   removed s k     == s without the record with a key
 --   holds_key s k    == a key is held
---   found_in_lem, next_in, range_in, summary_in == the replies to find, next, range and summary
+--   found_in, next_in, range_in, summary_in == the replies to find, next, range and summary
 --   between_of s low high == how many records stand from low to high
 --   ahead_of sh r    == the record ends before the first so far, or with it at a higher price
 --   added_to sh r today == a sheet with one record more

@@ -15,7 +15,7 @@
 --   same_entries x y twins a b == the entries of two nodes are the same
 --   same_node x y twins a == node a is the same as its twin
 --   apart_from twins seen a n == of n nodes from a + 1 on, no twin is that of another, or seen
---   same_head_lem x y   == two heads are the same but for the root
+--   same_head x y       == two heads are the same but for the root
 --   same_tree x y   == two stores hold the same tree
 use Rattle.std.specs.Prelude.{Bool, true, false, not, ◌&&◌, ◌||◌, List, ℕ, zero, suc, ◌+◌, ◌-◌, ◌*◌, ◌%◌, ◌^◌, min, eqb, ltb, set, replicate}
 use Rattle.lists.specs.Lists.{every}

@@ -7,7 +7,7 @@
 --   deep_from, deep_at below most from start depth == a stretch contains one of the level below whose prefix is too long for it
 --   halved_at row rule from start depth == a stretch must be halved
 --   depth_from, depth_of row rule from start == the prefix length of the stretch that starts at a key
---   first_from, from_on_lem row words from key == the first element at or after a key
+--   first_from, from_on row words from key == the first element at or after a key
 --   with_stretch row start depth == a row with one stretch more
 --   Swept            == a sweep and the row that it makes
 --   stepped below rule p == the next stretch taken

@@ -4,19 +4,19 @@ use Rattle.model.proofs.Laws.{added_first, added_later}
 use Rattle.model.proofs.added.Statement.{statement}
 use Rattle.model.proofs.added.Tie as tie
 
-returns : tie.Need-returns
+returns : tie.Need-returns-then-earlier
 returns c =
     let p = c.before in
     let q = p.before.before in
-    added_first _ _ _ q.sum64.ensures p.before.balance.ensures p.sum642.ensures q.before.ahead.ensures c.if1.true
+    added_first _ _ _ q.sum64-count.ensures p.balance.ensures p.sum64-total.ensures q.ahead.ensures c.if-earlier.true
 
-returns_2 : tie.Need-returns-2
+returns_2 : tie.Need-returns
 returns_2 c =
     let p = c.before in
     let q = p.before.before in
-    added_later _ _ _ q.sum64.ensures p.before.balance.ensures p.sum642.ensures q.before.ahead.ensures c.if1.false
+    added_later _ _ _ q.sum64-count.ensures p.balance.ensures p.sum64-total.ensures q.ahead.ensures c.if-earlier.false
 
-pub added-spec : {M : Type 1} → statement M
-added-spec =
+pub added_spec : {M : Type 1} → statement M
+added_spec =
     tie.close
     (tie.spec (λ c κs. search rules) (λ c κs. search rules) (λ c κs. search rules) (λ c κs. search rules) returns returns_2)

@@ -9,9 +9,9 @@ unfolding appended
 returns c =
     let p = c.before.before in
     let q = p.before.before.before.before.before in
-    rw (p.put.ensures, p.before.sum.ensures, q.put_record.ensures, q.before.before.size.ensures)
+    rw (p.put.ensures, p.sum.ensures, q.put_record.ensures, q.size-n.ensures)
 
-pub append-spec : {M : Type 1} → statement M
-append-spec =
+pub append_spec : {M : Type 1} → statement M
+append_spec =
     tie.close
     (tie.spec (λ c κs. search rules) (λ c κs. search rules) (λ c κs. search rules) (λ c κs. search rules) (λ c. search rules) returns)

@@ -6,15 +6,15 @@ use Rattle.model.proofs.Laws.{balance_quotient}
 use Rattle.model.proofs.balance.Statement.{statement}
 use Rattle.model.proofs.balance.Tie as tie
 
-returns : tie.Need-returns
-returns c = sym (amount_perpetual _ _ _ _ (sym c.before.widen.ensures.0 ∙ c.if1.true))
+returns : tie.Need-returns-then-days-eq0
+returns c = sym (amount_perpetual _ _ _ _ (sym c.widen-days.ensures.0 ∙ c.if-days-eq0.true))
 
-returns_2 : tie.Need-returns-2
+returns_2 : tie.Need-returns
 returns_2 c =
     let p = c.before in
-    balance_quotient _ _ _ _ p.before.before.widen.ensures.0 p.days-left.ensures c.wide-product.ensures
+    balance_quotient _ _ _ _ p.widen-days.ensures.0 p.days_left.ensures c.wide_product.ensures
 
-pub balance-spec : {M : Type 1} → statement M
-balance-spec =
+pub balance_spec : {M : Type 1} → statement M
+balance_spec =
     tie.close
     (tie.spec (λ c κs. search rules) returns (λ c κs. search rules) (λ c κs. search rules) (λ c. search rules) returns_2)

@@ -5,17 +5,17 @@ use Rattle.plot.specs.Money.{days_left}
 use Rattle.model.proofs.days_left.Statement.{statement}
 use Rattle.model.proofs.days_left.Tie as tie
 
-returns : tie.Need-returns
+returns : tie.Need-returns-then-plot-today
 unfolding days_left
 returns c = omega arith
 
-returns_2 : tie.Need-returns-2
+returns_2 : tie.Need-returns-then-plot-today-2
 unfolding days_left
 returns_2 c = omega arith
 
-returns_3 : tie.Need-returns-3
+returns_3 : tie.Need-returns
 unfolding days_left
 returns_3 c = omega arith
 
-pub days-left-spec : {M : Type 1} → statement M
-days-left-spec = tie.close (tie.spec returns returns_2 (λ c. search rules) returns_3)
+pub days_left_spec : {M : Type 1} → statement M
+days_left_spec = tie.close (tie.spec returns returns_2 (λ c. search rules) returns_3)

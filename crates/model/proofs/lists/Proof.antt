@@ -7,10 +7,10 @@ use Rattle.model.proofs.lists.Tie as tie
 returns : tie.Need-returns
 returns c =
     let p = c.before in
-    listed_is _ _ _ _ c.same.ensures p.before.before.rank.ensures p.before.place.ensures p.to-index.ensures.0
+    listed_is _ _ _ _ c.same.ensures p.rank.ensures p.place-from.ensures p.to_index.ensures.0
 
-pub lists-spec : {M : Type 1} → statement M
-lists-spec =
+pub lists_spec : {M : Type 1} → statement M
+lists_spec =
     tie.close
     (tie.spec (λ c κs. search rules) (λ c κs. search rules) (λ c κs. search rules) (λ c. search rules) (λ c κs. search rules)
     returns)

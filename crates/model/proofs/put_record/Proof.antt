@@ -10,10 +10,10 @@ returns c =
     let q = p.before.before.before.before in
     let r = q.before.before.before.before in
     let t = r.before.before.before.before in
-    record_put _ _ t.before.before.place.ensures _ t.put.ensures r.put2.ensures q.put3.ensures p.put4.ensures
+    record_put _ _ t.place-at.ensures _ t.put.ensures r.put-2.ensures q.put-3.ensures p.put-4.ensures
 
-pub put-record-spec : {M : Type 1} → statement M
-put-record-spec =
+pub put_record_spec : {M : Type 1} → statement M
+put_record_spec =
     tie.close
     (tie.spec (λ c κs. search rules) (λ c κs. search rules) (λ c. search rules) (λ c κs. search rules) (λ c. search rules)
     (λ c κs. search rules) (λ c. search rules) (λ c κs. search rules) (λ c. search rules) returns)

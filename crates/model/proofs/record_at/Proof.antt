@@ -7,11 +7,11 @@ use Rattle.model.proofs.record_at.Tie as tie
 returns : tie.Need-returns
 returns c =
     let p = c.before.before.before in
-    record_read _ _ p.before.place.ensures
-    p.word.ensures c.before.before.word2.ensures c.before.word3.ensures c.word4.ensures
+    record_read _ _ p.place-at.ensures
+    p.word.ensures c.word-2.ensures c.word-3.ensures c.word-4.ensures
 
-pub record-at-spec : {M : Type 1} → statement M
-record-at-spec =
+pub record_at_spec : {M : Type 1} → statement M
+record_at_spec =
     tie.close
     (tie.spec (λ c κs. search rules) (λ c κs. search rules) (λ c. search rules) (λ c κs. search rules) (λ c. search rules)
     (λ c κs. search rules) (λ c. search rules) (λ c κs. search rules) returns)

@@ -7,26 +7,26 @@ use Rattle.model.proofs.Laws.{sheet_more, sheet_done}
 use Rattle.model.proofs.sheet_over.Statement.{statement}
 use Rattle.model.proofs.sheet_over.Tie as tie
 
-abbrev invariant-loop : tie.invariant-loop
+abbrev invariant-loop : tie.invariant-loop-i
 invariant-loop list low high today end i₀ sheet₀ i sheet = sheet_from list today sheet i (end - i) ≡ sheet_from list today no_sheet i₀ (end - i₀)
 
-abbrev decreases-loop : tie.decreases-loop
+abbrev decreases-loop : tie.decreases-loop-i
 decreases-loop list low high today end i₀ sheet₀ i sheet = end - i
 
-loop_again : tie.Need-loop-preserved invariant-loop decreases-loop
+loop_again : tie.Need-loop-i-preserved invariant-loop decreases-loop
 loop_again c =
     let p = c.before in
-    let l = p.before.before.loop in
-    sheet_more _ _ _ _ l.i _ l.invariant p.before.loop-test.true p.record-at.ensures c.added.ensures
+    let l = p.loop-i in
+    sheet_more _ _ _ _ l.i _ l.invariant p.loop-i-test.true p.record_at.ensures c.added-sheet.ensures
 
 returns : tie.Need-returns invariant-loop decreases-loop
 returns c =
     let p = c.before in
     let q = p.before in
-    sheet_done _ _ _ _ p.loop.i _ p.loop.invariant _ _ c.loop-test.false q.rank.ensures q.before.rank-after.ensures
+    sheet_done _ _ _ _ p.loop-i.i _ p.loop-i.invariant _ _ c.loop-i-test.false q.rank-i.ensures q.rank_after-end.ensures
 
-pub sheet-over-spec : {M : Type 1} → statement M
-sheet-over-spec =
+pub sheet_over_spec : {M : Type 1} → statement M
+sheet_over_spec =
     tie.close
     (tie.spec invariant-loop decreases-loop (λ c κs. search rules) (λ c κs. search rules) (λ c. refl) (λ c κs. search rules)
     (λ c κs. search rules) (λ c. search rules) (λ c. search rules) loop_again returns)

@@ -4,14 +4,14 @@ use Rattle.harness.proofs.TallyLaws.{counted_more, counted_full}
 use Rattle.harness.proofs.report.add.Statement.{statement}
 use Rattle.harness.proofs.report.add.Tie as tie
 
-returns : tie.Need-returns
+returns : tie.Need-returns-then-n-lt18446744073709551615
 returns c =
     let p = c.before.before in
     let t = p.before.before in
-    counted_more _ _ t.before.count.ensures t.if1.true p.set.ensures
+    counted_more _ _ t.count-n.ensures t.if-n-lt18446744073709551615.true p.set.ensures
 
-returns_2 : tie.Need-returns-2
-returns_2 c = counted_full _ _ c.before.count.ensures c.if1.false
+returns_2 : tie.Need-returns-else-n-lt18446744073709551615
+returns_2 c = counted_full _ _ c.count-n.ensures c.if-n-lt18446744073709551615.false
 
 pub add_spec : {M : Type 1} → statement M
 add_spec =
