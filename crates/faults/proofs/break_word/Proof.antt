@@ -12,11 +12,11 @@ returns c =
     let o = y.before in
     let b = o.before.before in
     let n = b.before in
-    broken_is _ _ _ n.before.cell.ensures n.cell2.ensures b.start_of.ensures.0 o.cell3.ensures
-    y.to-index.ensures.0 x.cell4.ensures p.put.ensures
+    broken_is _ _ _ n.cell.ensures n.cell-2.ensures b.start_of-block.ensures.0 o.cell-3.ensures
+    y.to_index.ensures.0 x.cell-4.ensures p.put.ensures
 
-pub break-word-spec : {M : Type 1} → statement M
-break-word-spec =
+pub break_word_spec : {M : Type 1} → statement M
+break_word_spec =
     tie.close
     (tie.spec (λ c κs. search rules) (λ c κs. search rules) (λ c κs. search rules) (λ c κs. search rules) (λ c κs. search rules)
     (λ c. search rules) (λ c κs. search rules) (λ c κs. search rules) (λ c. search rules) returns)

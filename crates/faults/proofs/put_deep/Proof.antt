@@ -10,11 +10,11 @@ returns c =
     let n = l.before.before.before.before in
     let p = n.before.before.before.before in
     let r = p.before.before.before.before.before in
-    deep_put_lem _ _ r.before.ask.ensures r.reply-to.ensures.1 p.put-path.ensures n.put-node.ensures
+    deep_put_lem _ _ r.ask.ensures r.reply_to.ensures.1 p.put_path.ensures n.put_node.ensures
     l.put_levels.ensures
 
-pub put-deep-spec : {M : Type 1} → statement M
-put-deep-spec =
+pub put_deep_spec : {M : Type 1} → statement M
+put_deep_spec =
     tie.close
     (tie.spec (λ c. search rules) (λ c κs. search rules) (λ c κs. search rules) (λ c κs. search rules) (λ c κs. search rules)
     (λ c κs. search rules) (λ c. search rules) returns)

@@ -9,8 +9,8 @@ returns c =
     let r = c.before.before in
     let q = r.before.before.before.before in
     let p = q.before.before.before.before in
-    levels_put_lem _ p.put.ensures q.put2.ensures r.put3.ensures
+    levels_put_lem _ p.put.ensures q.put-2.ensures r.put-3.ensures
 
-pub put-levels-spec : {M : Type 1} → statement M
-put-levels-spec =
+pub put_levels_spec : {M : Type 1} → statement M
+put_levels_spec =
     tie.close (tie.spec (λ c κs. search rules) (λ c κs. search rules) (λ c κs. search rules) (λ c. search rules) returns)

@@ -8,11 +8,11 @@ returns : tie.Need-returns
 returns c =
     let p = c.before.before.before in
     let q = p.before.before in
-    setting_is _ _ q.before.cell.ensures q.cell2.ensures p.before.cell3.ensures p.cell4.ensures
-    c.before.before.cell5.ensures c.before.cell6.ensures c.low.ensures
+    setting_is _ _ q.cell.ensures q.cell-2.ensures p.cell-3.ensures p.cell-4.ensures
+    c.cell-5.ensures c.cell-6.ensures c.low.ensures
 
-pub setting-of-spec : {M : Type 1} → statement M
-setting-of-spec =
+pub setting_of_spec : {M : Type 1} → statement M
+setting_of_spec =
     tie.close
     (tie.spec (λ c κs. search rules) (λ c κs. search rules) (λ c κs. search rules) (λ c κs. search rules) (λ c κs. search rules)
     (λ c κs. search rules) (λ c. search rules) (λ c κs. search rules) returns)

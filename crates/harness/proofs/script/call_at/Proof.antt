@@ -7,11 +7,11 @@ use Rattle.harness.proofs.script.call_at.Tie as tie
 returns : tie.Need-returns
 returns c =
     let p = c.before.before in
-    call_of _ _ p.before.before.cell.ensures p.before.cell2.ensures p.cell3.ensures
-    c.before.cell4.ensures c.cell5.ensures
+    call_of _ _ p.cell.ensures p.cell-2.ensures p.cell-3.ensures
+    c.cell-4.ensures c.cell-5.ensures
 
-pub call-at-spec : {M : Type 1} → statement M
-call-at-spec =
+pub call_at_spec : {M : Type 1} → statement M
+call_at_spec =
     tie.close
     (tie.spec (λ c κs. search rules) (λ c κs. search rules) (λ c κs. search rules) (λ c κs. search rules)
     (λ c κs. search rules) returns)

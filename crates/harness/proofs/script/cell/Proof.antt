@@ -7,16 +7,16 @@ use Rattle.harness.proofs.ScriptLaws.{cell_in, cell_past}
 use Rattle.harness.proofs.script.cell.Statement.{statement}
 use Rattle.harness.proofs.script.cell.Tie as tie
 
-returns : tie.Need-returns
+returns : tie.Need-returns-then-i-rows
 returns c = cell_in _ _ _ c.word.ensures
 
-returns_2 : tie.Need-returns-2
+returns_2 : tie.Need-returns
 returns_2 c =
-    let a = c.before.args in
+    let a = c.args in
     let h : length a.rows.now ≤ a.i = omega arith in
     cell_past _ _ _ h
 
-pub cell-spec : {M : Type 1} → statement M
-cell-spec =
+pub cell_spec : {M : Type 1} → statement M
+cell_spec =
     tie.close
     (tie.spec (λ c. search rules) (λ c. search rules) (λ c κs. search rules) returns returns_2)

@@ -1,0 +1,13 @@
+-- The loop counts up to its end, and what is lent keeps its length.
+use mathlib.Core.Path.{◌≡◌}
+use Prim.Native.Nat.{◌-◌}
+use lib.ListN.{length}
+use Rattle.groups.proofs.orders.sets_of.Given as goal
+
+abbrev pub invariant-loop-i : goal.invariant-loop-i
+invariant-loop-i g l =
+    (length l.first ≡ length l.initial.first) × (length l.store ≡ length l.initial.store) × (length l.list ≡ length l.initial.list) × (length l.drawn ≡ length l.initial.drawn)
+    × (length l.tally ≡ length l.initial.tally)
+
+abbrev pub decreases-loop-i : goal.decreases-loop-i
+decreases-loop-i g l = 16 - l.i

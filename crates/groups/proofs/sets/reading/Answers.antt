@@ -1,0 +1,11 @@
+-- A range is a part with an output of its own; any other reading has no output.
+use Rattle.groups.proofs.SetLaws.{read_range, read_other}
+use Rattle.groups.proofs.sets.reading.Goals as goal
+
+pub returns-then-call-eq-RANGE : goal.returns-then-call-eq-RANGE
+returns-then-call-eq-RANGE g c =
+    read_range _ _ _ _ c.if-call-eq-RANGE.true c.part.ensures
+
+pub returns : goal.returns
+returns g c =
+    read_other _ _ _ _ c.if-call-eq-RANGE.false c.watched_in-outcome.ensures c.reply_to.ensures c.judge_outcome.ensures

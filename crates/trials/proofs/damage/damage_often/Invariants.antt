@@ -1,0 +1,11 @@
+-- The loop counts up to its end, and what is lent keeps its length.
+use mathlib.Core.Path.{◌≡◌}
+use Prim.Native.Nat.{◌-◌}
+use lib.ListN.{length}
+use Rattle.trials.proofs.damage.damage_often.Given as goal
+
+abbrev pub invariant-loop-i : goal.invariant-loop-i
+invariant-loop-i g l = (length l.store ≡ length l.initial.store) × (length l.tally ≡ length l.initial.tally)
+
+abbrev pub decreases-loop-i : goal.decreases-loop-i
+decreases-loop-i g l = 3000 - l.i
