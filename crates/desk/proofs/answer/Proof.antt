@@ -21,62 +21,62 @@ told_as s e l w o = (l ∙ o ∙ sym (ap (λ r. (answered s r).outcome) e), w �
 narrow : {r q : SummaryReply} {high : ℕ} → r ≡ q → q.count ≤ high → high < 2 ^ 32 → r.count < 2 ^ 32
 narrow e l h = omega (arith, ap (λ (r : SummaryReply). r.count) e)
 
-summary_told_requires : tie.Need-summary-told-requires
+summary_told_requires : tie.Need-summary_told-requires
 summary_told_requires c κs = narrow c.summary.ensures (summary_count _ _ _ _ _) (omega arith)
 
-returns : tie.Need-returns
+returns : tie.Need-returns-in-SetUp
 unfolding answered
 returns c =
     let e = c.before.before.before in
-    told_as _ e.before.before.before.request.given.1 (ap Line (c.set-up-told.ensures ∙ ap set_up_told e.set-up.ensures.0))
-    e.set-up.ensures.1 refl
+    told_as _ e.in-SetUp.is (ap Line (c.set_up_told.ensures ∙ ap set_up_told e.set_up.ensures.0))
+    e.set_up.ensures.1 refl
 
-returns_2 : tie.Need-returns-2
+returns_2 : tie.Need-returns-in-Enter
 unfolding answered
 returns_2 c =
     let e = c.before.before.before in
-    told_as _ e.before.before.before.request2.given.1 (ap Line (c.enter-told.ensures ∙ ap enter_told e.enter.ensures.0))
+    told_as _ e.in-Enter.is (ap Line (c.enter_told.ensures ∙ ap enter_told e.enter.ensures.0))
     e.enter.ensures.1 refl
 
-returns_3 : tie.Need-returns-3
+returns_3 : tie.Need-returns-in-Find
 unfolding answered
 returns_3 c =
-    let q = c.before.before.before.before in
-    told_as _ q.request3.given.1 (ap Line (c.found-told.ensures ∙ ap (found_told 2) c.before.find.ensures)) refl refl
+    let q = c.before.before in
+    told_as _ q.in-Find.is (ap Line (c.found_told.ensures ∙ ap (found_told 2) c.find.ensures)) refl refl
 
-returns_4 : tie.Need-returns-4
+returns_4 : tie.Need-returns-in-Next
 unfolding answered
 returns_4 c =
-    let q = c.before.before.before.before in
-    told_as _ q.request4.given.1 (ap Line (c.found-told2.ensures ∙ ap (found_told 3) c.before.next.ensures)) refl refl
+    let q = c.before.before in
+    told_as _ q.in-Next.is (ap Line (c.found_told-in-Next.ensures ∙ ap (found_told 3) c.next.ensures)) refl refl
 
-returns_5 : tie.Need-returns-5
+returns_5 : tie.Need-returns-in-Range
 unfolding answered
-returns_5 c = told_as _ c.before.before.before.request5.given.1 c.open-range.ensures refl refl
+returns_5 c = told_as _ c.in-Range.is c.open_range.ensures refl refl
 
-returns_6 : tie.Need-returns-6
+returns_6 : tie.Need-returns-in-Summary
 unfolding answered
 returns_6 c =
-    let q = c.before.before.before.before in
-    told_as _ q.request6.given.1 (ap Line (c.summary-told.ensures ∙ ap summary_told c.before.summary.ensures))
+    let q = c.before.before in
+    told_as _ q.in-Summary.is (ap Line (c.summary_told.ensures ∙ ap summary_told c.summary.ensures))
     refl refl
 
-returns_7 : tie.Need-returns-7
+returns_7 : tie.Need-returns-in-Dump
 unfolding answered
-returns_7 c = told_as _ c.before.before.enum_told.given.1 c.open-dump.ensures refl refl
+returns_7 c = told_as _ c.in-Dump.is c.open_dump.ensures refl refl
 
-returns_8 : tie.Need-returns-8
+returns_8 : tie.Need-returns-in-Remove
 unfolding answered
 returns_8 c =
     let e = c.before.before.before in
-    told_as _ e.before.before.before.request7.given.1 (ap Line (c.found-told3.ensures ∙ ap (found_told 7) e.remove.ensures.0))
+    told_as _ e.in-Remove.is (ap Line (c.found_told-in-Remove.ensures ∙ ap (found_told 7) e.remove.ensures.0))
     e.remove.ensures.1 refl
 
-returns_9 : tie.Need-returns-9
+returns_9 : tie.Need-returns-in-Wrong
 unfolding answered
-returns_9 c = told_as _ c.enum-told2.given.1 refl refl refl
+returns_9 c = told_as _ c.in-Wrong.is refl refl refl
 
-pub answer-spec : {M : Type 1} → statement M
-answer-spec =
+pub answer_spec : {M : Type 1} → statement M
+answer_spec =
     tie.close
     (tie.spec (λ c. search rules) (λ c κs. search rules) (λ c κs. search rules) (λ c. search rules) (λ c κs. search rules) (λ c κs. search rules) (λ c. search rules) (λ c κs. search rules) (λ c κs. search rules) (λ c. search rules) (λ c κs. search rules) (λ c κs. search rules) (λ c. search rules) (λ c κs. search rules) (λ c. search rules) (λ c κs. search rules) summary_told_requires (λ c. search rules) (λ c κs. search rules) (λ c. search rules) (λ c κs. search rules) (λ c κs. search rules) (λ c. search rules) (λ c. search rules) returns (λ c. search rules) returns_2 (λ c. search rules) returns_3 (λ c. search rules) returns_4 (λ c. search rules) returns_5 (λ c. search rules) returns_6 (λ c. search rules) returns_7 (λ c. search rules) returns_8 returns_9)

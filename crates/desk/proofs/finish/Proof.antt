@@ -21,14 +21,14 @@ some : (d : Desk) (out bs : List ℕ) (n : ℕ) → (d.held ≡ 0 → ⊥)
 unfolding finished
 some d out bs n h e = (rw (ne_eqb d.held 0 h, finished) e.0, rw (ne_eqb d.held 0 h, finished) e.1)
 
-returns : tie.Need-returns
-returns c = none c.before.before.before.args.d _ c.if1.true
+returns : tie.Need-returns-then-d-eq0
+returns c = none c.args.d _ c.if-d-eq0.true
 
-returns_2 : tie.Need-returns-2
+returns_2 : tie.Need-returns
 returns_2 c =
     let w = c.before.before in
     let s = w.before.before in
-    some s.before.before.before.args.d _ _ _ s.if1.false w.write.ensures
+    some s.args.d _ _ _ s.if-d-eq0.false w.write.ensures
 
 pub finish_spec : {M : Type 1} → statement M
 finish_spec = tie.close (tie.spec returns (λ c κs. search rules) (λ c. search rules) returns_2)

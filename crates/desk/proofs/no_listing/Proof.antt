@@ -6,5 +6,5 @@ use Rattle.desk.proofs.no_listing.Tie as tie
 returns : tie.Need-returns
 returns c = refl
 
-pub no-listing-spec : {M : Type 1} → statement M
-no-listing-spec = tie.close (tie.spec returns)
+pub no_listing_spec : {M : Type 1} → statement M
+no_listing_spec = tie.close (tie.spec returns)

@@ -8,5 +8,5 @@ returns : tie.Need-returns
 unfolding part_of
 returns c = search rules
 
-pub probe-spec : {M : Type 1} → statement M
-probe-spec = tie.close (tie.spec (λ c. search rules) (λ c κs. search rules) returns)
+pub probe_spec : {M : Type 1} → statement M
+probe_spec = tie.close (tie.spec (λ c. search rules) (λ c κs. search rules) returns)

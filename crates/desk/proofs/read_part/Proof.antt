@@ -20,13 +20,13 @@ room out e = rw e
 narrow : {r q : RangeReply} {low high : ℕ} → r ≡ q → PartFacts low high q → r.count < 2 ^ 32
 narrow e f = omega (arith, ap (λ (r : RangeReply). r.count) e, f.few)
 
-piece_of_requires : tie.Need-piece-of-requires
+piece_of_requires : tie.Need-piece_of-requires
 piece_of_requires c κs =
     let start = c.before.before.before.before.before.before in
-    narrow c.before.before.range.ensures.0 (range_facts _ _ _ start.args.part.now (room start.args.part.now start.requires))
+    narrow c.range.ensures.0 (range_facts _ _ _ start.args.part.now (room start.args.part.now start.requires))
 
 returns : tie.Need-returns
-returns c = (c.piece_of.ensures ∙ c.before.before.before.range.ensures.0, c.before.before.before.range.ensures.1)
+returns c = (c.piece_of.ensures ∙ c.range.ensures.0, c.range.ensures.1)
 
-pub read-part-spec : {M : Type 1} → statement M
-read-part-spec = tie.close (tie.spec (λ c κs. search rules) piece_of_requires (λ c. search rules) returns)
+pub read_part_spec : {M : Type 1} → statement M
+read_part_spec = tie.close (tie.spec (λ c κs. search rules) piece_of_requires (λ c. search rules) returns)

@@ -4,13 +4,13 @@ use Rattle.desk.specs.Listing.{survey_of}
 use Rattle.desk.proofs.survey_of.Statement.{statement}
 use Rattle.desk.proofs.survey_of.Tie as tie
 
-returns : tie.Need-returns
+returns : tie.Need-returns-then-p-eq0
 unfolding survey_of
-returns c = rw (eq-eqb _ _ c.if1.true, survey_of)
+returns c = rw (eq-eqb _ _ c.if-p-eq0.true, survey_of)
 
-returns_2 : tie.Need-returns-2
+returns_2 : tie.Need-returns
 unfolding survey_of
-returns_2 c = rw (ne_eqb _ _ c.if1.false, survey_of)
+returns_2 c = rw (ne_eqb _ _ c.if-p-eq0.false, survey_of)
 
-pub survey-of-spec : {M : Type 1} → statement M
-survey-of-spec = tie.close (tie.spec returns returns_2)
+pub survey_of_spec : {M : Type 1} → statement M
+survey_of_spec = tie.close (tie.spec returns returns_2)

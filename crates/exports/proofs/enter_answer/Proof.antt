@@ -5,32 +5,32 @@ use Rattle.exports.specs.Reply.{values_of, enter_values}
 use Rattle.exports.proofs.enter_answer.Statement.{statement}
 use Rattle.exports.proofs.enter_answer.Tie as tie
 
-returns : tie.Need-returns
+returns : tie.Need-returns-in-Entered
 unfolding values_of enter_values
-returns c = rw c.before.answer.given.1 (refl, refl)
+returns c = rw c.in-Entered.is (refl, refl)
 
-returns_2 : tie.Need-returns-2
+returns_2 : tie.Need-returns-in-EnterHeadBroken
 unfolding values_of enter_values
-returns_2 c = rw (c.zeros.ensures, c.before.enum_told.given.1) (refl, refl)
+returns_2 c = rw (c.zeros.ensures, c.in-EnterHeadBroken.is) (refl, refl)
 
-returns_3 : tie.Need-returns-3
+returns_3 : tie.Need-returns-in-RecordOutside
 unfolding values_of enter_values
-returns_3 c = rw (c.zeros2.ensures, c.before.enum-told2.given.1) (refl, refl)
+returns_3 c = rw (c.zeros-in-RecordOutside.ensures, c.in-RecordOutside.is) (refl, refl)
 
-returns_4 : tie.Need-returns-4
+returns_4 : tie.Need-returns-in-EnterDamaged
 unfolding values_of enter_values
-returns_4 c = rw (c.zeros3.ensures, c.before.enum-told3.given.1) (refl, refl)
+returns_4 c = rw (c.zeros-in-EnterDamaged.ensures, c.in-EnterDamaged.is) (refl, refl)
 
-returns_5 : tie.Need-returns-5
+returns_5 : tie.Need-returns-in-KeyHeld
 unfolding values_of enter_values
-returns_5 c = rw (c.zeros4.ensures, c.before.enum-told4.given.1) (refl, refl)
+returns_5 c = rw (c.zeros-in-KeyHeld.ensures, c.in-KeyHeld.is) (refl, refl)
 
-returns_6 : tie.Need-returns-6
+returns_6 : tie.Need-returns-in-NoBlocks
 unfolding values_of enter_values
-returns_6 c = rw (c.zeros5.ensures, c.before.enum-told5.given.1) (refl, refl)
+returns_6 c = rw (c.zeros-in-NoBlocks.ensures, c.in-NoBlocks.is) (refl, refl)
 
-pub enter-answer-spec : {M : Type 1} → statement M
-enter-answer-spec =
+pub enter_answer_spec : {M : Type 1} → statement M
+enter_answer_spec =
     tie.close
     (tie.spec (λ c. search rules) (λ c. search rules) (λ c. search rules) (λ c. search rules) (λ c. search rules) (λ c. search rules)
     (λ c κs. search rules) (λ c. search rules) (λ c κs. search rules) (λ c. search rules) (λ c κs. search rules) (λ c. search rules)

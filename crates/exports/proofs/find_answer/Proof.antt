@@ -5,24 +5,24 @@ use Rattle.exports.specs.Reply.{values_of, record_values}
 use Rattle.exports.proofs.find_answer.Statement.{statement}
 use Rattle.exports.proofs.find_answer.Tie as tie
 
-returns : tie.Need-returns
+returns : tie.Need-returns-in-Found
 unfolding values_of record_values
-returns c = rw c.before.before.before.before.before.answer.given.1 (refl, refl)
+returns c = rw c.in-Found.is (refl, refl)
 
-returns_2 : tie.Need-returns-2
+returns_2 : tie.Need-returns-in-NotFound
 unfolding values_of record_values
-returns_2 c = rw (c.zeros.ensures, c.before.enum_told.given.1) (refl, refl)
+returns_2 c = rw (c.zeros.ensures, c.in-NotFound.is) (refl, refl)
 
-returns_3 : tie.Need-returns-3
+returns_3 : tie.Need-returns-in-HeadBroken
 unfolding values_of record_values
-returns_3 c = rw (c.zeros2.ensures, c.before.enum-told2.given.1) (refl, refl)
+returns_3 c = rw (c.zeros-in-HeadBroken.ensures, c.in-HeadBroken.is) (refl, refl)
 
-returns_4 : tie.Need-returns-4
+returns_4 : tie.Need-returns-in-DamageMet
 unfolding values_of record_values
-returns_4 c = rw (c.zeros3.ensures, c.before.enum-told3.given.1) (refl, refl)
+returns_4 c = rw (c.zeros-in-DamageMet.ensures, c.in-DamageMet.is) (refl, refl)
 
-pub find-answer-spec : {M : Type 1} → statement M
-find-answer-spec =
+pub find_answer_spec : {M : Type 1} → statement M
+find_answer_spec =
     tie.close
     (tie.spec (λ c. search rules) (λ c. search rules) (λ c. search rules) (λ c. search rules) (λ c. search rules) (λ c. search rules)
     (λ c κs. search rules) (λ c. search rules) (λ c κs. search rules) (λ c. search rules) (λ c κs. search rules) returns returns_2 returns_3

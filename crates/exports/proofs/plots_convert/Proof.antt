@@ -8,7 +8,7 @@ use Rattle.exports.proofs.plots_convert.Tie as tie
 returns : tie.Need-returns
 returns c =
     let p = c.before.before in
-    told (λ r. r.number) key_values _ _ p.before.before.convert.ensures p.before.key-answer.ensures p.put-answer.ensures
+    told (λ r. r.number) key_values _ _ p.convert.ensures p.key_answer.ensures p.put_answer.ensures
 
-pub plots-convert-spec : {M : Type 1} → statement M
-plots-convert-spec = tie.close (tie.spec (λ c κs. search rules) (λ c κs. search rules) (λ c κs. search rules) (λ c. search rules) returns)
+pub plots_convert_spec : {M : Type 1} → statement M
+plots_convert_spec = tie.close (tie.spec (λ c κs. search rules) (λ c κs. search rules) (λ c κs. search rules) (λ c. search rules) returns)

@@ -8,10 +8,10 @@ use Rattle.exports.proofs.plots_enter.Tie as tie
 returns : tie.Need-returns
 returns c =
     let p = c.before.before in
-    told_words (λ r. r.number) enter_values _ _ p.before.before.before.before.enter.ensures p.before.enter-answer.ensures
-    p.put-answer.ensures
+    told_words (λ r. r.number) enter_values _ _ p.enter.ensures p.enter_answer.ensures
+    p.put_answer.ensures
 
-pub plots-enter-spec : {M : Type 1} → statement M
-plots-enter-spec =
+pub plots_enter_spec : {M : Type 1} → statement M
+plots_enter_spec =
     tie.close
     (tie.spec (λ c κs. search rules) (λ c κs. search rules) (λ c κs. search rules) (λ c. search rules) (λ c. search rules) returns)

@@ -8,7 +8,7 @@ use Rattle.exports.proofs.plots_key_of.Tie as tie
 returns : tie.Need-returns
 returns c =
     let p = c.before.before in
-    told (λ r. r.number) key_values _ _ p.before.before.key_of.ensures p.before.key-answer.ensures p.put-answer.ensures
+    told (λ r. r.number) key_values _ _ p.key_of.ensures p.key_answer.ensures p.put_answer.ensures
 
-pub plots-key-of-spec : {M : Type 1} → statement M
-plots-key-of-spec = tie.close (tie.spec (λ c κs. search rules) (λ c κs. search rules) (λ c κs. search rules) (λ c. search rules) returns)
+pub plots_key_of_spec : {M : Type 1} → statement M
+plots_key_of_spec = tie.close (tie.spec (λ c κs. search rules) (λ c κs. search rules) (λ c κs. search rules) (λ c. search rules) returns)

@@ -8,7 +8,7 @@ use Rattle.exports.proofs.plots_label_of.Tie as tie
 returns : tie.Need-returns
 returns c =
     let p = c.before.before in
-    told (λ r. r.number) label_values _ _ p.before.before.label_of.ensures p.before.label-answer.ensures p.put-answer.ensures
+    told (λ r. r.number) label_values _ _ p.label_of.ensures p.label_answer.ensures p.put_answer.ensures
 
-pub plots-label-of-spec : {M : Type 1} → statement M
-plots-label-of-spec = tie.close (tie.spec (λ c κs. search rules) (λ c κs. search rules) (λ c κs. search rules) (λ c. search rules) returns)
+pub plots_label_of_spec : {M : Type 1} → statement M
+plots_label_of_spec = tie.close (tie.spec (λ c κs. search rules) (λ c κs. search rules) (λ c κs. search rules) (λ c. search rules) returns)

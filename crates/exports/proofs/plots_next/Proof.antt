@@ -8,7 +8,7 @@ use Rattle.exports.proofs.plots_next.Tie as tie
 returns : tie.Need-returns
 returns c =
     let p = c.before.before in
-    told (λ r. r.number) record_values _ _ p.before.before.next.ensures p.before.find-answer.ensures p.put-answer.ensures
+    told (λ r. r.number) record_values _ _ p.next.ensures p.find_answer.ensures p.put_answer.ensures
 
-pub plots-next-spec : {M : Type 1} → statement M
-plots-next-spec = tie.close (tie.spec (λ c κs. search rules) (λ c κs. search rules) (λ c κs. search rules) (λ c. search rules) returns)
+pub plots_next_spec : {M : Type 1} → statement M
+plots_next_spec = tie.close (tie.spec (λ c κs. search rules) (λ c κs. search rules) (λ c κs. search rules) (λ c. search rules) returns)

@@ -8,10 +8,10 @@ use Rattle.exports.proofs.plots_range.Tie as tie
 returns : tie.Need-returns
 returns c =
     let p = c.before.before in
-    told_words (λ r. r.number) range_values _ _ p.before.before.before.before.range.ensures p.before.range-answer.ensures
-    p.put-answer.ensures
+    told_words (λ r. r.number) range_values _ _ p.range.ensures p.range_answer.ensures
+    p.put_answer.ensures
 
-pub plots-range-spec : {M : Type 1} → statement M
-plots-range-spec =
+pub plots_range_spec : {M : Type 1} → statement M
+plots_range_spec =
     tie.close
     (tie.spec (λ c κs. search rules) (λ c κs. search rules) (λ c κs. search rules) (λ c. search rules) (λ c. search rules) returns)

@@ -7,10 +7,10 @@ use Rattle.exports.proofs.plots_set_up.Tie as tie
 
 returns : tie.Need-returns
 returns c =
-    told_words (λ r. r.number) size_values _ _ c.before.before.before.before.before.before.set-up.ensures
-    c.before.before.before.set-up-answer.ensures c.before.before.put-answer.ensures
+    told_words (λ r. r.number) size_values _ _ c.set_up.ensures
+    c.set_up_answer.ensures c.put_answer.ensures
 
-pub plots-set-up-spec : {M : Type 1} → statement M
-plots-set-up-spec =
+pub plots_set_up_spec : {M : Type 1} → statement M
+plots_set_up_spec =
     tie.close
     (tie.spec (λ c κs. search rules) (λ c κs. search rules) (λ c κs. search rules) (λ c. search rules) (λ c. search rules) returns)

@@ -8,8 +8,8 @@ use Rattle.exports.proofs.plots_summary.Tie as tie
 returns : tie.Need-returns
 returns c =
     let p = c.before.before in
-    told (λ r. r.number) summary_values _ _ p.before.before.summary.ensures p.before.summary-answer.ensures
-    p.put-answer.ensures
+    told (λ r. r.number) summary_values _ _ p.summary.ensures p.summary_answer.ensures
+    p.put_answer.ensures
 
-pub plots-summary-spec : {M : Type 1} → statement M
-plots-summary-spec = tie.close (tie.spec (λ c κs. search rules) (λ c κs. search rules) (λ c κs. search rules) (λ c. search rules) returns)
+pub plots_summary_spec : {M : Type 1} → statement M
+plots_summary_spec = tie.close (tie.spec (λ c κs. search rules) (λ c κs. search rules) (λ c κs. search rules) (λ c. search rules) returns)
