@@ -1,4 +1,6 @@
 // A node block of a store: the rule that a visited one keeps, and the entry that a key takes in it.
+#![tactic(auto)]
+
 ghost use Rattle.std.specs.Prelude.{◌≡◌, ◌+◌, ◌-◌, ◌*◌, ◌^◌, ◌<◌, ◌≤◌, max, length};
 ghost use Rattle.store.specs.Format.{width};
 ghost use Rattle.store.specs.Head.{node_words};

@@ -1,4 +1,6 @@
 // A page in place: a reader that stands in it, the rule of a visited page, and the search for a key.
+#![tactic(auto)]
+
 ghost use Rattle.std.specs.Prelude.{◌≡◌, true, ◌++◌, ◌+◌, ◌*◌, ◌/◌, ◌%◌, ◌^◌, ◌≤◌, ◌<◌, ltb, length, get_or, drop};
 ghost use Rattle.store.specs.Format.{width, words};
 ghost use Rattle.page.specs.Page.{count, item_at, item_words, lawful_item, begun, goes_on, in_turn, checked_of};

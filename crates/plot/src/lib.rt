@@ -1,4 +1,6 @@
 // Plots and money: a record's limits, what is left of a price, and the labels of keys.
+#![tactic(auto)]
+
 ghost use Rattle.std.specs.Prelude.{◌≡◌, ◌*◌, ◌/◌, ◌<◌, ◌≤◌, ◌^◌, max, true};
 ghost use Rattle.plot.specs.Plot.{lawful_day, lawful_term, lawful};
 ghost use Rattle.plot.specs.Money.{days_left, amount, reply, balance_reply};

@@ -6,14 +6,13 @@ use Prim.Native.Nat.{ℕ, ◌+◌, ◌-◌, ◌*◌, ◌/◌, ◌≤◌, ◌<◌
 use native.Mathlib.Nat.{div-le_of_le-mul}
 use native.Mathlib.Omega.{arith}
 use native.Mathlib.Decide.{dec_le}
-use lib.Dec.{leb, ltb, eqb}
+use lib.Dec.{leb, eqb}
 use lib.ListN.{length, take, drop}
 use borrow.Author.Tests.{leb-true, le-leb, ltb-true, lt-ltb, eqb-true, eq-eqb, ne_eqb}
 use Rattle.lists.proofs.Parts.{part_in_lem, part_out}
 use Rattle.lists.proofs.Tests.{untrue, and_true}
-use Rattle.tree.specs.Build.{same}
 use Rattle.tree.specs.Book.{log2, level_bound}
-use Rattle.tree.proofs.BuildLaws.{same_self, same_true}
+use Rattle.tree.proofs.BuildLaws.{same_true}
 use Rattle.store.specs.declared.Format.{Format}
 use Rattle.store.specs.declared.Format.TheVariants.{Plots}
 use Rattle.store.specs.declared.Head.{Head}

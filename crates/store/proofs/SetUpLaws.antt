@@ -10,7 +10,6 @@ use lib.Seq.{length-take-le}
 use borrow.Author.Tests.{le-leb, lt-leb}
 use Rattle.store.specs.declared.Format.{Format}
 use Rattle.store.specs.declared.SetUpAnswer.TheVariants.{Done, OutsideLimits, TooShort}
-use Rattle.store.specs.Format.{words}
 use Rattle.store.specs.Head.{node_words, size, lawful_sizes}
 use Rattle.store.specs.SetUp.{set_up_words, marked, reply, set_up}
 use Rattle.store.proofs.HeadLaws.{Limits, sizes_limits}

@@ -1,4 +1,6 @@
 // A store in a lent slice of words: its head, where its blocks stand, and set-up.
+#![tactic(auto)]
+
 ghost use Rattle.std.specs.Prelude.{◌≡◌, ◌+◌, ◌-◌, ◌*◌, ◌/◌, ◌^◌, ◌≤◌, ◌<◌, length, get_or, replicate};
 ghost use Rattle.lists.specs.Lists.{part};
 ghost use Rattle.tree.specs.Book.{log2, level_bound};
@@ -291,7 +293,12 @@ pub fn head_ok(store: &[u32], f: Format) -> bool
         return false;
     }
     let head = head_of(store);
-    if !sizes_ok(head.theta, head.capacity, head.node_blocks, head.page_blocks) {
+    if !sizes_ok(
+        head.theta,
+        head.capacity,
+        head.node_blocks,
+        head.page_blocks,
+    ) {
         return false;
     }
     if size_of(

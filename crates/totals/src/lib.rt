@@ -1,4 +1,6 @@
 // A summary's running totals, lent to be brought up to date record by record.
+#![tactic(auto)]
+
 ghost use Rattle.std.specs.Prelude.{◌≡◌, true, ◌+◌, ◌<◌, ◌^◌};
 ghost use Rattle.plot.specs.Plot.{lawful_day, lawful_term};
 ghost use Rattle.totals.specs.Totals.{Room, no_totals, worth, ahead, earlier, updated_of};

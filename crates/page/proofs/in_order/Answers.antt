@@ -1,13 +1,10 @@
 -- Each turn checks the record at the reader; at the end all are checked.
-use Rattle.std.proofs.Common.{◌≡◌, ◌∙◌, sym, ap, subst, arith, rules, ◌<◌, ◌+◌, ◌*◌, ◌≤◌, ℕ, length, true}
+use Rattle.std.proofs.Common.{◌∙◌, sym, ap, arith, ◌<◌, ◌+◌, ◌*◌, ◌≤◌, ℕ, length}
 use native.Mathlib.Nat.{mul-le-mul_left}
-use Rattle.store.specs.Format.{words, width}
-use Rattle.store.specs.declared.Item.{Item}
-use Rattle.page.specs.declared.Reader.{Reader}
-use Rattle.page.specs.Page.{item_at, goes_on}
-use Rattle.page.proofs.Order.{Reached, starts, within, next, ends, less_left}
+use Rattle.store.specs.Format.{words}
+use Rattle.page.specs.Page.{item_at}
+use Rattle.page.proofs.Order.{starts, within, next, ends, less_left}
 use Rattle.page.proofs.in_order.Goals as goal
-
 
 -- the bound of a step
 inside : (w i n m : ℕ) → i < n → w * n < m → w * (i + 1) < m
@@ -45,7 +42,7 @@ loop-reader-preserved c =
     let q = c.advance-q in (
       ap (λ p. p.now) q.ensures.2 ∙ v.0,
       next _ _ _ _ _ v.1 (sym c.goes_on.ensures ∙ c.loop-reader-test.true)
-      (q.ensures.0 ∙ ap (λ p. item_at c.args.f p c.loop-reader.reader.at) v.0) q.ensures.1 c.checked-p.ensures q.ensures.3,
+          (q.ensures.0 ∙ ap (λ p. item_at c.args.f p c.loop-reader.reader.at) v.0) q.ensures.1 c.checked-p.ensures q.ensures.3,
     )
 
 pub returns : goal.returns

@@ -1,8 +1,7 @@
 -- Three tests.
 use borrow.Author.Rules.{rules}
-use mathlib.Core.Path.{◌≡◌, refl, sym, ◌∙◌}
+use mathlib.Core.Path.{refl, sym, ◌∙◌}
 use mathlib.Core.Bool.{true, false}
-use native.Mathlib.Omega.{arith}
 use Rattle.lists.proofs.Tests.{passed, failed}
 use Rattle.store.proofs.Places.{under_limits}
 use Rattle.store.proofs.ChainLaws.{link_is}

@@ -1,5 +1,4 @@
 use borrow.Author.Rules.{rules}
-use mathlib.Core.Path.{◌≡◌}
 use Rattle.store.proofs.ChainLaws.{node_next_is}
 use Rattle.store.proofs.node_next.Statement.{statement}
 use Rattle.store.proofs.node_next.Tie as tie

@@ -3,7 +3,6 @@ use borrow.Author.Rules.{rules}
 use mathlib.Core.Path.{◌≡◌, sym, ap, ◌∙◌}
 use mathlib.Core.Bool.{false}
 use Prim.Native.Nat.{◌-◌, ◌≤◌}
-use native.Mathlib.Omega.{arith}
 use Rattle.store.specs.Released.{node_next, after_all, passed, member}
 use Rattle.store.proofs.ChainLaws.{after_none, after_more, seen_none, seen_more, seen_later}
 use Rattle.store.proofs.node_seen.Statement.{statement}

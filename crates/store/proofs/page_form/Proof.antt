@@ -1,14 +1,13 @@
 -- The count, and the words behind the next one.
 use borrow.Author.Rules.{rules}
-use mathlib.Core.Path.{◌≡◌, refl, sym, ◌∙◌}
+use mathlib.Core.Path.{refl, sym, ◌∙◌}
 use mathlib.Core.Bool.{true, false}
 use Prim.Native.Nat.{◌+◌, ◌≤◌}
 use native.Mathlib.Omega.{arith}
 use lib.ListN.{length}
 use borrow.Author.Tests.{eq-eqb, ne_eqb}
-use Rattle.lists.proofs.Tests.{passed, failed}
-use Rattle.store.specs.Head.{page_start, page_words, zeros}
-use Rattle.store.proofs.Places.{under_limits, page_inside, page_words_low, zeros_first, zeros_rest, zeros_one}
+use Rattle.store.specs.Head.{page_start, page_words}
+use Rattle.store.proofs.Places.{under_limits, page_inside, page_words_low, zeros_rest, zeros_one}
 use Rattle.store.proofs.ChainLaws.{page_form_is}
 use Rattle.store.proofs.page_form.Statement.{statement}
 use Rattle.store.proofs.page_form.Tie as tie

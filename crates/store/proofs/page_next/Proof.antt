@@ -1,5 +1,4 @@
 use borrow.Author.Rules.{rules}
-use mathlib.Core.Path.{◌≡◌}
 use Rattle.store.proofs.ChainLaws.{page_next_is}
 use Rattle.store.proofs.page_next.Statement.{statement}
 use Rattle.store.proofs.page_next.Tie as tie

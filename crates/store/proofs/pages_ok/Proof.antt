@@ -1,7 +1,6 @@
 use borrow.Author.Rules.{rules}
-use mathlib.Core.Path.{◌≡◌, refl, sym}
+use mathlib.Core.Path.{refl, sym}
 use mathlib.Core.Bool.{true, false}
-use native.Mathlib.Omega.{arith}
 use Rattle.lists.proofs.Tests.{passed, failed}
 use Rattle.store.proofs.HeadLaws.{head_whole}
 use Rattle.store.proofs.Places.{under_limits, under_chains}

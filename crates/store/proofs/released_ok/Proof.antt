@@ -1,10 +1,10 @@
 -- A test that fails breaks the rule; where three hold, the rule is the last.
 use borrow.Author.Rules.{rules}
 use native.Mathlib.Omega.{arith}
-use mathlib.Core.Path.{◌≡◌, sym, ◌∙◌}
-use mathlib.Core.Bool.{true, false, false≢true}
+use mathlib.Core.Path.{sym, ◌∙◌}
+use mathlib.Core.Bool.{false≢true}
 use Rattle.lists.proofs.Tests.{untrue, passed, failed}
-use Rattle.store.proofs.HeadLaws.{Named, named_of, released_facts, released_last}
+use Rattle.store.proofs.HeadLaws.{named_of, released_facts, released_last}
 use Rattle.store.proofs.released_ok.Statement.{statement}
 use Rattle.store.proofs.released_ok.Tie as tie
 
