@@ -1,4 +1,7 @@
 // The writes of a removal, by its plan. Nothing is tested and nothing is read that was written: what the plan says is in lent slices.
+
+#![tactic(auto)]
+
 ghost use Rattle.std.specs.Prelude.{◌≡◌, true, List, ℕ, ◌+◌, ◌*◌, ◌^◌, ◌≤◌, ◌<◌, length, take};
 ghost use Rattle.lists.specs.Lists.{part};
 ghost use Rattle.store.specs.Head.{largest_capacity, word, head_of, node_words, node_start, page_words, page_start};

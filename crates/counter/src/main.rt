@@ -1,5 +1,8 @@
 // The counter program: requests on standard input, replies on standard output, over a store of 8,192 words. What it writes is crate
 // desk's transcript; here bytes are only moved.
+
+#![tactic(auto)]
+
 ghost use Rattle.std.specs.Prelude.{◌≡◌, true, false, ◌-◌, ◌≤◌, ltb, length, take, replicate};
 ghost use Rattle.desk.specs.Listing.{part_bytes};
 ghost use Rattle.desk.specs.Transcript.{ending, store_words};

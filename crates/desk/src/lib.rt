@@ -1,4 +1,7 @@
 // The desk of the counter program: lines in, reply bytes and the store's words out. No input or output happens here.
+
+#![tactic(auto)]
+
 ghost use Rattle.std.specs.Prelude.{◌≡◌, true, false, [], ◌++◌, ◌⊎◌, ◌+◌, ◌*◌, ◌^◌, ◌≤◌, ◌<◌, min, length, drop};
 ghost use Rattle.store.specs.declared.Format.TheVariants.{Plots};
 ghost use Rattle.store.specs.SetUp;

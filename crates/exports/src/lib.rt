@@ -1,5 +1,8 @@
 // The plot index for other languages: each public operation with numbers and slices only. A function returns the answer's number and
 // writes the answer's values into the lent slice `reply`, as far as they fit. Crate exports_c hands them to C under the same names.
+
+#![tactic(auto)]
+
 ghost use Rattle.std.specs.Prelude.{◌≡◌, set};
 ghost use Rattle.plot.specs.Money.{balance_reply};
 ghost use Rattle.plot.specs.Label.{key_reply, key_of_reply, label_reply, label_of_reply, convert_reply};

@@ -1,4 +1,7 @@
 // The plot index for C: each function of crate exports under its own name, as a symbol of the archive.
+
+#![tactic(auto)]
+
 ghost use Rattle.std.specs.Prelude.{◌≡◌};
 ghost use Rattle.plot.specs.Money.{balance_reply};
 ghost use Rattle.plot.specs.Label.{key_of_reply, label_of_reply, convert_reply};

@@ -1,4 +1,7 @@
 // Group 5: a sound store broken in one rule at a time, and the answer of every operation.
+
+#![tactic(auto)]
+
 ghost use Rattle.std.specs.Prelude.{◌≡◌, length};
 ghost use Rattle.harness.specs.Script.{both};
 ghost use Rattle.faults.specs.Faults.{call_on, numbered_reply, answered_in, answers_from, broken, broken_row, broken_from, node_put};

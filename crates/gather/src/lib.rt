@@ -1,4 +1,7 @@
 // The page half of a removal's plan: the key's page without its record, joined with the pages that are named, in hand.
+
+#![tactic(auto)]
+
 ghost use Rattle.std.specs.Prelude.{◌≡◌, List, ℕ, ◌+◌, ◌^◌, ◌≤◌, ◌<◌, length, take};
 ghost use Rattle.lists.specs.Lists.{All};
 ghost use Rattle.store.specs.Format.{width};

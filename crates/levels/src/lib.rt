@@ -1,4 +1,7 @@
 // The levels of a removal's plan: the nodes of the key's path, joined upward from the lowest as long as the level below joined.
+
+#![tactic(auto)]
+
 ghost use Rattle.std.specs.Prelude.{◌≡◌, true, false, List, ◌++◌, ℕ, suc, ◌+◌, ◌-◌, ◌*◌, ◌^◌, ◌≤◌, ◌<◌, ltb, length, get_or, set, take};
 ghost use Rattle.store.specs.Format.{width};
 ghost use Rattle.store.specs.Head.{word, head_of, node_words, node_at, InUse, Under};

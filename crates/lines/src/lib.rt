@@ -1,4 +1,7 @@
 // Lines of the counter program: requests read from bytes, replies written as bytes. No input or output happens here.
+
+#![tactic(auto)]
+
 ghost use Rattle.std.specs.Prelude.{◌≡◌, ◌&&◌, ◌++◌, ◌+◌, ◌≤◌, eqb, length, drop};
 ghost use Rattle.lists.specs.Lists.{part, replaced};
 ghost use Rattle.lines.specs.Columns.{skipped, column};

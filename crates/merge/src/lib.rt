@@ -1,4 +1,7 @@
 // What remove does to the words of a page: a record taken out, another page's records added in front or behind.
+
+#![tactic(auto)]
+
 ghost use Rattle.std.specs.Prelude.{◌≡◌, true, List, ◌++◌, ◌+◌, ◌≤◌, ◌<◌, length, take, drop};
 ghost use Rattle.lists.specs.Lists.{All, replaced};
 ghost use Rattle.lists.specs.Keyed.{Sorted};

@@ -1,4 +1,7 @@
 // The plain sorted list: the count, then four words for each record, keys ascending, zeros after the last.
+
+#![tactic(auto)]
+
 ghost use Rattle.std.specs.Prelude.{◌≡◌, ◌-◌};
 ghost use Rattle.plot.specs.Money.{days_left, amount};
 ghost use Rattle.plot.specs.Plot;

@@ -1,5 +1,8 @@
 // A removal after which nothing joins. The key's page and the stretch beside it in the same terminal node decide, and the record is taken
 // out in place.
+
+#![tactic(auto)]
+
 ghost use Rattle.std.specs.Prelude.{◌≡◌, true, ◌^◌, ◌≤◌, ◌<◌, length};
 ghost use Rattle.store.specs.Format.{width};
 ghost use Rattle.store.specs.Head.{page_at, Under};

@@ -1,4 +1,7 @@
 // What enter writes into pages: a record put in order, a page halved, a page of one record.
+
+#![tactic(auto)]
+
 ghost use Rattle.std.specs.Prelude.{◌≡◌, true, false, List, [], ◌∷◌, ◌⊎◌, ℕ, suc, ◌+◌, ◌*◌, ◌≤◌, ◌<◌, length, take, drop};
 ghost use Rattle.lists.specs.Bits.{bit as bit_of};
 ghost use Rattle.lists.specs.Lists.{All, replaced, part};

@@ -1,4 +1,7 @@
 // How a block is released: it is cleared, it names the block released before it, and the head names and counts it. Document 02, M-106.
+
+#![tactic(auto)]
+
 ghost use Rattle.std.specs.Prelude.{◌≡◌, ◌+◌, ◌^◌, ◌≤◌, ◌<◌, length, set, replicate};
 ghost use Rattle.store.specs.Head.{largest_capacity, word, head_of, node_words, node_start, page_words, page_start};
 ghost use Rattle.split.specs.Insertion.{SameSizes};

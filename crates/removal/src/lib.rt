@@ -1,5 +1,8 @@
 // Remove on the words of a store. It tests first and plans all that it changes, and writes then: nothing can be refused after the first
 // write.
+
+#![tactic(auto)]
+
 ghost use Rattle.std.specs.Prelude.{◌≡◌, true, false, List, ℕ, ◌+◌, ◌-◌, ◌*◌, ◌^◌, ◌≤◌, ◌<◌, min, ltb, length, get_or, take};
 ghost use Rattle.store.specs.Format.{width};
 ghost use Rattle.store.specs.Head.{page_words, page_at, Under};

@@ -1,1 +1,3 @@
 // What a store's words mean: theory only, no functions.
+
+#![tactic(auto)]

@@ -1,4 +1,6 @@
 // Readings of many records: range and summary, each a walk by next, some records of one page at a time.
+#![tactic(auto)]
+
 ghost use Rattle.std.specs.Prelude.{◌≡◌, true, false, ◌++◌, ◌+◌, ◌-◌, ◌*◌, ◌^◌, ◌≤◌, ◌<◌, min, length, drop};
 ghost use Rattle.lists.specs.Lists.{part};
 ghost use Rattle.plot.specs.Plot.{lawful_day};

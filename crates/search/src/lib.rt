@@ -1,5 +1,7 @@
 // Readings of a store: the descent with a key, find and next. Nothing is trusted: every visited block is checked. A function that may be
 // told not to (`checked` false) is told so only of blocks that were found sound, on the same words, before.
+#![tactic(auto)]
+
 ghost use Rattle.std.specs.Prelude.{◌≡◌, true, false, ◌+◌, ◌-◌, ◌*◌, ◌^◌, ◌≤◌, ◌<◌, length};
 ghost use Rattle.store.specs.Format.{width, words};
 ghost use Rattle.store.specs.Head.{largest_capacity, node_words, node_start, page_at, InUse, Under};

@@ -1,4 +1,7 @@
 // The plan of a removal: all that is read and decided before the first write. Nodes that are reached are marked by their numbers.
+
+#![tactic(auto)]
+
 ghost use Rattle.std.specs.Prelude.{◌≡◌, true, false, ◌&&◌, ◌||◌, List, [], ℕ, suc, ◌+◌, ◌-◌, ◌*◌, ◌^◌, ◌≤◌, ◌<◌, max, eqb, length, get_or, set, take};
 ghost use Rattle.lists.specs.Lists.{All};
 ghost use Rattle.store.specs.Format.{width};

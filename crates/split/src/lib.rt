@@ -1,5 +1,8 @@
 // The steps of an insertion on the words of a node block, where they stand: its run halved, the node doubled or split. A part is a block's
 // words: depth, level, back link and forward link, then two words for each entry.
+
+#![tactic(auto)]
+
 ghost use Rattle.std.specs.Prelude.{◌≡◌, true, false, pred, ◌+◌, ◌-◌, ◌*◌, ◌/◌, ◌%◌, ◌^◌, ◌≤◌, ◌<◌, length};
 ghost use Rattle.lists.specs.Bits.{bits, index};
 ghost use Rattle.lists.specs.Lists.{replaced};

@@ -1,5 +1,8 @@
 // The tree of a set, counted as document 01 defines it. A row of stretches: the count, then for each its first key and its
 // prefix length; level 0 is made of the sorted list, each higher level of the one below.
+
+#![tactic(auto)]
+
 ghost use Rattle.std.specs.Prelude.{◌≡◌, ◌-◌, ◌^◌, ◌≤◌};
 ghost use Rattle.stretches.specs.Stretches.{element_of, end_of, shortest_of, crowded_at, deep_at, halved_at, depth_of, from_on, with_stretch};
 ghost use Rattle.stretches.specs.Stretches.{stepped, swept_over, taller_by, climbed_from, counts_of};

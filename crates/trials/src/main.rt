@@ -1,5 +1,8 @@
 // Trials of the plot index: the desk checks that are not proved, random sets against a plain sorted list, orders of entry,
 // refusals, stores broken in one rule (group 5, crate faults), and stores damaged at random. A line for each group; a further one for each trial that fails.
+
+#![tactic(auto)]
+
 mod damage; // group 6
 mod desk; // group 1
 mod refusals; // group 4

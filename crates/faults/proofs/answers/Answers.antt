@@ -9,13 +9,12 @@ pub loop-j-init : goal.loop-j-init
 loop-j-init g c = (search rules, search rules, refl)
 
 pub loop-j-preserved : goal.loop-j-preserved
-loop-j-preserved g c =
-    (
-      search rules,
-      search rules,
-      answers_turn _ _ _ _ c.loop-j.j c.loop-j.invariant.2 c.loop-j-test.true c.cell-key.ensures c.call_at.ensures
-          c.cell.ensures c.answer.ensures,
-    )
+loop-j-preserved g c = (
+  search rules,
+  search rules,
+  answers_turn _ _ _ _ c.loop-j.j c.loop-j.invariant.2 c.loop-j-test.true c.cell-key.ensures c.call_at.ensures
+      c.cell.ensures c.answer.ensures,
+)
 
 pub returns : goal.returns
 returns g c = let l = c.loop-j in answers_out _ _ _ _ l.j l.invariant.2 c.loop-j-test.false
