@@ -81,6 +81,27 @@ def from_libraries(code, crates):
 
 
 HEAD = re.compile(r"(?m)^[ \t]*(?:abbrev |unfoldable |pub |mutual )*(" + NAME + r")(?: \{[^{}\n]*\})* :(?=\s)")
+RECORD = re.compile(r"\s*(?:pub |abbrev )*record [^{]*$")
+RECORD_FIELD = re.compile(r"(\s+(?:pub )?)([^\s:(){}]+) :( |$)")
+
+
+def record_fields(text):
+    """Where the fields of records are declared: from each place, the name."""
+    out, at, level = {}, 0, None
+    for line in text.split("\n"):
+        indent = len(line) - len(line.lstrip())
+        if level is not None and line.strip() and not line.lstrip().startswith("--") and indent <= level:
+            level = None
+        if RECORD.match(line):
+            level = indent
+        elif level is not None:
+            m = RECORD_FIELD.match(line)
+            if m and indent > level:
+                out[at + len(m[1])] = m[2]
+        at += len(line) + 1
+    return out
+
+
 BINDERS = re.compile(r"[({]((?:" + NAME + r" )+)(?=: )|λ ((?:" + NAME + r" ?)+)\.|\blet (" + NAME + r")(?= )")
 STRUCT = re.compile(r"(?s)\bstruct \w+[^;{(]*\{(.*?)\n\}")
 FIELD = re.compile(r"(?m)^\s*(?:pub )?(\w+): ")
@@ -121,27 +142,33 @@ def main():
     declared = {it for it in declared if ODD.search(it) or it in LEMMAS}
     fields = {it for it in fields if ODD.search(it)}
     every = declared | fields
+    of_records = set()
+    for p, t in texts.items():
+        if p.endswith(".antt"):
+            of_records.update(record_fields(t).values())
     problems, out = [], {}
 
     def turned(word, before, after, ending):
         """A function of src/, a field and what stands behind a dot get no `_lem`."""
-        if ending == ".rt" or before.endswith(".") or word in of_records and (after == " = " and re.search(r"[{;\s]$", before)):
-            return plain(word)
-        return spelled(word)
+        is_field = word in of_records and after == " = " and re.search(r"[{;]\s*$", before)
+        return plain(word) if ending == ".rt" or before.endswith(".") or is_field else spelled(word)
 
     for p, t in texts.items():
         ending = os.path.splitext(p)[1]
         code = code_of(t, ending)
-        t0 = t
         lent = from_libraries(code, crates)
         mine = (every | bound.get(p, set())) - lent
         is_function = bool(FUNCTION_FILE.search(p))
 
-        def turn(m, text):
+        places = record_fields(t) if ending == ".antt" else {}
+
+        def turn(m, text, start):
             word = m[0]
+            if start + m.start() in places:
+                return plain(word) if word in mine else word
             if word not in mine or word.startswith("--"):
                 return word
-            before = text[max(0, m.start() - 6) : m.start()]
+            before = text[max(0, m.start() - 60) : m.start()]
             if before.endswith(("tie.", "goal.")):
                 return word
             return turned(word, before, text[m.end() : m.end() + 3], ending)
@@ -153,17 +180,19 @@ def main():
             text = re.sub(r"`[^`\n]*`", quoted, text)
             gloss = re.match(r"(--\s+)(.*?)(\s==\s.*)$", text, re.S)
             if gloss:
-                text = gloss[1] + quoted(re.match(r"(?s).*", gloss[2])) + gloss[3]
-            return TOKEN.sub(lambda w: spelled(w[0]) if w[0] in mine and "-" not in w[0] else w[0], text)
+                word = plain if "/specs/" in p else spelled
+                text = gloss[1] + TOKEN.sub(lambda w: word(w[0]) if w[0] in mine else w[0], gloss[2]) + gloss[3]
+            return TOKEN.sub(lambda w: plain(w[0]) if w[0] in mine and "-" not in w[0] else w[0], text)
 
-        new = []
+        new, at = [], 0
         for kind, part in parts_of(t, ending):
             if kind == "code":
-                new.append(TOKEN.sub(lambda m, part=part: turn(m, part), part))
+                new.append(TOKEN.sub(lambda m, part=part, at=at: turn(m, part, at), part))
             elif kind == "comment":
                 new.append(in_comment(part))
             else:
                 new.append(part)
+            at += len(part)
         new = "".join(new)
         old_words = set(TOKEN.findall(code))
         meet = {}

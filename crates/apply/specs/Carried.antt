@@ -2,7 +2,7 @@
 --   numbers == the nodes' numbers, the lowest level first; blocks == their words; items == the words of the page;
 --   pages, nodes == the numbers of the blocks to be released, the first released first
 --   block_in θ blocks l      == the words of the node of level l, counted from 0
---   spot_in_lem θ numbers blocks l == that node
+--   spot_in θ numbers blocks l == that node
 --   spots_from θ numbers blocks i n == the n nodes from level i on
 --   LevelIs .. l x          == the node x of a plan is carried at level l, or stays as it is
 --   Carried .. p            == what is carried is the plan p

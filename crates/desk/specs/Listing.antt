@@ -11,7 +11,7 @@
 --   no_listing            == no listing is open
 --   part_lines s l, listing_after s l == the bytes of the next part of the listing l, and what is left of the listing after it
 --   kind_listed dump      == the kind of a listing: 4 of a range, 6 of the register
---   last_line_lem dump count  == the line after the records: of a range the count, of the register none
+--   last_line dump count  == the line after the records: of a range the count, of the register none
 --   part_end dump more count == the same, if no key is left
 --   carried s l          == the bytes of what is left of the listing l, part after part
 --   carried_from fuel s l == the same with so many parts at most

@@ -3,7 +3,7 @@
 --   rest_of s d input  == what is still to be written, and the words at the end, if this is the input still to come
 --   kept_line bs       == the bytes of a line that are kept: one more than a line has
 --   until_feed bs      == how many bytes stand before the first 0A
---   goes_on_lem d left room == the desk has a listing to carry on or bytes to take, and room for a part
+--   goes_on d left room == the desk has a listing to carry on or bytes to take, and room for a part
 --   to_do d            == 1 if a listing is open, else 0
 --   GetsOn d r        == a turn gets on: bytes are taken or put, or the listing is at its end
 --   Answers s l n out t out' r == r says how the line l was answered

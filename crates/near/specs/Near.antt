@@ -1,5 +1,5 @@
 -- A removal that the key's page and the stretch beside it decide. Document 02, M-106. e is the end of the key's way, in the store as found.
---   left_in_lem f s h k p       == the records of page p without the key's
+--   left_in f s h k p       == the records of page p without the key's
 --   entry_beside f s h k e  == the entry of the page's sibling, in the page's terminal node
 --   beside f s h k e left  == what that entry says of the page, with so many records left: damage, or whether the pair stays apart
 --   root_stays s h          == the root is not released: there is one level, or the root has several entries

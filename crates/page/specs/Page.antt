@@ -8,7 +8,7 @@
 --   lawful_item f it       == the record may be held
 --   in_turn f k it         == the record may be held, and its key is above the key k
 --   begun n               == a check of n records, before the first
---   goes_on_lem p              == some records are left
+--   goes_on p              == some records are left
 --   checked_of f p it      == the check p after the next record, it
 --   ordered f pg n        == the first n records are lawful and their keys ascend
 --   page_rule f C pg       == a visited page, with the capacity C

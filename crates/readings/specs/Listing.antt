@@ -1,7 +1,7 @@
 -- What the readings are to give, read off the ascending list S of the records held.
 --   first_where test S     == the first record that passes the test, or none
 --   first_of S             == the first record, or none
---   first_key_lem S            == the key of the first record, 0 if there is none
+--   first_key S            == the key of the first record, 0 if there is none
 --   within low high S     == the records with keys from low to high
 --   ranged_in S low high n == a range with room for n records
 --   leased its            == the leased ones of the records its

@@ -1,6 +1,6 @@
 -- Damaged stores, plots with C = 1, that remove refuses with number 9 by one test that no sound store needs: in each it is to remove the
 -- record with the key 01.. in bits, `second`.
---   one_way_lem     == the two level-1 nodes to be joined do not link to each other
+--   one_way     == the two level-1 nodes to be joined do not link to each other
 --   other_level == the node behind them is no level-1 node
 --   twice      == the sibling node is the node itself, under another prefix
 --   DamageRefused == each is refused, and every word stays

@@ -1,6 +1,6 @@
 -- Next by spans: where next's record stands, and the records after it that next gives in turn without another descent.
 --   no_span ok          == no record; ok: no damage was met
---   comes_back_lem f s h k n u p == the first key of page p, which is reached from the terminal node n of the key k, leads back to it from n,
+--   comes_back f s h k n u p == the first key of page p, which is reached from the terminal node n of the key k, leads back to it from n,
 --     and so do the page's other keys
 --   rows_from f s h n u v i == the records from number i on of the page to which the entry v of the terminal node n leads
 --   first_row n u p k   == the first record of page p, whose key is k, reached from the terminal node n

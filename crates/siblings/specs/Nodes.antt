@@ -4,7 +4,7 @@
 --   low_pair s h g p         == the node in hand and p are low enough to be one node
 --   may_join f s h k level g p == their links, at level 1, allow it
 --   paired θ node hand left == the node in hand joined with its sibling, on its left or on its right
---   spot_is_lem number used last ws == the node in hand as the code has it
+--   spot_is number used last ws == the node in hand as the code has it
 --   linked_pair s h level number last ws p left == its links, at level 1, allow a join with p
 --   HandFine f θ m used ws == what a join asks of the node in hand, where the stretch below has m bits
 --   Noded f k z r hand gone at gone' marks == the level after the code's joins is that of the definition

@@ -7,8 +7,8 @@
 -- At the place of a key in the stretches b0:
 --   stretch_at f b0 key == the stretch that holds it
 --   left_at, prefix_at   == how many bits are left there, and what the others are
---   next_bit_lem            == the number of the first that is left
---   half_at_lem b f b0 key  == those of its records whose next bit is b
+--   next_bit            == the number of the first that is left
+--   half_at b f b0 key  == those of its records whose next bit is b
 --   replaced_at f b0 key c == b0 with the stretches c there
 --   Fit f C w q rs     == the records rs may be written into a page, at a place with w bits left and the prefix q
 --   put_items f C s p rs  == the words s with the records rs in page block p, where C is the capacity

@@ -7,7 +7,7 @@
 --   size f θ C N P     == the words of a store
 --   node_start h n      == the first word of node block n
 --   page_start f h p    == the first word of page block p
---   node_at_lem s h n       == the words of node block n
+--   node_at s h n       == the words of node block n
 --   page_at f s h p     == the words of page block p
 --   lawful_sizes θ C N P == θ, C, N and P within their limits
 --   spare_ok s          == the spare words of the head are zeros

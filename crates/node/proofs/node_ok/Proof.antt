@@ -34,7 +34,7 @@ runs_are c = rw (c.pointer_low.ensures, c.pointer_high.ensures) at c.runs_ok.ens
 ends : (c : tie.After-pow2) → 4 + 2 * c.pow2.result ≤ length (entry (depth (level (links c.before.before)))).args.node.now
 ends c =
     let d = depth (level (links c.before.before)) in
-    rw c.pow2.ensures.0 (block_holds _ (entry d).requires.3 d.if-depth-head.false)
+    rw c.pow2.ensures.0 (block_holds _ (entry d).requires.3 (omega arith))
 
 returns : tie.Need-returns-then-depth-head
 returns c = untrue (λ e. omega (arith, (node_facts _ _ _ _ e).depth))
