@@ -1,13 +1,14 @@
 // The counter program: requests on standard input, replies on standard output, over a store of 8,192 words. What it writes is crate
-// desk's transcript; here bytes are only moved.
+// desk's transcript; here bytes are only moved, from any reader to any writer.
 
 #![tactic(auto)]
 
-ghost use Rattle.std.specs.Prelude.{◌≡◌, true, false, ◌-◌, ◌≤◌, ltb, length, take, replicate};
+ghost use Rattle.std.specs.Prelude.{◌≡◌, true, false, ◌-◌, ◌≤◌, ◌<◌, ltb, pos, length, take, replicate};
+ghost use Rattle.std.specs.Io.KnownBytes.{Appends, Consumes, IsAtEnd};
 ghost use Rattle.desk.specs.Listing.{part_bytes};
 ghost use Rattle.desk.specs.Transcript.{ending, store_words};
 ghost use Rattle.desk.specs.Serving.{line_of, Serves, Finishes};
-ghost use Rattle.counter.specs.Program.{clamp_len, Whole, Told, Ran};
+ghost use Rattle.counter.specs.Program.{clamp_len, Whole, Told, Ran, Transcribed};
 
 use desk::Desk;
 use std::io::{Read, Write};
@@ -65,6 +66,7 @@ pub struct End {
 // Hands the first n bytes of the output on, and says whether all were written.
 fn hand_on<W: Write>(writer: &mut W, out: &[u8], n: usize) -> bool
     requires { n ≤ length out.now }
+    ensures { result ≡ true → Appends (W.contents writer.old) (W.contents writer.new) (take n out.now) }
 {
     writer.write_all(&out[..n]).is_ok()
 }
@@ -77,10 +79,11 @@ fn serve_once<W: Write>(
     input: &[u8],
     out: &mut [u8],
 ) -> Step
-    ensures { Serves store.old d input.now out.old store.new out.new
+    ensures served { Serves store.old d input.now out.old store.new out.new
         (record { desk = result.desk; taken = result.taken; put = result.put })
         × Finishes input.now out.old (record { desk = result.desk; taken = result.taken; put = result.put })
         × (result.left ≡ ltb (length out.old - result.put) part_bytes) }
+    ensures sent { result.ok ≡ true → Appends (W.contents writer.old) (W.contents writer.new) (take result.put out.new) }
 {
     let p = desk::serve(store, d, input, out);
     let put = p.put;
@@ -104,7 +107,8 @@ fn serve_chunk<W: Write>(
     out: &mut [u8],
 ) -> Chunk
     requires { part_bytes ≤ length out.old }
-    ensures { result.ok ≡ true → Whole store.old d input.now store.new result.desk }
+    ensures { result.ok ≡ true
+        → Whole store.old d input.now store.new result.desk (W.contents writer.old) (W.contents writer.new) }
 {
     let mut s = Step {
         desk: d,
@@ -124,7 +128,10 @@ fn serve_chunk<W: Write>(
 }
 
 // Reads once: how many bytes came, or -1 where the read failed.
-fn read_some<R: Read>(reader: &mut R, input: &mut [u8]) -> isize {
+fn read_some<R: Read>(reader: &mut R, input: &mut [u8]) -> isize
+    ensures came { Consumes (R.remaining reader.old) (R.remaining reader.new) (take (clamp_len result (length input.new)) input.new) }
+    ensures ended { result ≡ pos 0 → 0 < length input.new → IsAtEnd (R.remaining reader.new) }
+{
     match reader.read(input) {
         Ok(n) => n as isize,
         Err(_) => -1,
@@ -153,8 +160,12 @@ fn read_once<R: Read, W: Write>(
     out: &mut [u8],
 ) -> Turn
     requires { (part_bytes ≤ length out.old) × (d.listing.active ≡ false) }
-    ensures { Told result × (result.wrote ≡ true
-        → Whole store.old d (take (clamp_len result.got (length input.new)) input.new) store.new result.desk) }
+    ensures told { Told result × (result.wrote ≡ true
+        → Whole store.old d (take (clamp_len result.got (length input.new)) input.new) store.new result.desk
+        (W.contents writer.old) (W.contents writer.new)) }
+    ensures came { Consumes (R.remaining reader.old) (R.remaining reader.new)
+        (take (clamp_len result.got (length input.new)) input.new) }
+    ensures ended { result.got ≡ pos 0 → 0 < length input.new → IsAtEnd (R.remaining reader.new) }
 {
     let got = read_some(reader, input);
     if got <= 0 {
@@ -181,7 +192,8 @@ fn read_once<R: Read, W: Write>(
 // Puts the reply to bytes after the last 0A, and hands it on.
 fn end_line<W: Write>(writer: &mut W, d: Desk, out: &mut [u8]) -> Last
     requires { part_bytes ≤ length out.old }
-    ensures { take result.put out.new ≡ ending (line_of d) }
+    ensures last { take result.put out.new ≡ ending (line_of d) }
+    ensures sent { result.wrote ≡ true → Appends (W.contents writer.old) (W.contents writer.new) (take result.put out.new) }
 {
     let put = desk::finish(d, out);
     let wrote = hand_on(writer, out, put);
@@ -198,8 +210,10 @@ fn run<R: Read, W: Write>(
     out: &mut [u8],
 ) -> End
     requires { (store.old ≡ replicate store_words 0) × (part_bytes ≤ length out.old) }
-    ensures { Told result.turn × (result.turn.more ≡ true → result.turns ≡ 0)
+    ensures ran { Told result.turn × (result.turn.more ≡ true → result.turns ≡ 0)
         × (result.turn.wrote ≡ true → Ran store.new result.turn.desk result.turn.ok (take result.last.put out.new) result.turns) }
+    ensures written { result.turn.ok ≡ true → result.turn.more ≡ false → result.last.wrote ≡ true → 0 < length input.old
+        → Transcribed (R.remaining reader.old) (R.remaining reader.new) (W.contents writer.old) (W.contents writer.new) }
 {
     let mut t = Turn {
         desk: desk::start(),

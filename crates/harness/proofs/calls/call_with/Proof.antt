@@ -7,86 +7,86 @@ use Rattle.harness.specs.Calls.{kinds, ran_of}
 use Rattle.harness.proofs.calls.call_with.Statement.{statement}
 use Rattle.harness.proofs.calls.call_with.Tie as tie
 
-returns : tie.Need-returns
+returns : tie.Need-returns-in-0
 unfolding ran_of kinds
 returns c =
     let p = c.before.before.before.before in
-    let e = p.plots-set-up.ensures in
-    rw p.before.before.before.match.keys1 (e.0, e.1, refl, e.2)
+    let e = p.plots_set_up.ensures in
+    rw p.in-0.is (e.0, e.1, refl, e.2)
 
-returns_2 : tie.Need-returns-2
+returns_2 : tie.Need-returns-in-1
 unfolding ran_of kinds
 returns_2 c =
     let p = c.before.before.before.before in
-    let e = p.plots-enter.ensures in
-    rw p.before.before.before.match.keys2 (e.0, e.1, refl, e.2)
+    let e = p.plots_enter.ensures in
+    rw p.in-1.is (e.0, e.1, refl, e.2)
 
-returns_3 : tie.Need-returns-3
+returns_3 : tie.Need-returns-in-2
 unfolding ran_of kinds
 returns_3 c =
     let p = c.before.before in
-    let e = p.plots-find.ensures in
-    rw p.before.before.before.match.keys3 (e.0, refl, refl, e.1)
+    let e = p.plots_find.ensures in
+    rw p.in-2.is (e.0, refl, refl, e.1)
 
-returns_4 : tie.Need-returns-4
+returns_4 : tie.Need-returns-in-3
 unfolding ran_of kinds
 returns_4 c =
     let p = c.before.before in
-    let e = p.plots-next.ensures in
-    rw p.before.before.before.match.keys4 (e.0, refl, refl, e.1)
+    let e = p.plots_next.ensures in
+    rw p.in-3.is (e.0, refl, refl, e.1)
 
-returns_5 : tie.Need-returns-5
+returns_5 : tie.Need-returns-in-4
 unfolding ran_of kinds
 returns_5 c =
     let p = c.before.before.before.before in
-    let e = p.plots-range.ensures in
-    rw p.before.before.before.before.match.keys5 (e.0, refl, e.1, e.2)
+    let e = p.plots_range.ensures in
+    rw p.in-4.is (e.0, refl, e.1, e.2)
 
-returns_6 : tie.Need-returns-6
+returns_6 : tie.Need-returns-in-5
 unfolding ran_of kinds
 returns_6 c =
     let p = c.before.before in
-    let e = p.plots-summary.ensures in
-    rw p.before.before.before.match.keys6 (e.0, refl, refl, e.1)
+    let e = p.plots_summary.ensures in
+    rw p.in-5.is (e.0, refl, refl, e.1)
 
-returns_7 : tie.Need-returns-7
+returns_7 : tie.Need-returns-in-6
 unfolding ran_of kinds
 returns_7 c =
     let p = c.before.before in
-    let e = p.plots-balance.ensures in
-    rw p.before.before.match.keys7 (e.0, refl, refl, e.1)
+    let e = p.plots_balance.ensures in
+    rw p.in-6.is (e.0, refl, refl, e.1)
 
-returns_8 : tie.Need-returns-8
+returns_8 : tie.Need-returns-in-7
 unfolding ran_of kinds
 returns_8 c =
     let p = c.before.before in
-    let e = p.plots-key-of.ensures in
-    rw p.before.before.match.keys8 (e.0, refl, refl, e.1)
+    let e = p.plots_key_of.ensures in
+    rw p.in-7.is (e.0, refl, refl, e.1)
 
-returns_9 : tie.Need-returns-9
+returns_9 : tie.Need-returns-in-8
 unfolding ran_of kinds
 returns_9 c =
     let p = c.before.before in
-    let e = p.plots-label-of.ensures in
-    rw p.before.before.match.keys9 (e.0, refl, refl, e.1)
+    let e = p.plots_label_of.ensures in
+    rw p.in-8.is (e.0, refl, refl, e.1)
 
-rest : (c : tie.At-match-rest) → 9 ≤ c.before.before.before.before.args.call.kind
+rest : (c : tie.In_default) → 9 ≤ c.args.call.kind
 rest c =
-    let h = c.match.rest in
+    let h = c.in_default.in_default-own.rest in
     let three = above 2 (above 1 (above 0 (search rules) h.0.0.0.0.0.0.0.0.1) h.0.0.0.0.0.0.0.1) h.0.0.0.0.0.0.1 in
     let six = above 5 (above 4 (above 3 three h.0.0.0.0.0.1) h.0.0.0.0.1) h.0.0.0.1 in
     above 8 (above 7 (above 6 six h.0.0.1) h.0.1) h.1
 
-returns_10 : tie.Need-returns-10
+returns_10 : tie.Need-returns-in_default
 returns_10 c =
     let p = c.before.before in
-    let e = p.plots-convert.ensures in
+    let e = p.plots_convert.ensures in
     let m = p.before.before in
-    let a = m.before.before.before.before.args in
+    let a = m.args in
     rw (converts a.call a.store.now a.out.now (rest m)) (e.0, refl, refl, e.1)
 
-pub call-with-spec : {M : Type 1} → statement M
-call-with-spec =
+pub call_with_spec : {M : Type 1} → statement M
+call_with_spec =
     tie.close
     (tie.spec (λ c κs. search rules) (λ c κs. search rules) (λ c κs. search rules) (λ c κs. search rules) (λ c κs. search rules)
     (λ c κs. search rules) (λ c κs. search rules) (λ c κs. search rules) (λ c κs. search rules) (λ c κs. search rules)
