@@ -10,8 +10,7 @@ returns-then-got-le0-clause-told g c =
     (told_none got c.if-got-le0.true, λ w. whole_none _ _ got r.new.input _ c.if-got-le0.true c.requires.1)
 
 pub returns-clause-told : goal.returns-clause-told
-returns-clause-told g c =
-    (
-      told_some _ _ c.if-got-le0.false,
-      λ w. whole_counted _ _ _ _ _ _ _ _ _ c.count-n.ensures.value (c.serve_chunk-c.ensures w),
-    )
+returns-clause-told g c = (
+  told_some _ _ c.if-got-le0.false,
+  λ w. whole_counted _ _ _ _ _ _ _ _ _ c.count-n.ensures.value (c.serve_chunk-c.ensures w),
+)

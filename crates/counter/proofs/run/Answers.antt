@@ -21,8 +21,7 @@ loop-turns-preserved g c =
 
 pub returns-clause-ran : goal.returns-clause-ran
 returns-clause-ran g c =
-    let l = c.loop-turns in
-    (
+    let l = c.loop-turns in (
       l.invariant.0,
       λ e. elim c.loop-turns-test.branch [
         | then-loop-turns-test+else-t w ↦ absurd (false≢true (sym w.if-t.false ∙ e))
