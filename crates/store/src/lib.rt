@@ -24,7 +24,7 @@ pub struct Item {
     pub last: u32,
 }
 
-// The first eight words. (A field that definitions name has no underscore.)
+// The first eight words.
 #[derive(Clone, Copy)]
 pub struct Head {
     pub theta: u32,
