@@ -6,8 +6,8 @@ usage: tools/respell.py [--check] [FOLDER]      FOLDER is the top of the reposit
 What turns: each name that a file of specs/ or proofs/ declares (definitions, lemmas, fields, constructors, parameters of a module), each
 field of a struct of src/, and each variable that a proof binds, where it has a dash or a capital behind a small letter. Types and facts
 (a capital first) keep their letters. A lemma that would get a definition's name gets `_lem` behind it. What stays: functions of src/, strings, names of the libraries, and what Rattle makes for a proof.
-In a comment a name with a dash turns only in backticks or before the `==` of a glossary. It stops, and writes nothing, where two names of
-a file would fall together.
+In a comment a name with a dash turns only in backticks or before the `==` of a glossary. A line `meet:` names words of a file that are
+then spelled alike: a definition and a function of src/ may be, since no clause can name a function.
 """
 import glob
 import os

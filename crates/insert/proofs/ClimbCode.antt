@@ -1,7 +1,7 @@
 -- The climb's loop: i levels are done, and the rest of the climb leads to the same end.
 --   Climbing    == where the loop stands
 --   climb_start, climb_on, climb_stops, climb_tops == at its start; a node split; a node with room; above the root
---   climb_ready == the node of level i + 1 may be written; climb-rest: none is left
+--   climb_ready == the node of level i + 1 may be written; climb_rest: none is left
 --   climb_short == a new root has a place on the path
 use mathlib.Core.Path.{◌≡◌, refl, sym, ap, ap₂, ◌∙◌, subst, subst₂}
 use mathlib.Core.List.{List, [], ◌∷◌, ◌++◌, map}

@@ -1,6 +1,6 @@
 -- What enter plans and tests, as the code counts it. A level of the path passes on the halvings that come when its run is at θ; the rounds
 -- end where the keys of a page and the new one part; and a page has the key where find finds it.
---   is_found_lem a == what was sought was found
+--   is_found a == what was sought was found
 use mathlib.Core.Path.{◌≡◌, refl, sym, ap, ap₂, ◌∙◌, subst}
 use mathlib.Core.Bool.{Bool, true, false, ◌&&◌, ◌||◌, not, true≢false}
 use mathlib.Core.List.{List, [], ◌∷◌, map}
