@@ -9,12 +9,10 @@
 --   KeyReply, key_reply, key_of_reply       == document 01's number and value of an answer; what `key_of` is to reply
 --   LabelReply, label_reply, label_of_reply == the same for `label_of`
 --   convert_reply k    == what `convert` is to reply
-use Rattle.std.specs.Prelude.{Bool, true, false, ◌&&◌, ℕ, ◌+◌, ◌*◌, ◌/◌, ◌%◌, ◌^◌, leb, ltb}
+use Rattle.std.specs.Prelude.{Result, Ok, Err, Bool, true, false, ◌&&◌, ℕ, ◌+◌, ◌*◌, ◌/◌, ◌%◌, ◌^◌, leb, ltb}
 use Rattle.plot.specs.declared.Label.{Label}
-use Rattle.plot.specs.declared.KeyAnswer.{KeyAnswer}
-use Rattle.plot.specs.declared.KeyAnswer.TheVariants.{Key, NoKey}
-use Rattle.plot.specs.declared.LabelAnswer.{LabelAnswer}
-use Rattle.plot.specs.declared.LabelAnswer.TheVariants.{Labelled, NoLabel}
+use Rattle.answers.specs.declared.Refusal.{Refusal}
+use Rattle.answers.specs.Answers.{number}
 
 abbrev pub largest_place : ℕ
 largest_place = 255
@@ -49,9 +47,9 @@ pub record KeyReply : Type 0 where
   pub number : ℕ
   pub key : ℕ
 
-abbrev pub key_reply : KeyAnswer → KeyReply
-key_reply (Key k) = record { number = 0; key = k }
-key_reply NoKey = record { number = 11; key = 0 }
+abbrev pub key_reply : Result ℕ Refusal → KeyReply
+key_reply (Ok k) = record { number = 0; key = k }
+key_reply (Err e) = record { number = number e; key = 0 }
 
 -- "label or key outside its limits: 11, zeros"
 unfoldable pub key_of_reply : Label → KeyReply
@@ -68,9 +66,9 @@ pub record LabelReply : Type 0 where
   pub place : ℕ
   pub letter : ℕ
 
-abbrev pub label_reply : LabelAnswer → LabelReply
-label_reply (Labelled l) = record { number = 0; section = l.section; row = l.row; place = l.place; letter = l.letter }
-label_reply NoLabel = record { number = 11; section = 0; row = 0; place = 0; letter = 0 }
+abbrev pub label_reply : Result Label Refusal → LabelReply
+label_reply (Ok l) = record { number = 0; section = l.section; row = l.row; place = l.place; letter = l.letter }
+label_reply (Err e) = record { number = number e; section = 0; row = 0; place = 0; letter = 0 }
 
 unfoldable pub label_of_reply : ℕ → LabelReply
 label_of_reply k =

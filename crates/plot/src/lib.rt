@@ -1,10 +1,12 @@
 // Plots and money: a record's limits, what is left of a price, and the labels of keys.
 #![tactic(auto)]
 
-ghost use Rattle.std.specs.Prelude.{◌≡◌, ◌*◌, ◌/◌, ◌<◌, ◌≤◌, ◌^◌, max, true};
+ghost use Rattle.std.specs.Prelude.{◌≡◌, ◌*◌, ◌/◌, ◌<◌, ◌≤◌, ◌^◌, true};
 ghost use Rattle.plot.specs.Plot.{lawful_day, lawful_term, lawful};
 ghost use Rattle.plot.specs.Money.{days_left, amount, reply, balance_reply};
-ghost use Rattle.plot.specs.Label.{key_reply, key_of_reply, label_reply, label_of_reply, convert_reply};
+ghost use Rattle.plot.specs.Label.{lawful_label, key_reply, key_of_reply, label_reply, label_of_reply, convert_reply};
+
+use answers::Refusal;
 
 // What is held of a plot: its key, the price in pence, the lease days (0: perpetual) and the last day.
 #[derive(Clone, Copy)]
@@ -15,12 +17,6 @@ pub struct Record {
     pub last: u32,
 }
 
-#[derive(Clone, Copy)]
-pub enum BalanceAnswer {
-    Pence(u32),
-    OutsideLimits,
-}
-
 // Where a plot lies: section, row, place, and the letter of a plot between two places (0: none, 1 to 15: A to O).
 #[derive(Clone, Copy)]
 pub struct Label {
@@ -28,18 +24,6 @@ pub struct Label {
     pub row: u32,
     pub place: u32,
     pub letter: u32,
-}
-
-#[derive(Clone, Copy)]
-pub enum KeyAnswer {
-    Key(u32),
-    NoKey,
-}
-
-#[derive(Clone, Copy)]
-pub enum LabelAnswer {
-    Labelled(Label),
-    NoLabel,
 }
 
 // Whether a number is a day number.
@@ -70,14 +54,10 @@ fn days_left(lease: u32, last: u32, today: u32) -> u32
     requires { last ≤ 99999 }
     ensures { result ≡ days_left lease last today }
 {
-    let mut left: u32 = 0;
-    if last >= today {
-        left = last - today + 1;
+    if last < today {
+        return 0;
     }
-    if left > lease {
-        return lease;
-    }
-    left
+    (last - today + 1).min(lease)
 }
 
 // The product of two 32-bit numbers, with nothing lost.
@@ -85,15 +65,6 @@ pub fn wide_product(a: u32, b: u32) -> u64
     ensures { result ≡ a * b }
 {
     (a as u64) * (b as u64)
-}
-
-fn at_least_one(n: u32) -> u32
-    ensures { result ≡ max n 1 }
-{
-    if n == 0 {
-        return 1;
-    }
-    n
 }
 
 // A quotient that fits 32 bits. The dividend is raised by 2^32 times the divisor, so that it never fits 32 bits: the test for that which the
@@ -113,57 +84,52 @@ pub fn amount_left(price: u32, lease: u32, last: u32, today: u32) -> u32
 {
     quotient(
         wide_product(price, days_left(lease, last, today)),
-        at_least_one(lease),
+        lease.max(1),
     )
 }
 
 // What is left of a price, where the term and today are within their limits.
-pub fn balance(price: u32, lease: u32, last: u32, today: u32) -> BalanceAnswer
+pub fn balance(price: u32, lease: u32, last: u32, today: u32) -> Result<u32, Refusal>
     ensures { reply result ≡ balance_reply price lease last today }
 {
     if !lawful_term(lease, last) {
-        return BalanceAnswer::OutsideLimits;
+        return Err(Refusal::RecordOutside);
     }
     if !lawful_day(today) {
-        return BalanceAnswer::OutsideLimits;
+        return Err(Refusal::RecordOutside);
     }
-    BalanceAnswer::Pence(amount_left(price, lease, last, today))
+    Ok(amount_left(price, lease, last, today))
+}
+
+// Whether section, row, place and letter are within their limits.
+fn lawful_label(label: Label) -> bool
+    ensures { result ≡ lawful_label label.section label.row label.place label.letter }
+{
+    (1 <= label.section)
+        & (label.section <= 255)
+        & (label.row <= 4095)
+        & (label.place <= 255)
+        & (label.letter <= 15)
 }
 
 // The key of a label.
-pub fn key_of(label: Label) -> KeyAnswer
+pub fn key_of(label: Label) -> Result<u32, Refusal>
     ensures { key_reply result ≡ key_of_reply label }
 {
-    let section = label.section;
-    let row = label.row;
-    let place = label.place;
-    let letter = label.letter;
-    if section < 1 {
-        return KeyAnswer::NoKey;
+    if !lawful_label(label) {
+        return Err(Refusal::NoLabel);
     }
-    if section > 255 {
-        return KeyAnswer::NoKey;
-    }
-    if row > 4095 {
-        return KeyAnswer::NoKey;
-    }
-    if place > 255 {
-        return KeyAnswer::NoKey;
-    }
-    if letter > 15 {
-        return KeyAnswer::NoKey;
-    }
-    KeyAnswer::Key(section * 16777216 + row * 4096 + place * 16 + letter)
+    Ok(label.section * 16777216 + label.row * 4096 + label.place * 16 + label.letter)
 }
 
 // The label of a key.
-pub fn label_of(key: u32) -> LabelAnswer
+pub fn label_of(key: u32) -> Result<Label, Refusal>
     ensures { label_reply result ≡ label_of_reply key }
 {
     if key < 16777216 {
-        return LabelAnswer::NoLabel;
+        return Err(Refusal::NoLabel);
     }
-    LabelAnswer::Labelled(Label {
+    Ok(Label {
         section: key / 16777216,
         row: key / 4096 % 4096,
         place: key / 16 % 256,
@@ -172,15 +138,15 @@ pub fn label_of(key: u32) -> LabelAnswer
 }
 
 // The key, with letter 0, of a key of the old packing, whose lowest 12 bits are the place.
-pub fn convert(key: u32) -> KeyAnswer
+pub fn convert(key: u32) -> Result<u32, Refusal>
     ensures { key_reply result ≡ convert_reply key }
 {
     let place = key % 4096;
     if key <= 16777215 {
-        return KeyAnswer::NoKey;
+        return Err(Refusal::NoLabel);
     }
     if place > 255 {
-        return KeyAnswer::NoKey;
+        return Err(Refusal::NoLabel);
     }
-    KeyAnswer::Key(key / 4096 * 4096 + place * 16)
+    Ok(key / 4096 * 4096 + place * 16)
 }

@@ -8,8 +8,9 @@ use lib.ListN.{length, take, drop, replicate, replicate-append-replicate, length
 use lib.Pow.{pow_pos}
 use lib.Seq.{length-take-le}
 use borrow.Author.Tests.{le-leb, lt-leb}
+use Rattle.std.specs.Prelude.{Ok, Err}
+use Rattle.answers.specs.declared.Refusal.TheVariants.{SizesOutside, TooShort}
 use Rattle.store.specs.declared.Format.{Format}
-use Rattle.store.specs.declared.SetUpAnswer.TheVariants.{Done, OutsideLimits, TooShort}
 use Rattle.store.specs.Head.{node_words, size, lawful_sizes}
 use Rattle.store.specs.SetUp.{set_up_words, marked, reply, set_up}
 use Rattle.store.proofs.HeadLaws.{Limits, sizes_limits}
@@ -38,18 +39,18 @@ marked_is f θ C N P n s z t e h i j =
 
 -- the three ways of set-up
 pub outside : (f : Format) (θ C N P : ℕ) (s : List ℕ) → lawful_sizes θ C N P ≡ false
-    → (reply OutsideLimits ≡ (set_up f θ C N P s).reply) × (s ≡ (set_up f θ C N P s).words)
+    → (reply (Err SizesOutside) ≡ (set_up f θ C N P s).reply) × (s ≡ (set_up f θ C N P s).words)
 unfolding set_up
 outside f θ C N P s e = (rw (e, set_up), rw (e, set_up))
 
 pub short : (f : Format) (θ C N P : ℕ) (s : List ℕ) → lawful_sizes θ C N P ≡ true → length s < size f θ C N P
-    → (reply TooShort ≡ (set_up f θ C N P s).reply) × (s ≡ (set_up f θ C N P s).words)
+    → (reply (Err TooShort) ≡ (set_up f θ C N P s).reply) × (s ≡ (set_up f θ C N P s).words)
 unfolding set_up
 short f θ C N P s e h = let l = lt-leb (size f θ C N P) (length s) h in (rw (e, l, set_up), rw (e, l, set_up))
 
 pub done : (f : Format) (θ C N P n : ℕ) (s t : List ℕ) → lawful_sizes θ C N P ≡ true → n ≡ size f θ C N P
     → n ≤ length s → t ≡ set_up_words f θ C N P ++ drop n s
-    → (reply (Done n) ≡ (set_up f θ C N P s).reply) × (t ≡ (set_up f θ C N P s).words)
+    → (reply (Ok n) ≡ (set_up f θ C N P s).reply) × (t ≡ (set_up f θ C N P s).words)
 unfolding set_up
 done f θ C N P n s t e i h u =
     let l = le-leb (size f θ C N P) (length s) (rw i at h) in (rw (e, l, i, set_up), rw (e, l, set_up) (u ∙ rw i))

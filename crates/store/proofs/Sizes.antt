@@ -2,6 +2,7 @@
 use mathlib.Core.Path.{◌≡◌}
 use Prim.Native.Nat.{ℕ, zero, suc, ◌*◌, ◌^◌, ◌≤◌, ◌<◌}
 use native.Mathlib.Decide.{dec_le}
+use native.Mathlib.Nat.{pow-le-pow_right}
 use native.Mathlib.Nat.{mul-le-mul, le_of_lt}
 use native.Mathlib.Omega.{arith}
 use lib.Pow.{pow_mono}
@@ -38,3 +39,11 @@ log_below_is (suc n) C f a b h =
 
 pub log2_is : (C f : ℕ) → 2 ^ f ≤ C → C < 2 ^ suc f → log2 C ≡ f
 log2_is C f a b = log_below_is C C f a b (omega (arith, pow_above f))
+
+-- an exponent whose power is small is small
+pub ilog2_low : (C f : ℕ) → 2 ^ f ≤ C → C < 2 ^ 5 → f ≤ 4
+ilog2_low C f a b =
+    elim (dec_le f 4) [
+      | yes h ↦ h
+      | no h ↦ absurd (omega (arith, pow-le-pow_right {n = 2} (omega arith) (let k : 5 ≤ f = omega arith in k)))
+    ]

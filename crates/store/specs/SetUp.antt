@@ -1,13 +1,13 @@
 -- Set-up. Document 01, "The store".
 --   set_up_words f θ C N P  == the words of a store just set up
 --   marked s θ C N P      == s with the words of such a store that are not 0
---   Reply, reply          == document 01's number and value for each case of a `SetUpAnswer`
+--   Reply, reply          == document 01's number and value for an answer of `set_up`
 --   set_up f θ C N P s     == what set-up replies and the words after it
 --   After                 == a reply, and the words after it
-use Rattle.std.specs.Prelude.{true, false, List, ◌∷◌, ◌++◌, ℕ, ◌-◌, leb, length, drop, set, replicate}
+use Rattle.std.specs.Prelude.{Result, Ok, Err, true, false, List, ◌∷◌, ◌++◌, ℕ, ◌-◌, leb, length, drop, set, replicate}
+use Rattle.answers.specs.declared.Refusal.{Refusal}
+use Rattle.answers.specs.Answers.{number}
 use Rattle.store.specs.declared.Format.{Format}
-use Rattle.store.specs.declared.SetUpAnswer.{SetUpAnswer}
-use Rattle.store.specs.declared.SetUpAnswer.TheVariants.{Done, OutsideLimits, TooShort}
 use Rattle.store.specs.Head.{size, lawful_sizes}
 
 -- "Set-up clears the size and takes node 1 as root: level 1, H = 0, one null entry with h = 0; levels = 1."
@@ -21,10 +21,9 @@ pub record Reply : Type 0 where
   pub number : ℕ
   pub size : ℕ
 
-abbrev pub reply : SetUpAnswer → Reply
-reply (Done n) = record { number = 0; size = n }
-reply OutsideLimits = record { number = 4; size = 0 }
-reply TooShort = record { number = 5; size = 0 }
+abbrev pub reply : Result ℕ Refusal → Reply
+reply (Ok n) = record { number = 0; size = n }
+reply (Err e) = record { number = number e; size = 0 }
 
 pub record After : Type 0 where
   pub reply : Reply

@@ -10,6 +10,8 @@ ghost use Rattle.store.specs.Head.{lawful_sizes, lawful_counts, released_of, nam
 ghost use Rattle.store.specs.Released.{node_form, page_form, node_next, page_next, passed, member, link_ok, nodes_ok, pages_ok};
 ghost use Rattle.store.specs.SetUp.{marked, set_up, reply};
 
+use answers::Refusal;
+
 #[derive(Clone, Copy)]
 pub enum Format {
     Plots,
@@ -44,13 +46,6 @@ pub struct Released {
     pub page: u32,
     pub nodes: u32,
     pub pages: u32,
-}
-
-#[derive(Clone, Copy)]
-pub enum SetUpAnswer {
-    Done(u32),
-    OutsideLimits,
-    TooShort,
 }
 
 // The bits of a key.
@@ -107,12 +102,9 @@ pub fn pow2(k: u32) -> usize
 pub fn is_zero(part: &[u32]) -> bool
     ensures { result ≡ zeros part.now 0 (length part.now) }
 {
-    let n = part.len();
     let mut bits: u32 = 0;
-    let mut j: usize = 0;
-    while j < n {
-        bits |= part[j];
-        j += 1;
+    for word in part {
+        bits |= *word;
     }
     bits == 0
 }
@@ -194,19 +186,7 @@ fn floor_log2(c: u32) -> u32
     requires { (1 ≤ c) × (c ≤ largest_capacity) }
     ensures { (result ≡ log2 c) × (result ≤ 4) }
 {
-    if c >= 16 {
-        return 4;
-    }
-    if c >= 8 {
-        return 3;
-    }
-    if c >= 4 {
-        return 2;
-    }
-    if c >= 2 {
-        return 1;
-    }
-    0
+    c.ilog2()
 }
 
 // The bound on the levels, document 01's L.
@@ -324,10 +304,7 @@ pub fn head_ok(store: &[u32], f: Format) -> bool
 fn from_zero(n: u32) -> usize
     ensures { (result ≡ n - 1) × (result < 2 ^ 32) }
 {
-    if n == 0 {
-        return 0;
-    }
-    to_index(n - 1)
+    to_index(n.saturating_sub(1))
 }
 
 // The first word of a node block.
@@ -421,13 +398,11 @@ fn node_seen(store: &[u32], head: Head, name: u32, first: u32, n: u32) -> bool
     ensures { result ≡ member name (passed (node_next store.now) n first) }
 {
     let mut x = first;
-    let mut i: u32 = 0;
-    while i < n {
+    for _i in 0..n {
         if x == name {
             return true;
         }
         x = node_next(store, head, x);
-        i += 1;
     }
     false
 }
@@ -454,8 +429,7 @@ pub fn nodes_ok(store: &[u32], f: Format, head: Head, n: u32) -> bool
 {
     let r = released_of(store);
     let mut name = r.node;
-    let mut i: u32 = 0;
-    while i < n {
+    for i in 0..n {
         if i == r.nodes {
             return true;
         }
@@ -463,7 +437,6 @@ pub fn nodes_ok(store: &[u32], f: Format, head: Head, n: u32) -> bool
             return false;
         }
         name = node_next(store, head, name);
-        i += 1;
     }
     true
 }
@@ -494,12 +467,7 @@ pub fn pages_ok(store: &[u32], f: Format, head: Head, n: u32) -> bool
 pub fn clear(part: &mut [u32])
     ensures { part.new ≡ replicate (length part.old) 0 }
 {
-    let n = part.len();
-    let mut i: usize = 0;
-    while i < n {
-        part[i] = 0;
-        i += 1;
-    }
+    part.fill(0);
 }
 
 // Writes the words of a store just set up that are not 0: its head, and the level of node 1.
@@ -525,18 +493,18 @@ pub fn set_up(
     capacity: u32,
     nodes: u32,
     pages: u32,
-) -> SetUpAnswer
+) -> Result<u32, Refusal>
     ensures { (reply result ≡ (set_up f theta capacity nodes pages store.old).reply)
         × (store.new ≡ (set_up f theta capacity nodes pages store.old).words) }
 {
     if !sizes_ok(theta, capacity, nodes, pages) {
-        return SetUpAnswer::OutsideLimits;
+        return Err(Refusal::SizesOutside);
     }
     let n = size_of(f, theta, capacity, nodes, pages);
     if store.len() < n {
-        return SetUpAnswer::TooShort;
+        return Err(Refusal::TooShort);
     }
     clear(&mut store[..n]);
     mark(store, theta, capacity, nodes, pages);
-    SetUpAnswer::Done(n as u32)
+    Ok(n as u32)
 }

@@ -10,7 +10,7 @@ use Rattle.plot.proofs.amount_left.Tie as tie
 quotient_requires : tie.Need-quotient-requires
 quotient_requires c κs =
     let s = c.before.before.before in
-    rw (c.at_least_one.ensures, c.wide_product.ensures, c.days_left.ensures) (
+    rw (c.max.ensures, c.wide_product.ensures, c.days_left.ensures) (
       omega arith,
       divisor_fits _ _ s.requires,
       share_fits (search rules) (omega (arith, days_within s.args.lease s.args.last s.args.today)) (omega arith),
@@ -19,7 +19,7 @@ quotient_requires c κs =
 returns : tie.Need-returns
 returns c =
     let b = c.before in
-    rw (c.quotient.ensures, b.at_least_one.ensures, b.wide_product.ensures, b.days_left.ensures)
+    rw (c.quotient.ensures, b.max.ensures, b.wide_product.ensures, b.days_left.ensures)
     (sym (amount_share _ _ _ _))
 
 pub amount_left_spec : {M : Type 1} → statement M
