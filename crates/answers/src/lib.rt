@@ -14,7 +14,7 @@ pub enum Refusal {
     RecordOutside,
     LowAboveHigh,
     KeyHeld,
-    Damaged,
+    DamageMet,
     NoBlocks,
     NoLabel,
 }
@@ -31,7 +31,7 @@ impl Refusal {
             Refusal::RecordOutside => 6,
             Refusal::LowAboveHigh => 7,
             Refusal::KeyHeld => 8,
-            Refusal::Damaged => 9,
+            Refusal::DamageMet => 9,
             Refusal::NoBlocks => 10,
             Refusal::NoLabel => 11,
         }
@@ -47,7 +47,7 @@ impl fmt::Display for Refusal {
             Refusal::RecordOutside => write!(f, "the record or today is outside its limits"),
             Refusal::LowAboveHigh => write!(f, "low is above high"),
             Refusal::KeyHeld => write!(f, "the key is already held"),
-            Refusal::Damaged => write!(f, "a damaged block was visited"),
+            Refusal::DamageMet => write!(f, "a damaged block was visited"),
             Refusal::NoBlocks => write!(f, "the entry needs more blocks than remain"),
             Refusal::NoLabel => write!(f, "the label or key is outside its limits"),
         }

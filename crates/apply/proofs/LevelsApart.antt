@@ -16,7 +16,7 @@ use Rattle.store.specs.Head.{head_of, node_start}
 use Rattle.node.specs.Node.{depth_word, level_word, node_rule}
 use Rattle.node.proofs.NodeLaws.{node_facts}
 use Rattle.search.specs.declared.Step.{Step}
-use Rattle.search.specs.declared.Descent.{Descent}
+use Rattle.search.specs.Way.{Descent}
 use Rattle.search.specs.Descent.{step_of, descent, no_step}
 use Rattle.search.proofs.DescentLaws.{sound_facts, visited_sound}
 use Rattle.split.specs.Frame.{node_of}

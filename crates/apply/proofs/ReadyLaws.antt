@@ -9,7 +9,7 @@ use Rattle.store.specs.declared.Format.{Format}
 use Rattle.store.specs.declared.Item.{Item}
 use Rattle.store.specs.Head.{head_of, head_rule}
 use Rattle.store.proofs.HeadLaws.{levels_within}
-use Rattle.search.specs.declared.Sought.TheVariants.{Record}
+use Rattle.search.specs.Way.{Record}
 use Rattle.search.specs.Descent.{descent}
 use Rattle.search.specs.Find.{find_of}
 use Rattle.remove.specs.Remove.{Plan, plan_of}

@@ -18,8 +18,8 @@ use Rattle.store.specs.Head.{head_of, head_rule, lawful_sizes, size}
 use Rattle.store.specs.SetUp.{}
 use Rattle.store.specs.Tests.{failing}
 use Rattle.store.proofs.TestLaws.{failing_on, failing_here, failing_none}
-use Rattle.search.specs.declared.Sought.{Sought}
-use Rattle.search.specs.declared.Sought.TheVariants.{Record, Nothing, Damaged}
+use Rattle.search.specs.Way.{Sought}
+use Rattle.search.specs.Way.{Record, Nothing, Damaged}
 use Rattle.search.specs.Find.{checked, find_of, find_reply}
 use Rattle.search.specs.Next.{next_of, next_reply}
 use Rattle.scan.specs.Range.{ranged, listed, range_of}

@@ -12,8 +12,8 @@ use Rattle.store.specs.Head.{head_of, head_rule, lawful_sizes, size, nodes_left,
 use Rattle.store.specs.Released.{nodes_ok, pages_ok}
 use Rattle.store.specs.Tests.{Test}
 use Rattle.store.specs.Format.{words}
-use Rattle.search.specs.declared.Sought.{Sought}
-use Rattle.search.specs.declared.Sought.TheVariants.{Record, Nothing, Damaged}
+use Rattle.search.specs.Way.{Sought}
+use Rattle.search.specs.Way.{Record, Nothing, Damaged}
 use Rattle.search.specs.Descent.{descent}
 use Rattle.search.specs.Find.{find_of}
 use Rattle.search.specs.Next.{next_of}

@@ -32,8 +32,8 @@ use Rattle.page.specs.Page.{count, item_at, lawful_item, page_rule, agrees}
 use Rattle.page.specs.Schema.{key_of}
 use Rattle.page.proofs.Laws.{lawful_key, rule_facts}
 use Rattle.search.specs.declared.Step.{Step}
-use Rattle.search.specs.declared.Descent.{Descent}
-use Rattle.search.specs.declared.End.{End}
+use Rattle.search.specs.Way.{Descent}
+use Rattle.search.specs.Way.{End}
 use Rattle.search.specs.Descent.{no_step, no_steps, end_of, step_of, lost, step_taken, descend, descent}
 use Rattle.search.specs.Find.{sound_page}
 use Rattle.search.proofs.DescentLaws.{step_lost, step_on}

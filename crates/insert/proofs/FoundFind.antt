@@ -25,8 +25,8 @@ use Rattle.node.proofs.EntryNumber.{entry_index, entry_below}
 use Rattle.page.proofs.Laws.{lawful_key}
 use Rattle.page.specs.Page.{lawful_item}
 use Rattle.search.specs.declared.Step.{Step}
-use Rattle.search.specs.declared.Descent.{Descent}
-use Rattle.search.specs.declared.Sought.TheVariants.{Record}
+use Rattle.search.specs.Way.{Descent}
+use Rattle.search.specs.Way.{Record}
 use Rattle.search.specs.Descent.{no_steps, step_taken, descend, descent}
 use Rattle.search.specs.Find.{sound_page, checked, find_reply}
 use Rattle.search.proofs.DescentLaws.{visit_entry, turn_on}

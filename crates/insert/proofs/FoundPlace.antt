@@ -29,7 +29,7 @@ use Rattle.page.specs.Schema.{key_of}
 use Rattle.represent.specs.Image.{page_image}
 use Rattle.represent.specs.Rep.{Sized}
 use Rattle.represent.proofs.LabelLaws.{each_label}
-use Rattle.search.specs.declared.Sought.TheVariants.{Record}
+use Rattle.search.specs.Way.{Record}
 use Rattle.readings.specs.Listing.{first_where}
 use Rattle.readings.proofs.FirstLaws.{first_true, first_false}
 use Rattle.split.specs.Frame.{node_of, page_of}

@@ -19,8 +19,8 @@ use Rattle.store.specs.Format.{width}
 use Rattle.store.specs.Head.{head_of}
 use Rattle.store.proofs.HeadLaws.{head_facts, levels_within}
 use Rattle.page.proofs.Laws.{lawful_key}
-use Rattle.search.specs.declared.Visit.{Visit}
-use Rattle.search.specs.declared.Descent.{Descent}
+use Rattle.search.specs.Way.{Visit}
+use Rattle.search.specs.Way.{Descent}
 use Rattle.search.specs.Descent.{no_step, no_steps, entry_visit, step_of, lost, step_taken, descend, descent, own_visit}
 use Rattle.search.proofs.DescentLaws.{sound_facts, visited_sound, seen_own, step_lost, step_on}
 use Rattle.represent.specs.Rep.{Sized}

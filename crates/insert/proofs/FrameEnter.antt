@@ -16,7 +16,7 @@ use Rattle.store.specs.declared.Item.{Item}
 use Rattle.store.specs.Head.{head_of, node_start, node_words}
 use Rattle.store.proofs.HeadLaws.{head_facts}
 use Rattle.node.specs.Node.{forward_word}
-use Rattle.search.specs.declared.Descent.{Descent}
+use Rattle.search.specs.Way.{Descent}
 use Rattle.search.specs.Descent.{no_step}
 use Rattle.represent.specs.Rep.{Sized}
 use Rattle.split.specs.Frame.{node_of}

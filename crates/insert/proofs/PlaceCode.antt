@@ -21,8 +21,8 @@ use Rattle.store.proofs.HeadLaws.{Limits, sizes_limits, page_given}
 use Rattle.page.specs.Page.{count, lawful_item, Filled}
 use Rattle.page.specs.Schema.{key_of}
 use Rattle.search.specs.declared.Step.{Step}
-use Rattle.search.specs.declared.Descent.{Descent}
-use Rattle.search.specs.declared.End.{End}
+use Rattle.search.specs.Way.{Descent}
+use Rattle.search.specs.Way.{End}
 use Rattle.search.specs.Descent.{no_step}
 use Rattle.represent.specs.Image.{page_image}
 use Rattle.represent.specs.Rep.{Sized}

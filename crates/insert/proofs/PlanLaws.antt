@@ -32,8 +32,8 @@ use Rattle.node.specs.Node.{level_word, back_word, forward_word}
 use Rattle.page.specs.Page.{count, item_at, key_at, agrees, above, first_above, page_rule}
 use Rattle.page.specs.Schema.{key_of}
 use Rattle.page.proofs.Laws.{agrees_facts, facts_agrees, rule_facts, first_facts}
-use Rattle.search.specs.declared.Sought.{Sought}
-use Rattle.search.specs.declared.Sought.TheVariants.{Record, Nothing, Damaged}
+use Rattle.search.specs.Way.{Sought}
+use Rattle.search.specs.Way.{Record, Nothing, Damaged}
 use Rattle.search.specs.declared.Step.{Step}
 use Rattle.search.specs.Descent.{no_step}
 use Rattle.search.specs.Find.{no_item, sound_page, in_page}

@@ -29,7 +29,7 @@ use Rattle.represent.specs.Image.{page_image}
 use Rattle.represent.specs.Labelled.{count as counted}
 use Rattle.represent.proofs.LabelLaws.{ind_eq}
 use Rattle.represent.proofs.PageImage.{page_count_lem, page_item}
-use Rattle.search.specs.declared.Descent.{Descent}
+use Rattle.search.specs.Way.{Descent}
 use Rattle.search.specs.Find.{no_item}
 use Rattle.split.specs.Round.{round}
 use Rattle.split.specs.Insertion.{word_store}

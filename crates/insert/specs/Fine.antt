@@ -31,8 +31,8 @@ use Rattle.store.specs.declared.Format.{Format}
 use Rattle.store.specs.declared.Head.{Head}
 use Rattle.store.specs.declared.Item.{Item}
 use Rattle.search.specs.declared.Step.{Step}
-use Rattle.search.specs.declared.Descent.{Descent}
-use Rattle.search.specs.declared.End.{End}
+use Rattle.search.specs.Way.{Descent}
+use Rattle.search.specs.Way.{End}
 use Rattle.store.specs.Format.{width}
 use Rattle.store.specs.Head.{head_of, head_rule, released_of, InUse, page_start}
 use Rattle.store.specs.Released.{node_next, page_next}

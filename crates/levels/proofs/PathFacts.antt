@@ -24,8 +24,8 @@ use Rattle.node.proofs.NodeLaws.{node_facts}
 use Rattle.node.proofs.RunWalk.{good_facts}
 use Rattle.node.proofs.EntryNumber.{entry_below}
 use Rattle.search.specs.declared.Step.{Step}
-use Rattle.search.specs.declared.Visit.{Visit}
-use Rattle.search.specs.declared.Descent.{Descent}
+use Rattle.search.specs.Way.{Visit}
+use Rattle.search.specs.Way.{Descent}
 use Rattle.search.specs.Descent.{no_step, no_steps, sound_node, step_of, lost, step_taken, descend, descent, entry_visit, own_visit}
 use Rattle.search.proofs.DescentLaws.{step_lost, step_on, step_entry, visited_sound}
 use Rattle.split.specs.Frame.{node_of}

@@ -22,9 +22,9 @@ use Rattle.node.specs.Node.{depth_word, entry_number}
 use Rattle.node.proofs.EntryNumber.{entry_index}
 use Rattle.page.specs.Schema.{key_of}
 use Rattle.search.specs.declared.Step.{Step}
-use Rattle.search.specs.declared.Visit.{Visit}
-use Rattle.search.specs.declared.Descent.{Descent}
-use Rattle.search.specs.declared.End.{End}
+use Rattle.search.specs.Way.{Visit}
+use Rattle.search.specs.Way.{Descent}
+use Rattle.search.specs.Way.{End}
 use Rattle.search.specs.Descent.{no_step, no_steps, sound_node, step_of, lost, descend, descent, end_of, terminal, own_visit}
 use Rattle.search.specs.Find.{sound_page}
 use Rattle.search.proofs.BlockLaws.{under_levels, root_in_use, block_long, block_rule, block_depth, own_read}

@@ -14,9 +14,9 @@ use Rattle.store.specs.declared.Head.{Head}
 use Rattle.store.specs.declared.Item.{Item}
 use Rattle.store.specs.Format.{width}
 use Rattle.store.specs.Head.{page_at, Under}
-use Rattle.search.specs.declared.Visit.{Visit}
-use Rattle.search.specs.declared.Descent.{Descent}
-use Rattle.search.specs.declared.End.{End}
+use Rattle.search.specs.Way.{Visit}
+use Rattle.search.specs.Way.{Descent}
+use Rattle.search.specs.Way.{End}
 use Rattle.search.specs.Descent.{descent, end_of}
 use Rattle.search.specs.Find.{sound_page}
 use Rattle.remove.specs.Remove.{Reach, Pages, sibling_key, path_reach, stuck_pages, page_joins}

@@ -21,8 +21,8 @@ use Rattle.store.specs.Head.{node_start}
 use Rattle.node.specs.Node.{level_word, node_rule}
 use Rattle.node.proofs.NodeLaws.{node_facts}
 use Rattle.search.specs.declared.Step.{Step}
-use Rattle.search.specs.declared.Visit.{Visit}
-use Rattle.search.specs.declared.Descent.{Descent}
+use Rattle.search.specs.Way.{Visit}
+use Rattle.search.specs.Way.{Descent}
 use Rattle.search.specs.Descent.{no_step, no_steps, sound_node, step_of, lost, step_taken, descend, descent, entry_visit, own_visit}
 use Rattle.search.proofs.DescentLaws.{step_lost, step_on, step_entry, visited_sound, seen_own}
 use Rattle.search.proofs.TerminalLaws.{fewer, node_same}

@@ -17,7 +17,7 @@ use Rattle.store.specs.Format.{width}
 use Rattle.node.specs.Node.{depth_word}
 use Rattle.page.specs.Schema.{key_of}
 use Rattle.search.specs.declared.Step.{Step}
-use Rattle.search.specs.declared.Descent.{Descent}
+use Rattle.search.specs.Way.{Descent}
 use Rattle.search.specs.Descent.{no_step}
 use Rattle.split.specs.Frame.{node_of}
 use Rattle.insert.specs.Enter.{own_items}

@@ -13,8 +13,8 @@ use Rattle.store.specs.Format.{width}
 use Rattle.store.specs.Head.{node_start, page_at}
 use Rattle.node.specs.Node.{depth_word}
 use Rattle.page.specs.Schema.{key_of}
-use Rattle.search.specs.declared.End.{End}
-use Rattle.search.specs.declared.Visit.{Visit}
+use Rattle.search.specs.Way.{End}
+use Rattle.search.specs.Way.{Visit}
 use Rattle.search.specs.Descent.{step_of}
 use Rattle.search.specs.Find.{sound_page}
 use Rattle.split.specs.Insertion.{put_items}

@@ -10,8 +10,8 @@ use Rattle.store.specs.declared.Head.{Head}
 use Rattle.store.specs.Format.{width}
 use Rattle.store.specs.Head.{page_at, Under}
 use Rattle.page.specs.Page.{key_at}
-use Rattle.search.specs.declared.Descent.{Descent}
-use Rattle.search.specs.declared.End.{End}
+use Rattle.search.specs.Way.{Descent}
+use Rattle.search.specs.Way.{End}
 use Rattle.search.specs.Descent.{descent, end_of}
 use Rattle.split.specs.Insertion.{put_items}
 use Rattle.gather.specs.Gather.{OwnPage}

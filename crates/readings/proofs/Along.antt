@@ -23,8 +23,8 @@ use Rattle.store.specs.Head.{head_of, node_start, node_at}
 use Rattle.node.specs.Node.{depth_word, node_rule, entry_number}
 use Rattle.store.proofs.HeadLaws.{sizes_limits}
 use Rattle.search.specs.declared.Step.{Step}
-use Rattle.search.specs.declared.Reached.{Reached}
-use Rattle.search.specs.declared.Reached.TheVariants.{Page, Past}
+use Rattle.search.specs.Way.{Reached}
+use Rattle.search.specs.Way.{Page, Past}
 use Rattle.search.specs.Descent.{no_step, descent}
 use Rattle.search.specs.Next.{run_after, linked, pointer_from, reach, visited, behind, after_own}
 use Rattle.search.proofs.NextLaws.{onward_none, onward_goes, hop_ends, hop_onward, reach_ends, reach_on}

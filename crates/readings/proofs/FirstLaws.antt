@@ -15,8 +15,8 @@ use Rattle.lists.proofs.Cases.{bool_cases}
 use Rattle.lists.proofs.ListLaws.{all_map}
 use Rattle.store.specs.declared.Item.{Item}
 use Rattle.page.specs.Page.{above}
-use Rattle.search.specs.declared.Sought.{Sought}
-use Rattle.search.specs.declared.Sought.TheVariants.{Record, Nothing, Damaged}
+use Rattle.search.specs.Way.{Sought}
+use Rattle.search.specs.Way.{Record, Nothing, Damaged}
 use Rattle.page.specs.Schema.{key_of}
 use Rattle.readings.specs.Listing.{first_where, first_of}
 

@@ -17,8 +17,8 @@ use Rattle.store.specs.declared.Format.{Format}
 use Rattle.store.specs.declared.Item.{Item}
 use Rattle.page.specs.Page.{count, item_at, key_at, lawful_item, above, first_above}
 use Rattle.page.proofs.Laws.{first_is}
-use Rattle.search.specs.declared.Sought.{Sought}
-use Rattle.search.specs.declared.Sought.TheVariants.{Record, Nothing, Damaged}
+use Rattle.search.specs.Way.{Sought}
+use Rattle.search.specs.Way.{Record, Nothing, Damaged}
 use Rattle.search.specs.Find.{in_page, no_item}
 use Rattle.represent.specs.Image.{page_image}
 use Rattle.page.specs.Schema.{key_of}

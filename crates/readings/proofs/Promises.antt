@@ -21,8 +21,8 @@ use Rattle.page.specs.Page.{count, key_at, item_at, above, first_above, lawful_i
 use Rattle.page.proofs.Laws.{lawful_key}
 use Rattle.totals.specs.Promises.{EarliestOf}
 use Rattle.totals.proofs.Promises.{earliest_key_lem}
-use Rattle.search.specs.declared.Sought.{Sought}
-use Rattle.search.specs.declared.Sought.TheVariants.{Record, Nothing, Damaged}
+use Rattle.search.specs.Way.{Sought}
+use Rattle.search.specs.Way.{Record, Nothing, Damaged}
 use Rattle.search.specs.Descent.{descent}
 use Rattle.search.specs.Find.{no_item, sound_page, in_page, sought_reply, checked, find_of, find_reply}
 use Rattle.search.specs.Next.{next_of, next_reply}

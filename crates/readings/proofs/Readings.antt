@@ -20,8 +20,8 @@ use Rattle.store.specs.declared.Item.{Item}
 use Rattle.store.specs.Format.{width}
 use Rattle.store.specs.Head.{head_of, page_at}
 use Rattle.page.specs.Page.{count, item_at, above, first_above}
-use Rattle.search.specs.declared.Sought.{Sought}
-use Rattle.search.specs.declared.Sought.TheVariants.{Record, Nothing, Damaged}
+use Rattle.search.specs.Way.{Sought}
+use Rattle.search.specs.Way.{Record, Nothing, Damaged}
 use Rattle.search.specs.Descent.{no_step, descent}
 use Rattle.search.specs.Find.{sound_page, in_page, find_of}
 use Rattle.search.specs.Next.{visit_after, visited, after_own, from_descent, next_of}

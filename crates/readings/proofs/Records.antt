@@ -28,7 +28,7 @@ use Rattle.tree.specs.Build.{side, build}
 use Rattle.tree.proofs.BuildLaws.{sorted_side, sides_low, sides_high, prefix_low, prefix_high, build_le, build_gt}
 use Rattle.store.specs.declared.Item.{Item}
 use Rattle.page.specs.Page.{above}
-use Rattle.search.specs.declared.Sought.TheVariants.{Record, Nothing}
+use Rattle.search.specs.Way.{Record, Nothing}
 use Rattle.represent.specs.Labelled.{before, after}
 use Rattle.page.specs.Schema.{key_of}
 use Rattle.represent.specs.Rep.{Stretch, contents, Keyed}

@@ -19,8 +19,8 @@ use Rattle.store.specs.declared.Item.{Item}
 use Rattle.store.specs.Format.{words}
 use Rattle.page.specs.Page.{above}
 use Rattle.totals.specs.Promises.{worths}
-use Rattle.search.specs.declared.Sought.{Sought}
-use Rattle.search.specs.declared.Sought.TheVariants.{Record, Nothing}
+use Rattle.search.specs.Way.{Sought}
+use Rattle.search.specs.Way.{Record, Nothing}
 use Rattle.search.specs.Find.{Reply, sought_reply}
 use Rattle.scan.specs.Range.{Ranged, After, range_refused, listed}
 use Rattle.scan.specs.Summary.{SummaryReply, summary_refused}

@@ -20,8 +20,8 @@ use Rattle.page.specs.Schema.{key_of}
 use Rattle.represent.proofs.PageImage.{page_key}
 use Rattle.store.proofs.HeadLaws.{width_within, levels_within}
 use Rattle.search.specs.declared.Step.{Step}
-use Rattle.search.specs.declared.Descent.{Descent}
-use Rattle.search.specs.declared.Sought.TheVariants.{Record}
+use Rattle.search.specs.Way.{Descent}
+use Rattle.search.specs.Way.{Record}
 use Rattle.search.specs.Descent.{descent}
 use Rattle.search.specs.Find.{no_item, find_of}
 use Rattle.search.proofs.FindLaws.{sound_rule}

@@ -11,9 +11,9 @@ use Rattle.store.specs.declared.Item.{Item}
 use Rattle.store.specs.Format.{width}
 use Rattle.store.specs.Head.{head_rule, page_at, Under}
 use Rattle.page.specs.Page.{count, item_at, key_at, first_above}
-use Rattle.search.specs.declared.Sought.{Sought}
-use Rattle.search.specs.declared.Sought.TheVariants.{Record, Nothing, Damaged}
-use Rattle.search.specs.declared.End.{End}
+use Rattle.search.specs.Way.{Sought}
+use Rattle.search.specs.Way.{Record, Nothing, Damaged}
+use Rattle.search.specs.Way.{End}
 use Rattle.search.specs.Descent.{descent, end_of}
 use Rattle.search.specs.Find.{no_item, sound_page, find_of}
 use Rattle.search.proofs.FindLaws.{Led, find_sound, in_page_is}

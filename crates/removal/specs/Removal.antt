@@ -14,7 +14,7 @@ use Rattle.store.specs.Head.{page_at, Under}
 use Rattle.page.specs.Page.{count, key_at}
 use Rattle.represent.specs.Image.{page_image}
 use Rattle.search.specs.declared.Step.{Step}
-use Rattle.search.specs.declared.Sought.TheVariants.{Record, Nothing, Damaged}
+use Rattle.search.specs.Way.{Record, Nothing, Damaged}
 use Rattle.search.specs.Descent.{descent}
 use Rattle.search.specs.Find.{find_of}
 use Rattle.remove.specs.Remove.{Pages, Levels, no_spot, first_spot, first_used, kept_levels, gone_roots, plan_of, written_by}

@@ -27,7 +27,7 @@ use Rattle.node.proofs.NodeLaws.{link_1, link_above, node_facts}
 use Rattle.represent.specs.Image.{entry_words}
 use Rattle.represent.specs.Rep.{size_of}
 use Rattle.search.specs.declared.Step.{Step}
-use Rattle.search.specs.declared.Visit.{Visit}
+use Rattle.search.specs.Way.{Visit}
 use Rattle.search.specs.Descent.{step_of}
 use Rattle.search.specs.Find.{sound_page}
 use Rattle.search.proofs.DescentLaws.{sound_facts, visited_sound}

@@ -15,8 +15,8 @@ use Rattle.store.specs.declared.Item.{Item}
 use Rattle.store.specs.Format.{width, words}
 use Rattle.store.specs.Head.{head_of}
 use Rattle.page.specs.Page.{count, key_at, agrees}
-use Rattle.search.specs.declared.Sought.{Sought}
-use Rattle.search.specs.declared.Sought.TheVariants.{Record, Nothing, Damaged}
+use Rattle.search.specs.Way.{Sought}
+use Rattle.search.specs.Way.{Record, Nothing, Damaged}
 use Rattle.search.specs.Find.{no_item, checked, find_of, find_reply}
 use Rattle.search.proofs.Promises.{keys_fit}
 use Rattle.lists.proofs.Cases.{by_cases}

@@ -24,9 +24,9 @@ use Rattle.page.specs.Page.{count, item_at}
 use Rattle.page.specs.Schema.{key_of}
 use Rattle.page.proofs.Laws.{rule_facts}
 use Rattle.search.specs.declared.Step.{Step}
-use Rattle.search.specs.declared.Descent.{Descent}
-use Rattle.search.specs.declared.Sought.{Sought}
-use Rattle.search.specs.declared.Sought.TheVariants.{Record, Nothing, Damaged}
+use Rattle.search.specs.Way.{Descent}
+use Rattle.search.specs.Way.{Sought}
+use Rattle.search.specs.Way.{Record, Nothing, Damaged}
 use Rattle.search.specs.Descent.{descent, no_step}
 use Rattle.search.specs.Find.{sound_page, find_of}
 use Rattle.insert.specs.Enter.{items_in, own_items}

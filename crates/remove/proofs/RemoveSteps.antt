@@ -23,8 +23,8 @@ use Rattle.store.specs.Head.{head_of, node_at, node_words, page_words}
 use Rattle.store.proofs.HeadLaws.{sizes_limits}
 use Rattle.page.specs.Page.{lawful_item}
 use Rattle.page.specs.Schema.{key_of}
-use Rattle.search.specs.declared.Sought.{Sought}
-use Rattle.search.specs.declared.Sought.TheVariants.{Record, Nothing, Damaged}
+use Rattle.search.specs.Way.{Sought}
+use Rattle.search.specs.Way.{Record, Nothing, Damaged}
 use Rattle.search.specs.Find.{sought_reply, find_of}
 use Rattle.search.specs.Descent.{descent}
 use Rattle.represent.specs.Labelled.{Each, occ, occs, count}

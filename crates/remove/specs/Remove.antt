@@ -30,10 +30,9 @@ use Rattle.store.specs.Format.{width}
 use Rattle.store.specs.Head.{head_of, node_start, page_at}
 use Rattle.node.specs.Node.{depth_word, level_word, back_word, forward_word}
 use Rattle.search.specs.declared.Step.{Step}
-use Rattle.search.specs.declared.Visit.{Visit}
-use Rattle.search.specs.declared.Descent.{Descent}
-use Rattle.search.specs.declared.Sought.{}
-use Rattle.search.specs.declared.Sought.TheVariants.{Record, Nothing, Damaged}
+use Rattle.search.specs.Way.{Visit}
+use Rattle.search.specs.Way.{Descent}
+use Rattle.search.specs.Way.{Record, Nothing, Damaged}
 use Rattle.search.specs.Descent.{step_of, descent}
 use Rattle.search.specs.Find.{Reply, no_item, sound_page, find_of}
 use Rattle.page.specs.Schema.{key_of}
@@ -441,7 +440,7 @@ carried_out f s h it p =
     ]
 
 -- "It gives the removed record, or answer 1 if absent, and the checks run as for find."
-unfoldable pub found_of : Format → List ℕ → Head → ℕ → Rattle.search.specs.declared.Sought.Sought → After
+unfoldable pub found_of : Format → List ℕ → Head → ℕ → Rattle.search.specs.Way.Sought → After
 found_of f s h k Damaged = same s 9
 found_of f s h k Nothing = same s 1
 found_of f s h k (Record it) = carried_out f s h it (plan_of f s h k (descent f s h k))

@@ -12,7 +12,7 @@ use Rattle.store.specs.declared.Format.TheVariants.{Plots}
 use Rattle.store.specs.Format.{width, words}
 use Rattle.store.specs.Head.{head_of, zeros, node_words, node_start, page_start, page_words, page_at, node_at}
 use Rattle.node.specs.Node.{run_rule, good_runs, link_rule, pointer_low, pointer_high, node_rule, entry_number, forward_word}
-use Rattle.search.specs.declared.Descent.{Descent}
+use Rattle.search.specs.Way.{Descent}
 use Rattle.search.specs.Descent.{no_step, no_steps, damaged_node, entry_visit, step_of, lost, step_taken, descend, descent}
 use Rattle.represent.specs.Rep.{Stretch, Rep}
 use Rattle.represent.specs.Example.{stored}

@@ -21,7 +21,7 @@ use Rattle.store.specs.Head.{page_at, page_start, page_words, Under}
 use Rattle.store.proofs.Places.{under_limits}
 use Rattle.page.specs.Page.{flat}
 use Rattle.page.proofs.Laws.{rule_facts}
-use Rattle.search.specs.declared.Span.{Span}
+use Rattle.search.specs.Way.{Span}
 use Rattle.search.specs.Span.{span_of, Rows}
 use Rattle.search.proofs.BlockLaws.{under_levels}
 use Rattle.scan.specs.Walk.{last_key, Standing, rows}

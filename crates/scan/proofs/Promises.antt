@@ -27,8 +27,8 @@ use Rattle.page.proofs.Laws.{lawful_key}
 use Rattle.totals.specs.declared.Totals.{Totals}
 use Rattle.totals.specs.Totals.{no_totals, earlier, updated_of}
 use Rattle.totals.proofs.Laws.{updated_taken, updated_kept, updated_count}
-use Rattle.search.specs.declared.Sought.{Sought}
-use Rattle.search.specs.declared.Sought.TheVariants.{Record, Nothing, Damaged}
+use Rattle.search.specs.Way.{Sought}
+use Rattle.search.specs.Way.{Record, Nothing, Damaged}
 use Rattle.search.specs.Next.{next_of}
 use Rattle.search.proofs.NextLaws.{next_lawful}
 use Rattle.scan.specs.Range.{Ranged, ended, broken, also, range_from, ranged, range_refused, After, listed, range_of}

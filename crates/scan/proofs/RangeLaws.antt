@@ -16,7 +16,7 @@ use Rattle.page.specs.Page.{above}
 use Rattle.totals.specs.declared.Totals.{Totals}
 use Rattle.totals.specs.Totals.{updated_of}
 use Rattle.scan.specs.declared.Listing.{Listing}
-use Rattle.search.specs.declared.Sought.TheVariants.{Record, Nothing, Damaged}
+use Rattle.search.specs.Way.{Record, Nothing, Damaged}
 use Rattle.search.specs.Next.{next_of}
 use Rattle.search.proofs.NextLaws.{next_above}
 use Rattle.scan.specs.Range.{Ranged, ended, broken, also, range_from, ranged, listing}

@@ -17,8 +17,8 @@ use Rattle.store.proofs.Places.{under_limits}
 use Rattle.page.specs.Page.{count, key_at, Filled}
 use Rattle.page.proofs.Inside.{page_lent, filled}
 use Rattle.page.proofs.Laws.{rule_facts}
-use Rattle.search.specs.declared.Terminal.{Terminal}
-use Rattle.search.specs.declared.Span.{Span}
+use Rattle.search.specs.Way.{Terminal}
+use Rattle.search.specs.Way.{Span}
 use Rattle.search.specs.Descent.{terminal}
 use Rattle.search.specs.Span.{span_of, GoesBehind, Rows}
 use Rattle.search.proofs.BlockLaws.{under_levels}

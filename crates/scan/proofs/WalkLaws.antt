@@ -29,9 +29,9 @@ use Rattle.page.proofs.Inside.{page_lent, filled, record_inside}
 use Rattle.page.proofs.Laws.{rises, rule_facts, first_facts}
 use Rattle.totals.specs.declared.Totals.{Totals}
 use Rattle.totals.specs.Totals.{updated_of, totals_of}
-use Rattle.search.specs.declared.Span.{Span}
-use Rattle.search.specs.declared.Sought.{Sought}
-use Rattle.search.specs.declared.Sought.TheVariants.{Record, Nothing, Damaged}
+use Rattle.search.specs.Way.{Span}
+use Rattle.search.specs.Way.{Sought}
+use Rattle.search.specs.Way.{Record, Nothing, Damaged}
 use Rattle.search.specs.Next.{next_of}
 use Rattle.search.specs.Span.{span_of, sought_of, Rows}
 use Rattle.search.proofs.SpanLaws.{sought_not, sought_none, sought_first, GoesOn, next_span, span_rows}

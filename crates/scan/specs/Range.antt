@@ -17,7 +17,7 @@ use Rattle.store.specs.declared.Item.{Item}
 use Rattle.store.specs.Format.{words}
 use Rattle.store.specs.Head.{head_of, head_rule}
 use Rattle.page.specs.Page.{flat}
-use Rattle.search.specs.declared.Sought.TheVariants.{Record, Nothing, Damaged}
+use Rattle.search.specs.Way.{Record, Nothing, Damaged}
 use Rattle.scan.specs.declared.Listing.{Listing}
 use Rattle.scan.specs.declared.RangeAnswer.{RangeAnswer}
 use Rattle.scan.specs.declared.RangeAnswer.TheVariants.{Listed, RangeHeadBroken, LowAboveHigh, RangeDamaged}

@@ -14,7 +14,7 @@ use Rattle.store.specs.declared.Head.{Head}
 use Rattle.store.specs.Head.{head_of, head_rule}
 use Rattle.totals.specs.declared.Totals.{Totals}
 use Rattle.totals.specs.Totals.{no_totals, updated_of}
-use Rattle.search.specs.declared.Sought.TheVariants.{Record, Nothing, Damaged}
+use Rattle.search.specs.Way.{Record, Nothing, Damaged}
 use Rattle.scan.specs.declared.Summing.{Summing}
 use Rattle.scan.specs.declared.SummaryAnswer.{SummaryAnswer}
 use Rattle.scan.specs.declared.SummaryAnswer.TheVariants.{Summed, SummaryHeadBroken, SummaryLowAboveHigh}

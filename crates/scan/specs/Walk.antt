@@ -14,8 +14,8 @@ use Rattle.store.specs.declared.Head.{Head}
 use Rattle.store.specs.declared.Item.{Item}
 use Rattle.store.specs.Head.{page_at}
 use Rattle.page.specs.Page.{item_at, key_at, first_above}
-use Rattle.search.specs.declared.Terminal.{Terminal}
-use Rattle.search.specs.declared.Span.{Span}
+use Rattle.search.specs.Way.{Terminal}
+use Rattle.search.specs.Way.{Span}
 use Rattle.search.specs.Descent.{terminal}
 use Rattle.search.specs.Span.{GoesBehind, Rows}
 

@@ -18,9 +18,9 @@ use Rattle.node.proofs.NodeLaws.{node_facts}
 use Rattle.node.proofs.RunWalk.{Good, good_facts}
 use Rattle.node.proofs.EntryNumber.{entry_below}
 use Rattle.search.specs.declared.Step.{Step}
-use Rattle.search.specs.declared.Visit.{Visit}
-use Rattle.search.specs.declared.Descent.{Descent}
-use Rattle.search.specs.declared.Terminal.{Terminal}
+use Rattle.search.specs.Way.{Visit}
+use Rattle.search.specs.Way.{Descent}
+use Rattle.search.specs.Way.{Terminal}
 use Rattle.search.specs.Descent.{damaged_node, entry_visit, sound_node, step_of, lost, step_taken, descend}
 use Rattle.search.specs.Descent.{lost_terminal, terminal_from, own_visit}
 

@@ -16,9 +16,9 @@ use Rattle.store.specs.declared.Item.{Item}
 use Rattle.store.specs.Head.{head_rule, page_at}
 use Rattle.page.specs.Page.{count, item_at, key_at, lawful_item, page_rule, agrees, first_above}
 use Rattle.page.proofs.Laws.{rule_facts}
-use Rattle.search.specs.declared.Descent.{Descent}
-use Rattle.search.specs.declared.Sought.{Sought}
-use Rattle.search.specs.declared.Sought.TheVariants.{Record, Nothing, Damaged}
+use Rattle.search.specs.Way.{Descent}
+use Rattle.search.specs.Way.{Sought}
+use Rattle.search.specs.Way.{Record, Nothing, Damaged}
 use Rattle.search.specs.Descent.{descent}
 use Rattle.search.specs.Find.{sound_page, in_page, find_of, Reply, no_item, sought_reply, checked}
 

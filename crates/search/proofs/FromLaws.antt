@@ -9,8 +9,8 @@ use Rattle.store.specs.declared.Format.{Format}
 use Rattle.store.specs.declared.Head.{Head}
 use Rattle.store.specs.declared.Item.{Item}
 use Rattle.page.specs.Page.{count, item_at, first_above}
-use Rattle.search.specs.declared.Descent.{Descent}
-use Rattle.search.specs.declared.Sought.TheVariants.{Record, Damaged}
+use Rattle.search.specs.Way.{Descent}
+use Rattle.search.specs.Way.{Record, Damaged}
 use Rattle.search.specs.Descent.{no_step, descent}
 use Rattle.search.specs.Find.{sound_page}
 use Rattle.search.specs.Next.{after_own, from_descent, next_of}

@@ -10,3 +10,4 @@ pub mod UseLaws
 pub mod ReachLaws
 pub mod RowLaws
 pub mod Promises
+pub mod WayLaws

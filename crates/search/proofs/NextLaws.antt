@@ -22,14 +22,14 @@ use Rattle.node.specs.Node.{back_word, forward_word, entry_depth, entry_pointer,
 use Rattle.node.proofs.NodeLaws.{node_facts}
 use Rattle.page.specs.Page.{count, item_at, key_at, lawful_item, page_rule, above, first_above}
 use Rattle.page.proofs.Laws.{rule_facts, all_above, first_facts}
-use Rattle.search.specs.declared.Descent.{Descent}
+use Rattle.search.specs.Way.{Descent}
 use Rattle.search.specs.declared.Step.{Step}
-use Rattle.search.specs.declared.Sought.{Sought}
-use Rattle.search.specs.declared.Sought.TheVariants.{Record, Nothing, Damaged}
-use Rattle.search.specs.declared.Reached.{Reached}
-use Rattle.search.specs.declared.Reached.TheVariants.{Page, Past, Broken}
-use Rattle.search.specs.declared.Hop.{Hop}
-use Rattle.search.specs.declared.Hop.TheVariants.{Ends, On}
+use Rattle.search.specs.Way.{Sought}
+use Rattle.search.specs.Way.{Record, Nothing, Damaged}
+use Rattle.search.specs.Way.{Reached}
+use Rattle.search.specs.Way.{Page, Past, Broken}
+use Rattle.search.specs.Way.{Hop}
+use Rattle.search.specs.Way.{Ends, On}
 use Rattle.search.specs.Descent.{TerminalNode, descent}
 use Rattle.search.specs.Find.{sound_page}
 use Rattle.search.specs.Next.{first_pointer, run_after, visit_after, linked, onward, pointer_from, hop, reach, visited}
@@ -158,7 +158,7 @@ module _ (s : List ℕ) (h : Head) (n i left : ℕ) {p : ℕ} (ep : p ≡ pointe
 
 -- what holds of each outcome holds of the link and of the hop
 module _ (P : Hop → Type 0) (h : Head) (s : List ℕ) (n left : ℕ) where
-  onward_rule :
+  pub onward_rule :
       P (Ends Past) →
       P (Ends Broken) →
       ((forward_word s (node_start h n) ≡ 0 → ⊥) → linked h s (forward_word s (node_start h n)) n ≡ true → P (On (forward_word s (node_start h n)))) →

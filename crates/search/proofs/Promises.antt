@@ -13,8 +13,8 @@ use Rattle.store.specs.Format.{width}
 use Rattle.store.specs.Head.{head_of, head_rule}
 use Rattle.page.specs.Page.{lawful_item}
 use Rattle.page.proofs.Laws.{lawful_key}
-use Rattle.search.specs.declared.Sought.{Sought}
-use Rattle.search.specs.declared.Sought.TheVariants.{Record, Nothing, Damaged}
+use Rattle.search.specs.Way.{Sought}
+use Rattle.search.specs.Way.{Record, Nothing, Damaged}
 use Rattle.search.specs.Find.{no_item, sought_reply, checked, find_of, find_reply}
 use Rattle.search.specs.Next.{next_of, next_reply}
 use Rattle.search.specs.Promises.{NextAbove, FindLawful, NextLawful, KeysFit, FindRefusals}

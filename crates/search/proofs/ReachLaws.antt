@@ -16,9 +16,9 @@ use Rattle.store.proofs.Places.{under_limits}
 use Rattle.node.specs.Node.{forward_word, entry_depth, entry_pointer, node_rule}
 use Rattle.node.proofs.NodeLaws.{node_facts}
 use Rattle.node.proofs.InPlace.{back_in_place, forward_in_place, entry_in_place}
-use Rattle.search.specs.declared.Reached.{Reached}
-use Rattle.search.specs.declared.Reached.TheVariants.{Broken}
-use Rattle.search.specs.declared.Hop.TheVariants.{Ends}
+use Rattle.search.specs.Way.{Reached}
+use Rattle.search.specs.Way.{Broken}
+use Rattle.search.specs.Way.{Ends}
 use Rattle.search.specs.Descent.{TerminalNode}
 use Rattle.search.specs.Next.{first_pointer, run_after, run_behind, linked, pointer_from, hop, reach}
 use Rattle.search.proofs.BlockLaws.{block_long, block_rule, block_depth}

@@ -21,11 +21,11 @@ use Rattle.node.proofs.EntryNumber.{entry_below}
 use Rattle.page.specs.Page.{count, item_at, key_at, Lent, Filled, page_rule, agrees, above, first_above}
 use Rattle.page.proofs.Laws.{rule_facts}
 use Rattle.page.proofs.Inside.{page_lent, filled, record_inside}
-use Rattle.search.specs.declared.Visit.{Visit}
-use Rattle.search.specs.declared.Terminal.{Terminal}
-use Rattle.search.specs.declared.Span.{Span}
-use Rattle.search.specs.declared.Reached.{Reached}
-use Rattle.search.specs.declared.Reached.TheVariants.{Page, Broken}
+use Rattle.search.specs.Way.{Visit}
+use Rattle.search.specs.Way.{Terminal}
+use Rattle.search.specs.Way.{Span}
+use Rattle.search.specs.Way.{Reached}
+use Rattle.search.specs.Way.{Page, Broken}
 use Rattle.search.specs.Descent.{entry_visit, terminal, own_visit}
 use Rattle.search.specs.Find.{sound_page}
 use Rattle.search.specs.Next.{run_after, run_behind, behind}

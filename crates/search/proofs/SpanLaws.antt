@@ -17,12 +17,12 @@ use Rattle.store.specs.Format.{width}
 use Rattle.store.specs.Head.{page_at}
 use Rattle.page.specs.Page.{count, item_at, key_at, page_rule, agrees, above, first_above}
 use Rattle.page.proofs.Laws.{rule_facts, agrees_facts, facts_agrees}
-use Rattle.search.specs.declared.Visit.{Visit}
-use Rattle.search.specs.declared.Terminal.{Terminal}
-use Rattle.search.specs.declared.Span.{Span}
-use Rattle.search.specs.declared.Sought.TheVariants.{Record, Nothing, Damaged}
-use Rattle.search.specs.declared.Reached.{Reached}
-use Rattle.search.specs.declared.Reached.TheVariants.{Page, Past, Broken}
+use Rattle.search.specs.Way.{Visit}
+use Rattle.search.specs.Way.{Terminal}
+use Rattle.search.specs.Way.{Span}
+use Rattle.search.specs.Way.{Record, Nothing, Damaged}
+use Rattle.search.specs.Way.{Reached}
+use Rattle.search.specs.Way.{Page, Past, Broken}
 use Rattle.search.specs.Descent.{no_step, descent, terminal, own_visit}
 use Rattle.search.specs.Find.{sound_page}
 use Rattle.search.specs.Next.{run_behind, reach, visit_after, visited, behind, after_own, next_of}
@@ -72,6 +72,12 @@ module _ (f : Format) (s : List ℕ) (h : Head) (k n u p : ℕ) where
       × (agrees f (page_at f s h p) first_key_lem (u + back.depth) ≡ true)
   unfolding comes_back
   back_facts b = let c = and_three _ _ _ b in (eqb-true _ _ c.0, eqb-true _ _ c.1, c.2)
+
+  -- they stand in the page that was reached
+  pub rows_page : (reached_rows f s h k n u p).page ≡ p
+  unfolding reached_rows rows_from first_row own_visit
+  rows_page =
+      by_cases (comes_back f s h k n u p) (λ b. rw (b, reached_rows) (back_facts b).1) (λ b. rw (b, reached_rows))
 
   rows_first : (p ≡ 0 → ⊥) → sought_of f s h (reached_rows f s h k n u p) ≡ Record (item_at f (page_at f s h p) 0)
   unfolding rows_from first_row

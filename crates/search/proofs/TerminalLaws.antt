@@ -19,8 +19,8 @@ use Rattle.node.proofs.NodeLaws.{node_facts}
 use Rattle.node.proofs.RunWalk.{RunAt, good_facts}
 use Rattle.node.proofs.EntryNumber.{entry_below}
 use Rattle.search.specs.declared.Step.{Step}
-use Rattle.search.specs.declared.Descent.{Descent}
-use Rattle.search.specs.declared.Terminal.{Terminal}
+use Rattle.search.specs.Way.{Descent}
+use Rattle.search.specs.Way.{Terminal}
 use Rattle.search.specs.Descent.{no_step, no_steps, damaged_node, entry_visit, lost, step_taken, descend, descent}
 use Rattle.search.specs.Descent.{sound_node, lost_terminal, terminal_from, terminal, own_visit}
 use Rattle.search.specs.Next.{run_after, run_behind}

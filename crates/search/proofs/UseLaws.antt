@@ -9,8 +9,8 @@ use Rattle.store.specs.declared.Head.{Head}
 use Rattle.store.specs.Format.{width}
 use Rattle.store.specs.Head.{node_start, InUse, Under}
 use Rattle.node.specs.Node.{depth_word}
-use Rattle.search.specs.declared.Visit.{Visit}
-use Rattle.search.specs.declared.Terminal.{Terminal}
+use Rattle.search.specs.Way.{Visit}
+use Rattle.search.specs.Way.{Terminal}
 use Rattle.search.specs.Descent.{lost, no_steps, descent, end_of, sound_node, terminal_from, terminal, own_visit, TerminalNode}
 use Rattle.search.proofs.BlockLaws.{under_levels, root_in_use}
 use Rattle.search.proofs.DescentLaws.{sound_facts, node_deep, node_bits, own_bits, own_in_use}

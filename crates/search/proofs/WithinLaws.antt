@@ -14,9 +14,9 @@ use Rattle.store.specs.Format.{width}
 use Rattle.store.specs.Head.{page_at}
 use Rattle.page.specs.Page.{count, item_at, key_at, page_rule, agrees, above, first_above}
 use Rattle.page.proofs.Laws.{rises, rule_facts, agrees_facts, facts_agrees, first_is}
-use Rattle.search.specs.declared.Visit.{Visit}
-use Rattle.search.specs.declared.Terminal.{Terminal}
-use Rattle.search.specs.declared.Sought.TheVariants.{Record}
+use Rattle.search.specs.Way.{Visit}
+use Rattle.search.specs.Way.{Terminal}
+use Rattle.search.specs.Way.{Record}
 use Rattle.search.specs.Descent.{descent, terminal, own_visit}
 use Rattle.search.specs.Find.{sound_page}
 use Rattle.search.specs.Next.{next_of}

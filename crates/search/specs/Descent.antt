@@ -24,10 +24,10 @@ use Rattle.store.specs.Format.{width}
 use Rattle.store.specs.Head.{node_start, InUse}
 use Rattle.node.specs.Node.{depth_word, entry_depth, entry_pointer, node_rule, entry_number}
 use Rattle.search.specs.declared.Step.{Step}
-use Rattle.search.specs.declared.Visit.{Visit}
-use Rattle.search.specs.declared.Descent.{Descent}
-use Rattle.search.specs.declared.Terminal.{Terminal}
-use Rattle.search.specs.declared.End.{End}
+use Rattle.search.specs.Way.{Visit}
+use Rattle.search.specs.Way.{Descent}
+use Rattle.search.specs.Way.{Terminal}
+use Rattle.search.specs.Way.{End}
 
 abbrev pub no_step : Step
 no_step = record { node = 0; entry = 0; depth = 0; used = 0 }

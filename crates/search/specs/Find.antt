@@ -2,20 +2,20 @@
 --   sound_page f h pg k used == the sought key's own page keeps the page rule and agrees with the key in the used bits
 --   in_page f pg k           == the record with the key k in a page, or none
 --   find_of f s h k          == find in a store that keeps the head rule
---   Reply, reply            == document 01's number and values for each case of an answer
+--   Reply, reply            == document 01's number and values for an answer of find, next or remove
 --   find_reply f s k         == what find is to reply
 --   no_item                  == zeros: the item of a reply that has none
 --   sought_reply, checked f s a == the reply for what was sought; the same behind the head rule
-use Rattle.std.specs.Prelude.{Bool, true, false, ◌&&◌, List, ℕ, ltb, eqb}
+use Rattle.std.specs.Prelude.{Option, Some, None, Result, Ok, Err, Bool, true, false, ◌&&◌, List, ℕ, ltb, eqb}
+use Rattle.answers.specs.declared.Refusal.{Refusal}
+use Rattle.answers.specs.Answers.{number}
 use Rattle.store.specs.declared.Format.{Format}
 use Rattle.store.specs.declared.Head.{Head}
 use Rattle.store.specs.declared.Item.{Item}
 use Rattle.store.specs.Head.{head_of, head_rule, page_at}
 use Rattle.page.specs.Page.{count, item_at, key_at, page_rule, agrees, first_above}
-use Rattle.search.specs.declared.Sought.{Sought}
-use Rattle.search.specs.declared.Sought.TheVariants.{Record, Nothing, Damaged}
-use Rattle.search.specs.declared.FindAnswer.{FindAnswer}
-use Rattle.search.specs.declared.FindAnswer.TheVariants.{Found, NotFound, HeadBroken, DamageMet}
+use Rattle.search.specs.Way.{Sought}
+use Rattle.search.specs.Way.{Record, Nothing, Damaged}
 use Rattle.search.specs.Descent.{descent}
 
 unfoldable pub sound_page : Format → Head → List ℕ → ℕ → ℕ → Bool
@@ -50,12 +50,11 @@ pub record Reply : Type 0 where
 abbrev pub no_item : Item
 no_item = record { key = 0; price = 0; lease = 0; last = 0 }
 
--- "Answer 1 is "none", 0 is done"; 3 head rule broken; 9 damaged block visited; zeros returned
-abbrev pub reply : FindAnswer → Reply
-reply (Found it) = record { number = 0; item = it }
-reply NotFound = record { number = 1; item = no_item }
-reply HeadBroken = record { number = 3; item = no_item }
-reply DamageMet = record { number = 9; item = no_item }
+-- "Answer 1 is "none", 0 is done"; zeros returned
+abbrev pub reply : Result (Option Item) Refusal → Reply
+reply (Ok (Some it)) = record { number = 0; item = it }
+reply (Ok None) = record { number = 1; item = no_item }
+reply (Err e) = record { number = number e; item = no_item }
 
 abbrev pub sought_reply : Sought → Reply
 sought_reply (Record it) = record { number = 0; item = it }

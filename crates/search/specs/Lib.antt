@@ -1,3 +1,4 @@
+pub mod Way
 pub mod Descent
 pub mod Find
 pub mod Next

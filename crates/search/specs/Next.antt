@@ -23,14 +23,14 @@ use Rattle.store.specs.declared.Head.{Head}
 use Rattle.store.specs.Head.{head_of, node_start, page_at}
 use Rattle.node.specs.Node.{depth_word, back_word, forward_word, entry_depth, entry_pointer, node_rule}
 use Rattle.page.specs.Page.{count, item_at, key_at, page_rule, above, first_above}
-use Rattle.search.specs.declared.Descent.{Descent}
+use Rattle.search.specs.Way.{Descent}
 use Rattle.search.specs.declared.Step.{Step}
-use Rattle.search.specs.declared.Sought.{Sought}
-use Rattle.search.specs.declared.Sought.TheVariants.{Record, Nothing, Damaged}
-use Rattle.search.specs.declared.Reached.{Reached}
-use Rattle.search.specs.declared.Reached.TheVariants.{Page, Past, Broken}
-use Rattle.search.specs.declared.Hop.{Hop}
-use Rattle.search.specs.declared.Hop.TheVariants.{Ends, On}
+use Rattle.search.specs.Way.{Sought}
+use Rattle.search.specs.Way.{Record, Nothing, Damaged}
+use Rattle.search.specs.Way.{Reached}
+use Rattle.search.specs.Way.{Page, Past, Broken}
+use Rattle.search.specs.Way.{Hop}
+use Rattle.search.specs.Way.{Ends, On}
 use Rattle.search.specs.Descent.{no_step, descent}
 use Rattle.search.specs.Find.{Reply, sound_page, checked}
 

@@ -9,8 +9,8 @@ use Rattle.store.specs.declared.Head.{Head}
 use Rattle.store.specs.declared.Item.{Item}
 use Rattle.store.specs.Format.{width}
 use Rattle.page.specs.Page.{lawful_item, above}
-use Rattle.search.specs.declared.Sought.{Sought}
-use Rattle.search.specs.declared.Sought.TheVariants.{Record}
+use Rattle.search.specs.Way.{Sought}
+use Rattle.search.specs.Way.{Record}
 use Rattle.search.specs.Find.{no_item, checked, find_of, find_reply}
 use Rattle.search.specs.Next.{next_of, next_reply}
 

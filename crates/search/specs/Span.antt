@@ -19,13 +19,13 @@ use Rattle.store.specs.declared.Head.{Head}
 use Rattle.store.specs.Format.{width}
 use Rattle.store.specs.Head.{page_at}
 use Rattle.page.specs.Page.{count, item_at, key_at, page_rule, agrees, above, first_above}
-use Rattle.search.specs.declared.Visit.{Visit}
-use Rattle.search.specs.declared.Terminal.{Terminal}
-use Rattle.search.specs.declared.Span.{Span}
-use Rattle.search.specs.declared.Sought.{Sought}
-use Rattle.search.specs.declared.Sought.TheVariants.{Record, Nothing, Damaged}
-use Rattle.search.specs.declared.Reached.{Reached}
-use Rattle.search.specs.declared.Reached.TheVariants.{Page, Past, Broken}
+use Rattle.search.specs.Way.{Visit}
+use Rattle.search.specs.Way.{Terminal}
+use Rattle.search.specs.Way.{Span}
+use Rattle.search.specs.Way.{Sought}
+use Rattle.search.specs.Way.{Record, Nothing, Damaged}
+use Rattle.search.specs.Way.{Reached}
+use Rattle.search.specs.Way.{Page, Past, Broken}
 use Rattle.search.specs.Descent.{terminal, own_visit}
 use Rattle.search.specs.Find.{sound_page}
 use Rattle.search.specs.Next.{run_behind, reach, behind}

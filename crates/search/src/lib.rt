@@ -2,18 +2,19 @@
 // told not to (`checked` false) is told so only of blocks that were found sound, on the same words, before.
 #![tactic(auto)]
 
-ghost use Rattle.std.specs.Prelude.{◌≡◌, true, false, ◌+◌, ◌-◌, ◌*◌, ◌^◌, ◌≤◌, ◌<◌, length};
+ghost use Rattle.std.specs.Prelude.{◌≡◌, Ok, true, false, ◌+◌, ◌-◌, ◌*◌, ◌^◌, ◌≤◌, ◌<◌, length};
 ghost use Rattle.store.specs.Format.{width, words};
 ghost use Rattle.store.specs.Head.{largest_capacity, node_words, node_start, page_at, InUse, Under};
 ghost use Rattle.node.specs.Node.{depth_word, node_rule};
 ghost use Rattle.page.specs.Page.{page_rule, Lent, Filled};
-ghost use Rattle.search.specs.Descent.{limited, sound_node, TerminalNode, step_of, lost, descent, end_of, terminal, own_visit};
-ghost use Rattle.search.specs.Find.{reply, sought_reply, sound_page, in_page, find_of, find_reply};
+ghost use Rattle.search.specs.Way.{Ends, Page, Broken, sound_visit, sound_terminal, sound_span};
+ghost use Rattle.search.specs.Way.{visit_result, descent_result, terminal_result, end_result, span_result, sought_result, reached_result, hop_result};
+ghost use Rattle.search.specs.Descent.{limited, sound_node, TerminalNode, step_of, descent, end_of, terminal, own_visit};
+ghost use Rattle.search.specs.Find.{reply, sound_page, in_page, find_of, find_reply};
 ghost use Rattle.search.specs.Next.{first_pointer, run_after, run_behind, linked, pointer_from, onward, reach, next_of, next_reply};
-ghost use Rattle.search.specs.declared.Reached.TheVariants.{Broken};
-ghost use Rattle.search.specs.declared.Hop.TheVariants.{Ends};
-ghost use Rattle.search.specs.Span.{no_span, first_row, reached_rows, reached_span, span_at, sought_of, GoesBehind};
+ghost use Rattle.search.specs.Span.{first_row, reached_rows, reached_span, span_at, GoesBehind};
 
+use answers::Refusal;
 use store::{Format, Head, Item};
 
 // One node on a key's path: its number, the key's entry in it, that entry's local depth, and the bits used before the node.
@@ -25,47 +26,41 @@ pub struct Step {
     pub used: u32,
 }
 
-// What a visit of a node on the path gives.
+// What a visit of a node on the path gives: the key's entry in it, that entry's local depth and its pointer.
 #[derive(Clone, Copy)]
 pub struct Visit {
-    pub ok: bool,
     pub entry: u32,
     pub depth: u32,
     pub pointer: u32,
 }
 
-// The way of a key down: whether every node on it is sound, the page (0: null), the bits used, and the step of each level, level 1 first.
+// The way of a key down: the page (0: null), the bits used, and the step of each level, level 1 first.
 #[derive(Clone, Copy)]
 pub struct Descent {
-    pub ok: bool,
     pub page: u32,
     pub used: u32,
     pub steps: [Step; 32],
 }
 
-// The terminal node of a key: whether every node on the way is sound, and the bits used before the node.
+// The terminal node of a key, and the bits used before the node.
 #[derive(Clone, Copy)]
 pub struct Terminal {
-    pub ok: bool,
     pub node: u32,
     pub used: u32,
 }
 
-// Where the way of a key ends: whether every node on it is sound, the terminal node and the bits used before it, the page (0: null) and the
-// bits used before that.
+// Where the way of a key ends: the terminal node and the bits used before it, the page (0: null) and the bits used before that.
 #[derive(Clone, Copy)]
 pub struct End {
-    pub ok: bool,
     pub node: u32,
     pub before: u32,
     pub page: u32,
     pub used: u32,
 }
 
-// Records of one page that next gives in turn, numbers `from` up to `to`, and the key of the last one; page 0: none. Not ok: damage was
-// met. The terminal node of the key that they follow is `node`, reached after the `used` bits. After the last record next goes on with the
-// node's run that begins at entry `behind`; 0: not known. (No two fields of one width are neighbours: a copy would take them as one word,
-// and wait for their two stores.)
+// Records of one page that next gives in turn, numbers `from` up to `to`, and the key of the last one. The terminal node of the key that
+// they follow is `node`, reached after the `used` bits. After the last record next goes on with the node's run that begins at entry
+// `behind`; 0: not known. (No two fields of one width are neighbours: a copy would take them as one word, and wait for their two stores.)
 #[derive(Clone, Copy)]
 pub struct Span {
     pub from: usize,
@@ -75,36 +70,6 @@ pub struct Span {
     pub behind: usize,
     pub used: u32,
     pub last: u64,
-    pub ok: bool,
-}
-
-#[derive(Clone, Copy)]
-pub enum Sought {
-    Record(Item),
-    Nothing,
-    Damaged,
-}
-
-// Where the way on from an entry leads: to a page, past the last one, or to damage.
-#[derive(Clone, Copy)]
-pub enum Reached {
-    Page(u32),
-    Past,
-    Broken,
-}
-
-#[derive(Clone, Copy)]
-pub enum Hop {
-    Ends(Reached),
-    On(u32),
-}
-
-#[derive(Clone, Copy)]
-pub enum FindAnswer {
-    Found(Item),
-    NotFound,
-    HeadBroken,
-    DamageMet,
 }
 
 // A head with just the numbers that the node rule asks for.
@@ -171,12 +136,11 @@ fn passes(
 fn own_entry(store: &[u32], f: Format, head: Head, key: u64, n: u32, used: u32) -> Visit
     requires { (Under f store.now head) × (InUse head n) × (depth_word store.now (node_start head n) ≤ head.theta)
         × (used + depth_word store.now (node_start head n) ≤ width f) }
-    ensures { result ≡ own_visit f store.now head key n used }
+    ensures { sound_visit result ≡ own_visit f store.now head key n used }
 {
     let node = store::node_at(store, f, head, n);
     let i = node::entry_number(f, key, used, node[0]);
     Visit {
-        ok: true,
         entry: i as u32,
         depth: node[4 + 2 * i],
         pointer: node[5 + 2 * i],
@@ -193,44 +157,27 @@ pub fn visit_node(
     n: u32,
     used: u32,
     checked: bool,
-) -> Visit
+) -> Result<Visit, Refusal>
     requires { (Under f store.now head) × (InUse head n) × (used ≤ width f)
         × (checked ≡ false → (step_of f store.now head key level n used).ok ≡ true) }
-    ensures { result ≡ step_of f store.now head key level n used }
+    ensures { result ≡ visit_result (step_of f store.now head key level n used) }
 {
     if !passes(store, f, head, level, n, used, checked) {
-        return Visit {
-            ok: false,
-            entry: 0,
-            depth: 0,
-            pointer: 0,
-        };
+        return Err(Refusal::DamageMet);
     }
-    own_entry(store, f, head, key, n, used)
-}
-
-// A way that met damage.
-fn lost_way() -> Descent
-    ensures { result ≡ lost }
-{
-    let blank = Step {
-        node: 0,
-        entry: 0,
-        depth: 0,
-        used: 0,
-    };
-    Descent {
-        ok: false,
-        page: 0,
-        used: 0,
-        steps: [blank; 32],
-    }
+    Ok(own_entry(store, f, head, key, n, used))
 }
 
 // The way of a key from the root down to its page.
-pub fn descend(store: &[u32], f: Format, head: Head, key: u64, checked: bool) -> Descent
+pub fn descend(
+    store: &[u32],
+    f: Format,
+    head: Head,
+    key: u64,
+    checked: bool,
+) -> Result<Descent, Refusal>
     requires { (Under f store.now head) × (checked ≡ false → (descent f store.now head key).ok ≡ true) }
-    ensures { (result ≡ descent f store.now head key) × (result.used ≤ width f) }
+    ensures { (result ≡ descent_result (descent f store.now head key)) × ((descent f store.now head key).used ≤ width f) }
 {
     let blank = Step {
         node: 0,
@@ -241,14 +188,9 @@ pub fn descend(store: &[u32], f: Format, head: Head, key: u64, checked: bool) ->
     let mut steps = [blank; 32];
     let mut node = head.root;
     let mut used: u32 = 0;
-    let mut level = store::to_index(head.levels);
-    while level > 0 {
-        let v = visit_node(store, f, head, key, level as u32, node, used, checked);
-        if !v.ok {
-            return lost_way();
-        }
-        level -= 1;
-        steps[level] = Step {
+    for below in (0..head.levels).rev() {
+        let v = visit_node(store, f, head, key, below + 1, node, used, checked)?;
+        steps[below as usize] = Step {
             node,
             entry: v.entry,
             depth: v.depth,
@@ -257,72 +199,50 @@ pub fn descend(store: &[u32], f: Format, head: Head, key: u64, checked: bool) ->
         node = v.pointer;
         used += v.depth;
     }
-    Descent {
-        ok: true,
+    Ok(Descent {
         page: node,
         used,
         steps,
-    }
+    })
 }
 
 // The terminal node of a key: the way down without its steps.
-pub fn terminal_of(store: &[u32], f: Format, head: Head, key: u64, checked: bool) -> Terminal
+pub fn terminal_of(
+    store: &[u32],
+    f: Format,
+    head: Head,
+    key: u64,
+    checked: bool,
+) -> Result<Terminal, Refusal>
     requires { (Under f store.now head) × (checked ≡ false → (terminal f store.now head key).ok ≡ true) }
-    ensures { result ≡ terminal f store.now head key }
+    ensures { result ≡ terminal_result (terminal f store.now head key) }
 {
     let mut node = head.root;
     let mut used: u32 = 0;
-    let mut level = head.levels;
-    while level > 1 {
-        let v = visit_node(store, f, head, key, level, node, used, checked);
-        if !v.ok {
-            return Terminal {
-                ok: false,
-                node: 0,
-                used: 0,
-            };
-        }
-        level -= 1;
+    for below in (1..head.levels).rev() {
+        let v = visit_node(store, f, head, key, below + 1, node, used, checked)?;
         node = v.pointer;
         used += v.depth;
     }
     if !passes(store, f, head, 1, node, used, checked) {
-        return Terminal {
-            ok: false,
-            node: 0,
-            used: 0,
-        };
+        return Err(Refusal::DamageMet);
     }
-    Terminal {
-        ok: true,
-        node,
-        used,
-    }
+    Ok(Terminal { node, used })
 }
 
 // Where the way of a key ends.
-pub fn end_of(store: &[u32], f: Format, head: Head, key: u64) -> End
+pub fn end_of(store: &[u32], f: Format, head: Head, key: u64) -> Result<End, Refusal>
     requires { Under f store.now head }
-    ensures { (result ≡ end_of (descent f store.now head key)) × (result.used ≤ width f) }
+    ensures { (result ≡ end_result (end_of (descent f store.now head key))) × ((descent f store.now head key).used ≤ width f) }
 {
-    let t = terminal_of(store, f, head, key, true);
-    if !t.ok {
-        return End {
-            ok: false,
-            node: 0,
-            before: 0,
-            page: 0,
-            used: 0,
-        };
-    }
+    let t = terminal_of(store, f, head, key, true)?;
     let v = own_entry(store, f, head, key, t.node, t.used);
-    End {
-        ok: true,
+    Ok(End {
         node: t.node,
         before: t.used,
         page: v.pointer,
         used: t.used + v.depth,
-    }
+    })
 }
 
 // Whether a page keeps the rule of a visited one.
@@ -349,70 +269,53 @@ pub fn page_sound(page: &[u32], f: Format, head: Head, key: u64, used: u32, chec
 }
 
 // The record with the key in a page, or none.
-pub fn find_in(page: &[u32], f: Format, key: u64) -> Sought
+pub fn find_in(page: &[u32], f: Format, key: u64) -> Option<Item>
     requires { Filled f page.now }
-    ensures { result ≡ in_page f page.now key }
+    ensures { Ok result ≡ sought_result (in_page f page.now key) }
 {
     let i = page::first_above(page, f, false, key);
     if i >= page::count_of(page) {
-        return Sought::Nothing;
+        return None;
     }
     let item = page::read_one(page, f, i);
     if item.key != key {
-        return Sought::Nothing;
+        return None;
     }
-    Sought::Record(item)
+    Some(item)
 }
 
 // Find, in a store that keeps the head rule.
-fn find_under(store: &[u32], f: Format, head: Head, key: u64) -> Sought
+fn find_under(store: &[u32], f: Format, head: Head, key: u64) -> Result<Option<Item>, Refusal>
     requires { Under f store.now head }
-    ensures { result ≡ find_of f store.now head key }
+    ensures { result ≡ sought_result (find_of f store.now head key) }
 {
-    let t = terminal_of(store, f, head, key, true);
-    if !t.ok {
-        return Sought::Damaged;
-    }
+    let t = terminal_of(store, f, head, key, true)?;
     let v = own_entry(store, f, head, key, t.node, t.used);
     if v.pointer == 0 {
-        return Sought::Nothing;
+        return Ok(None);
     }
     let page = store::page_at(store, f, head, v.pointer);
     if !page_sound(page, f, head, key, t.used + v.depth, true) {
-        return Sought::Damaged;
+        return Err(Refusal::DamageMet);
     }
-    find_in(page, f, key)
-}
-
-// An answer of find or next from what was sought.
-fn answer_of(sought: Sought) -> FindAnswer
-    ensures { reply result ≡ sought_reply sought }
-{
-    match sought {
-        Sought::Record(item) => FindAnswer::Found(item),
-        Sought::Nothing => FindAnswer::NotFound,
-        Sought::Damaged => FindAnswer::DamageMet,
-    }
+    Ok(find_in(page, f, key))
 }
 
 // The record with a key, or none.
-pub fn find(store: &[u32], f: Format, key: u64) -> FindAnswer
+pub fn find(store: &[u32], f: Format, key: u64) -> Result<Option<Item>, Refusal>
     ensures { reply result ≡ find_reply f store.now key }
 {
     if !store::head_ok(store, f) {
-        return FindAnswer::HeadBroken;
+        return Err(Refusal::HeadBroken);
     }
-    answer_of(find_under(store, f, store::head_of(store), key))
+    find_under(store, f, store::head_of(store), key)
 }
 
 // x - y, and 0 where that is below 0.
 pub fn less(x: u32, y: u32) -> u32
     ensures { result ≡ x - y }
 {
-    if x < y {
-        return 0;
-    }
-    x - y
+    x.saturating_sub(y)
 }
 
 // The first pointer of a node that is not null, from entry `start` on; 0 if there is none.
@@ -427,7 +330,7 @@ fn first_pointer(node: &[u32], depth: u32, start: usize) -> u32
         if p != 0 {
             return p;
         }
-        i += store::pow2(less(depth, node[4 + 2 * i]));
+        i += store::pow2(depth.saturating_sub(node[4 + 2 * i]));
     }
     0
 }
@@ -437,7 +340,7 @@ fn run_after(depth: u32, local: u32, i: u32) -> usize
     requires { depth ≤ 6 }
     ensures { (result ≡ run_after depth local i) × (result < 2 ^ 33) }
 {
-    let n = store::pow2(less(depth, local));
+    let n = store::pow2(depth.saturating_sub(local));
     let at = store::to_index(i);
     at - at % n + n
 }
@@ -461,24 +364,31 @@ fn is_linked(store: &[u32], f: Format, head: Head, m: u32, n: u32, checked: bool
     node[2] == n
 }
 
-// The node after n, with so many links left, or an end.
-fn go_on(store: &[u32], f: Format, head: Head, n: u32, left: u32, checked: bool) -> Hop
+// The node after n, or none, with so many links left.
+fn go_on(
+    store: &[u32],
+    f: Format,
+    head: Head,
+    n: u32,
+    left: u32,
+    checked: bool,
+) -> Result<Option<u32>, Refusal>
     requires { (Under f store.now head) × (TerminalNode head store.now n)
         × (checked ≡ false → onward head store.now n left ≡ Ends Broken → ⊥) }
-    ensures { result ≡ onward head store.now n left }
+    ensures { result ≡ hop_result (onward head store.now n left) }
 {
     let node = store::node_at(store, f, head, n);
     let m = node[3];
     if m == 0 {
-        return Hop::Ends(Reached::Past);
+        return Ok(None);
     }
     if left == 0 {
-        return Hop::Ends(Reached::Broken);
+        return Err(Refusal::DamageMet);
     }
     if !is_linked(store, f, head, m, n, checked) {
-        return Hop::Ends(Reached::Broken);
+        return Err(Refusal::DamageMet);
     }
-    Hop::On(m)
+    Ok(Some(m))
 }
 
 // The first pointer of node n that is not null, from entry i on; 0 if there is none.
@@ -490,7 +400,7 @@ fn pointer_from(store: &[u32], f: Format, head: Head, n: u32, i: usize) -> u32
     first_pointer(node, node[0], i)
 }
 
-// The page that follows an entry of a node, along the forward links.
+// The page that follows an entry of a node, along the forward links, or none.
 fn reach_from(
     store: &[u32],
     f: Format,
@@ -498,32 +408,25 @@ fn reach_from(
     first: u32,
     start: usize,
     checked: bool,
-) -> Reached
+) -> Result<Option<u32>, Refusal>
     requires { (Under f store.now head) × (TerminalNode head store.now first) × (start < 2 ^ 40)
         × (checked ≡ false → reach store.now head (head.nodes_taken + 1) first start ≡ Broken → ⊥) }
-    ensures { result ≡ reach store.now head (head.nodes_taken + 1) first start }
+    ensures { result ≡ reached_result (reach store.now head (head.nodes_taken + 1) first start) }
 {
     let mut n = first;
     let mut i = start;
-    let mut turns = head.nodes_taken + 1;
-    while turns > 0 {
-        turns -= 1;
+    for left in (0..head.nodes_taken + 1).rev() {
         let p = pointer_from(store, f, head, n, i);
         if p != 0 {
-            return Reached::Page(p);
+            return Ok(Some(p));
         }
-        let hop = go_on(store, f, head, n, turns, checked);
-        match hop {
-            Hop::Ends(a) => {
-                return a;
-            }
-            Hop::On(m) => {
-                n = m;
-                i = 0;
-            }
-        }
+        let Some(m) = go_on(store, f, head, n, left, checked)? else {
+            return Ok(None);
+        };
+        n = m;
+        i = 0;
     }
-    Reached::Broken
+    Err(Refusal::DamageMet)
 }
 
 // Where the run after that of a key's entry v begins in its terminal node n.
@@ -535,28 +438,11 @@ fn run_behind(store: &[u32], f: Format, head: Head, n: u32, v: Visit) -> usize
     run_after(node[0], v.depth, v.entry)
 }
 
-// A span without records.
-fn no_span(ok: bool) -> Span
-    ensures { result ≡ no_span ok }
-{
-    Span {
-        ok,
-        page: 0,
-        from: 0,
-        to: 0,
-        last: 0,
-        node: 0,
-        used: 0,
-        behind: 0,
-    }
-}
-
 // The first record of page p, with this key, reached from the terminal node t.
 fn first_row(t: Terminal, p: u32, key: u64) -> Span
-    ensures { result ≡ first_row t.node t.used p key }
+    ensures { sound_span result ≡ first_row t.node t.used p key }
 {
     Span {
-        ok: true,
         page: p,
         from: 0,
         to: 1,
@@ -570,9 +456,9 @@ fn first_row(t: Terminal, p: u32, key: u64) -> Span
 // The records of page p that follow one another, p being reached from the terminal node t of the key: the first one alone, if its key does
 // not come back to the page from the same node.
 fn reached_rows(store: &[u32], f: Format, head: Head, key: u64, t: Terminal, p: u32) -> Span
-    requires { (Under f store.now head) × (t ≡ terminal f store.now head key) × (t.ok ≡ true)
+    requires { (Under f store.now head) × (sound_terminal t ≡ terminal f store.now head key)
         × (page_rule f head.capacity (page_at f store.now head p) ≡ true) }
-    ensures { result ≡ reached_rows f store.now head key t.node t.used p }
+    ensures { sound_span result ≡ reached_rows f store.now head key t.node t.used p }
 {
     let page = store::page_at(store, f, head, p);
     let item = page::read_one(page, f, 0);
@@ -590,7 +476,6 @@ fn reached_rows(store: &[u32], f: Format, head: Head, key: u64, t: Terminal, p: 
     let to = page::count_of(page);
     let last = page::read_one(page, f, to - 1);
     Span {
-        ok: true,
         page: p,
         from: 0,
         to,
@@ -610,33 +495,22 @@ fn reached_span(
     strict: bool,
     key: u64,
     t: Terminal,
-    a: Reached,
+    p: u32,
     checked: bool,
-) -> Span
-    requires { (Under f store.now head)
-        × (checked ≡ false → (reached_span f store.now head strict key t.node t.used a).ok ≡ true)
-        × (t ≡ terminal f store.now head key) × (t.ok ≡ true) }
-    ensures { result ≡ reached_span f store.now head strict key t.node t.used a }
+) -> Result<Option<Span>, Refusal>
+    requires { (Under f store.now head) × (sound_terminal t ≡ terminal f store.now head key) × (p ≡ 0 → ⊥)
+        × (checked ≡ false → (reached_span f store.now head strict key t.node t.used (Page p)).ok ≡ true) }
+    ensures { result ≡ span_result (reached_span f store.now head strict key t.node t.used (Page p)) }
 {
-    match a {
-        Reached::Past => {
-            return no_span(true);
-        }
-        Reached::Broken => {
-            return no_span(false);
-        }
-        Reached::Page(p) => {
-            let page = store::page_at(store, f, head, p);
-            if !page_passes(page, f, head.capacity, checked) {
-                return no_span(false);
-            }
-            let item = page::read_one(page, f, 0);
-            if !page::is_above(strict, key, item.key) {
-                return no_span(false);
-            }
-            return reached_rows(store, f, head, key, t, p);
-        }
+    let page = store::page_at(store, f, head, p);
+    if !page_passes(page, f, head.capacity, checked) {
+        return Err(Refusal::DamageMet);
     }
+    let item = page::read_one(page, f, 0);
+    if !page::is_above(strict, key, item.key) {
+        return Err(Refusal::DamageMet);
+    }
+    Ok(Some(reached_rows(store, f, head, key, t, p)))
 }
 
 // The records above a key, whose terminal node is t, where next goes on with the run that begins at entry `start`.
@@ -649,18 +523,19 @@ pub fn span_behind(
     t: Terminal,
     start: usize,
     checked: bool,
-) -> Span
-    requires { (Under f store.now head) × (t ≡ terminal f store.now head key) × (t.ok ≡ true) × (start < 2 ^ 40)
-        × GoesBehind f store.now head strict key t start
-        × (checked ≡ false → (span_at f store.now head strict key t).ok ≡ true) }
-    ensures { result ≡ span_at f store.now head strict key t }
+) -> Result<Option<Span>, Refusal>
+    requires { (Under f store.now head) × (sound_terminal t ≡ terminal f store.now head key) × (start < 2 ^ 40)
+        × GoesBehind f store.now head strict key (sound_terminal t) start
+        × (checked ≡ false → (span_at f store.now head strict key (sound_terminal t)).ok ≡ true) }
+    ensures { result ≡ span_result (span_at f store.now head strict key (sound_terminal t)) }
 {
-    let a = reach_from(store, f, head, t.node, start, checked);
-    reached_span(store, f, head, strict, key, t, a, checked)
+    let Some(p) = reach_from(store, f, head, t.node, start, checked)? else {
+        return Ok(None);
+    };
+    reached_span(store, f, head, strict, key, t, p, checked)
 }
 
-// The records that follow a key, whose terminal node is t, in its own page or the one after it. The node is handed on number by number, as
-// the head's are.
+// The records that follow a key, whose terminal node is t, in its own page or the one after it.
 pub fn span_at(
     store: &[u32],
     f: Format,
@@ -669,28 +544,24 @@ pub fn span_at(
     key: u64,
     t: Terminal,
     checked: bool,
-) -> Span
-    requires { (Under f store.now head) × (t ≡ terminal f store.now head key)
-        × (checked ≡ false → (span_at f store.now head strict key t).ok ≡ true) }
-    ensures { result ≡ span_at f store.now head strict key t }
+) -> Result<Option<Span>, Refusal>
+    requires { (Under f store.now head) × (sound_terminal t ≡ terminal f store.now head key)
+        × (checked ≡ false → (span_at f store.now head strict key (sound_terminal t)).ok ≡ true) }
+    ensures { result ≡ span_result (span_at f store.now head strict key (sound_terminal t)) }
 {
-    if !t.ok {
-        return no_span(false);
-    }
     let v = own_entry(store, f, head, key, t.node, t.used);
     let behind = run_behind(store, f, head, t.node, v);
     let p = v.pointer;
     if p != 0 {
         let page = store::page_at(store, f, head, p);
         if !page_sound(page, f, head, key, t.used + v.depth, checked) {
-            return no_span(false);
+            return Err(Refusal::DamageMet);
         }
         let from = page::first_above(page, f, strict, key);
         let to = page::count_of(page);
         if from < to {
             let last = page::read_one(page, f, to - 1);
-            return Span {
-                ok: true,
+            return Ok(Some(Span {
                 page: p,
                 from,
                 to,
@@ -698,49 +569,37 @@ pub fn span_at(
                 node: t.node,
                 used: t.used,
                 behind,
-            };
+            }));
         }
     }
-    let own = Terminal {
-        ok: t.ok,
-        node: t.node,
-        used: t.used,
-    };
-    span_behind(store, f, head, strict, key, own, behind, checked)
-}
-
-// The first record of a span.
-fn sought_of(store: &[u32], f: Format, head: Head, r: Span) -> Sought
-    requires { (Under f store.now head) × (r.from < 2 ^ 32)
-        × (r.ok ≡ true → (r.page ≡ 0 → ⊥) → words f * (r.from + 1) < length (page_at f store.now head r.page)) }
-    ensures { result ≡ sought_of f store.now head r }
-{
-    if !r.ok {
-        return Sought::Damaged;
-    }
-    if r.page == 0 {
-        return Sought::Nothing;
-    }
-    let page = store::page_at(store, f, head, r.page);
-    Sought::Record(page::read_one(page, f, r.from))
+    span_behind(store, f, head, strict, key, t, behind, checked)
 }
 
 // Next, in a store that keeps the head rule: the first record above the key, or, if not strict, at or above it.
-fn next_under(store: &[u32], f: Format, head: Head, strict: bool, key: u64) -> Sought
+fn next_under(
+    store: &[u32],
+    f: Format,
+    head: Head,
+    strict: bool,
+    key: u64,
+) -> Result<Option<Item>, Refusal>
     requires { Under f store.now head }
-    ensures { result ≡ next_of f store.now head strict key }
+    ensures { result ≡ sought_result (next_of f store.now head strict key) }
 {
-    let t = terminal_of(store, f, head, key, true);
-    let r = span_at(store, f, head, strict, key, t, true);
-    sought_of(store, f, head, r)
+    let t = terminal_of(store, f, head, key, true)?;
+    let Some(r) = span_at(store, f, head, strict, key, t, true)? else {
+        return Ok(None);
+    };
+    let page = store::page_at(store, f, head, r.page);
+    Ok(Some(page::read_one(page, f, r.from)))
 }
 
 // The record with the smallest key above the given one, or none.
-pub fn next(store: &[u32], f: Format, key: u64) -> FindAnswer
+pub fn next(store: &[u32], f: Format, key: u64) -> Result<Option<Item>, Refusal>
     ensures { reply result ≡ next_reply f store.now key }
 {
     if !store::head_ok(store, f) {
-        return FindAnswer::HeadBroken;
+        return Err(Refusal::HeadBroken);
     }
-    answer_of(next_under(store, f, store::head_of(store), true, key))
+    next_under(store, f, store::head_of(store), true, key)
 }

@@ -14,7 +14,7 @@ use Rattle.store.specs.declared.Format.{Format}
 use Rattle.store.specs.declared.Head.{Head}
 use Rattle.store.specs.Head.{node_start}
 use Rattle.node.specs.Node.{level_word, back_word, forward_word}
-use Rattle.search.specs.declared.Visit.{Visit}
+use Rattle.search.specs.Way.{Visit}
 use Rattle.search.specs.Descent.{sound_node, step_of, own_visit, entry_visit}
 use Rattle.search.proofs.DescentLaws.{step_entry}
 use Rattle.remove.specs.Remove.{prefix, on_left, sibling_key, beside_ok}

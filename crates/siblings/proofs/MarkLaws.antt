@@ -19,7 +19,7 @@ use Rattle.store.specs.declared.Head.{Head}
 use Rattle.store.specs.Head.{node_start}
 use Rattle.node.specs.Node.{level_word}
 use Rattle.node.proofs.NodeLaws.{node_facts}
-use Rattle.search.specs.declared.Visit.{Visit}
+use Rattle.search.specs.Way.{Visit}
 use Rattle.search.specs.Descent.{sound_node, step_of}
 use Rattle.search.proofs.DescentLaws.{sound_facts, visited_sound}
 use Rattle.remove.specs.Remove.{Reach, once, prefix, sibling_key, reach_at}

@@ -9,7 +9,7 @@ use lib.ListN.{length, get_or, set}
 use Rattle.store.specs.declared.Format.{Format}
 use Rattle.store.specs.declared.Head.{Head}
 use Rattle.store.specs.Format.{width}
-use Rattle.search.specs.declared.Visit.{Visit}
+use Rattle.search.specs.Way.{Visit}
 use Rattle.search.specs.Descent.{step_of}
 use Rattle.split.specs.Frame.{node_of}
 use Rattle.remove.specs.Remove.{Reach, Sought, once, sibling_key, reach_at, on_left, sibling, sibling_ok, no_nodes, both_nodes, node_joins}

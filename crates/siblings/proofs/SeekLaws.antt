@@ -9,7 +9,7 @@ use lib.ListN.{length, get_or, set}
 use Rattle.store.specs.declared.Format.{Format}
 use Rattle.store.specs.declared.Head.{Head}
 use Rattle.store.specs.Format.{width}
-use Rattle.search.specs.declared.Visit.{Visit}
+use Rattle.search.specs.Way.{Visit}
 use Rattle.search.specs.Descent.{step_of}
 use Rattle.node.proofs.NodeLaws.{high_1}
 use Rattle.search.proofs.DescentLaws.{seen_pointer}

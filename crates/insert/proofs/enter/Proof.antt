@@ -11,7 +11,7 @@ use Rattle.lists.proofs.Tests.{passed, failed}
 use Rattle.store.specs.Head.{head_rule, Under}
 use Rattle.store.proofs.HeadLaws.{head_long, head_whole}
 use Rattle.page.specs.Schema.{key_of}
-use Rattle.search.specs.declared.End.{End}
+use Rattle.search.specs.Way.{End}
 use Rattle.search.specs.Descent.{descent}
 use Rattle.insert.specs.Enter.{own_items, undamaged}
 use Rattle.insert.specs.Fine.{Accepted, Placing, Putting}

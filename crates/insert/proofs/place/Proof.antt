@@ -1,7 +1,7 @@
 -- By its two cases.
 use borrow.Author.Rules.{rules}
 use mathlib.Core.Path.{refl}
-use Rattle.search.specs.declared.Descent.{Descent}
+use Rattle.search.specs.Way.{Descent}
 use Rattle.insert.specs.Fine.{Placing, Putting}
 use Rattle.insert.proofs.PlaceCode.{place_limits}
 use Rattle.insert.proofs.place.Statement.{statement}

@@ -3,7 +3,7 @@ use mathlib.Core.Path.{◌≡◌, ap, ◌∙◌}
 use Prim.Native.Nat.{◌≤◌, ◌<◌}
 use native.Mathlib.Omega.{arith}
 use Rattle.lists.proofs.Tests.{passed, failed}
-use Rattle.search.specs.declared.End.{End}
+use Rattle.search.specs.Way.{End}
 use Rattle.search.proofs.BlockLaws.{under_page}
 use Rattle.near.proofs.NearLaws.{end_ok}
 use Rattle.near.proofs.Told.{near_emptied, near_wide, near_root, near_told}

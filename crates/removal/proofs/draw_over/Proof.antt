@@ -6,7 +6,7 @@ use native.Mathlib.Omega.{arith}
 use lib.ListN.{take}
 use borrow.Author.Tests.{not-true, not-false}
 use Rattle.store.specs.Format.{width}
-use Rattle.search.specs.declared.Descent.{Descent}
+use Rattle.search.specs.Way.{Descent}
 use Rattle.remove.specs.Remove.{path_reach, Plan}
 use Rattle.siblings.specs.Marks.{Tracks, Passed}
 use Rattle.apply.specs.Carried.{Carried}

@@ -9,7 +9,7 @@ use Rattle.lists.proofs.Tests.{passed, failed}
 use Rattle.store.specs.Head.{page_at}
 use Rattle.page.specs.Page.{count, Filled}
 use Rattle.page.proofs.Inside.{page_lent, filled, record_inside}
-use Rattle.search.specs.declared.End.{End}
+use Rattle.search.specs.Way.{End}
 use Rattle.search.specs.Descent.{descent}
 use Rattle.search.specs.Find.{sound_page}
 use Rattle.search.proofs.BlockLaws.{under_page}

@@ -6,8 +6,8 @@ use mathlib.Core.List.{List}
 use Prim.Native.Nat.{ℕ}
 use Rattle.store.specs.declared.Format.{Format}
 use Rattle.store.specs.declared.Head.{Head}
-use Rattle.search.specs.declared.Terminal.{Terminal}
-use Rattle.search.specs.declared.Span.{Span}
+use Rattle.search.specs.Way.{Terminal}
+use Rattle.search.specs.Way.{Span}
 use Rattle.search.specs.Descent.{terminal}
 use Rattle.search.specs.Span.{span_at, span_of}
 use Rattle.scan.specs.Walk.{Behind}

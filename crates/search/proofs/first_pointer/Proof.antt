@@ -27,7 +27,7 @@ loop_again c =
     let l = p.loop-i in (
       l.invariant.0,
       l.invariant.1,
-      walked_on _ _ _ l.invariant.2 (omega (arith, l.invariant.0)) refl p.if-p-ne0.false refl c.less.ensures c.pow2-i.ensures.0,
+      walked_on _ _ _ l.invariant.2 (omega (arith, l.invariant.0)) refl p.if-p-ne0.false refl c.saturating_sub.ensures c.pow2-i.ensures.0,
     )
 
 returns_2 : tie.Need-returns invariant-loop decreases-loop

@@ -1,6 +1,6 @@
 -- One law for each test.
 use borrow.Author.Rules.{rules}
-use mathlib.Core.Path.{◌≡◌, ap, ◌∙◌}
+use mathlib.Core.Path.{◌≡◌, refl, ap, ◌∙◌}
 use mathlib.Core.Bool.{true}
 use Prim.Native.Nat.{ℕ, ◌+◌, ◌-◌, ◌/◌, ◌^◌, ◌≤◌}
 use native.Mathlib.Omega.{arith}
@@ -27,7 +27,7 @@ read c = c.before.before.before.before.before
 
 -- the page keeps the rule
 ruled : (c : tie.After-page_at-page) → let a = c.args in page_rule a.f a.head.capacity c.page_at-page.result.now ≡ true
-ruled c = rw c.page_at-page.ensures c.requires.3
+ruled c = rw c.page_at-page.ensures c.requires.2
 
 full : (c : tie.After-page_at-page) → Filled c.args.f c.page_at-page.result.now
 full c = page_filled c.requires.0 _ c.page_at-page.ensures (ruled c)
@@ -50,7 +50,7 @@ agreed c =
     c.if-prefix.false
 
 bits : (v : tie.After-own_entry-v) → let a = (call (read v.before)).args in a.t.used + v.own_entry-v.result.depth ≤ width a.f
-bits v = let p = (call (read v.before)).requires in at_bits _ _ _ _ p.0 p.1 p.2 _ v.own_entry-v.ensures
+bits v = let p = (call (read v.before)).requires in at_bits _ _ _ _ p.0 p.1 refl _ v.own_entry-v.ensures
 
 page_at_requires : tie.Need-page_at-page-requires
 page_at_requires c κs = under_page c.requires.0
@@ -59,7 +59,7 @@ read_one_requires : tie.Need-read_one-item-requires
 read_one_requires c κs = (search rules, record_inside (full c) (some c))
 
 sub_low : tie.Need-overflow_sub-low
-sub_low c = let p = (call c.before.before).requires in omega (arith, (at_asked _ _ _ _ p.0 p.1 p.2).3, c.width_of.ensures)
+sub_low c = let p = (call c.before.before).requires in omega (arith, (at_asked _ _ _ _ p.0 p.1 refl).3, c.width_of.ensures)
 
 returns : tie.Need-returns-then-prefix
 returns c =
@@ -70,7 +70,7 @@ returns c =
     (unlike _ _ _ _ (low_is w) t.prefix.ensures t.prefix-2.ensures t.if-prefix.true)
 
 own_entry_requires : tie.Need-own_entry-v-requires
-own_entry_requires c κs = let p = (call (read c)).requires in at_asked _ _ _ _ p.0 p.1 p.2
+own_entry_requires c κs = let p = (call (read c)).requires in at_asked _ _ _ _ p.0 p.1 refl
 
 returns_2 : tie.Need-returns-then-v-p
 returns_2 c =
@@ -114,7 +114,7 @@ read_one_requires_2 c κs =
 
 run_behind_requires : tie.Need-run_behind-requires
 run_behind_requires c κs =
-    let p = (counted c.before).requires in (p.0, at_node _ _ _ _ p.0 p.1 p.2)
+    let p = (counted c.before).requires in (p.0, at_node _ _ _ _ p.0 p.1 refl)
 
 returns_4 : tie.Need-returns
 returns_4 c =

@@ -12,7 +12,7 @@ sub_result c = omega (arith, mod-le c.to_index-at.result c.pow2-n.result)
 returns : tie.Need-returns
 returns c =
     let p = c.before in
-    run_after_is _ _ _ _ _ _ p.less.ensures p.pow2-n.ensures.0 c.to_index-at.ensures.0 p.pow2-n.ensures.2 (omega arith)
+    run_after_is _ _ _ _ _ _ p.saturating_sub.ensures p.pow2-n.ensures.0 c.to_index-at.ensures.0 p.pow2-n.ensures.2 (omega arith)
 
 pub run_after_spec : {M : Type 1} → statement M
 run_after_spec =
