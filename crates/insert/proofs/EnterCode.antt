@@ -38,8 +38,9 @@ use Rattle.search.specs.Descent.{no_step, no_steps, end_of, step_of, lost, step_
 use Rattle.search.specs.Find.{sound_page}
 use Rattle.search.proofs.DescentLaws.{step_lost, step_on}
 use Rattle.insert.specs.declared.Plan.{Plan}
-use Rattle.insert.specs.declared.EnterAnswer.{EnterAnswer}
-use Rattle.insert.specs.declared.EnterAnswer.TheVariants.{Entered}
+use Rattle.std.specs.Prelude.{Result, Ok}
+use Rattle.answers.specs.declared.Refusal.{Refusal}
+use Rattle.insert.specs.declared.Entered.{Entered}
 use Rattle.insert.specs.Enter.{Way, items_in, own_items, own_passes, neighbour_ok, place_of, path_in, rounds_for, plan_of, way_of, undamaged}
 use Rattle.insert.specs.Enter.{round_of, rounds_of, placed, found, start_of, plan_for, entered_words}
 use Rattle.insert.specs.Enter.{enter_reply, After, unchanged, done, enter_of}
@@ -417,19 +418,26 @@ module _ {f : Format} {s : List ℕ} {it : Item} {h : Head} {d : Descent} {p : P
     done_is : enter_of f s it ≡ done it u
     done_is = enter_done f s it (all_passed m.tested m.room m.chain) ∙ ap (done it) (sym words_are)
 
-    pub enters : (a : EnterAnswer) → enter_reply f a ≡ (done it u).reply → (enter_reply f a ≡ (enter_of f s it).reply) × (u ≡ (enter_of f s it).words)
+    pub enters : (a : Result Entered Refusal) → enter_reply a ≡ (done it u).reply → (enter_reply a ≡ (enter_of f s it).reply) × (u ≡ (enter_of f s it).words)
     unfolding done
     enters a e = (e ∙ sym (ap (λ x. x.reply) done_is), sym (ap (λ x. x.words) done_is))
 
 -- the answer to an entry that was done
-pub entered_is : (f : Format) (it : Item) (u : List ℕ) {r : Head} {z : Released} {k n m : ℕ} → it.key ≡ k → r ≡ head_of u → z ≡ released_of u
-    → n ≡ r.nodes_taken - z.nodes → m ≡ r.pages_taken - z.pages → enter_reply f (Entered k r.levels n m) ≡ (done it u).reply
+pub entered_is : (it : Item) (u : List ℕ) {r : Head} {z : Released} {k n m : ℕ} → it.key ≡ k → r ≡ head_of u → z ≡ released_of u
+    → n ≡ r.nodes_taken - z.nodes → m ≡ r.pages_taken - z.pages
+    → enter_reply (Ok (record { key = k; levels = r.levels; nodes = n; pages = m })) ≡ (done it u).reply
 unfolding done
-entered_is f it u {r} {z} {k} {n} {m} e q o i j =
-    ap₂ (λ n m. enter_reply f (Entered k r.levels n m)) i j
-    ∙ ap₂ (λ (x : Head) (z : Released). enter_reply f (Entered k x.levels (x.nodes_taken - z.nodes) (x.pages_taken - z.pages))) q o
-    ∙ ap (λ k. enter_reply f (Entered k (head_of u).levels ((head_of u).nodes_taken - (released_of u).nodes) ((head_of u).pages_taken - (released_of u).pages)))
-    (sym e)
+entered_is it u {r} {z} {k} {n} {m} e q o i j =
+    ap₂ (λ n m. enter_reply (Ok (record { key = k; levels = r.levels; nodes = n; pages = m }))) i j
+    ∙ ap₂ (λ (x : Head) (z : Released). enter_reply
+    (Ok (record { key = k; levels = x.levels; nodes = x.nodes_taken - z.nodes; pages = x.pages_taken - z.pages }))) q o
+    ∙ ap (λ k. enter_reply
+    (Ok (record {
+      key = k;
+      levels = (head_of u).levels;
+      nodes = (head_of u).nodes_taken - (released_of u).nodes;
+      pages = (head_of u).pages_taken - (released_of u).pages;
+    }))) (sym e)
 
 -- past the tests 3, 6, 9 and 8
 module _ {f : Format} {s : List ℕ} {it : Item} {h : Head} (a : Accepted f s it h) where
