@@ -1,7 +1,7 @@
 -- By its two cases.
 use borrow.Author.Rules.{rules}
 use mathlib.Core.Path.{refl}
-use Rattle.search.specs.Way.{Descent}
+use Rattle.search.specs.Way.{Descent, sound_end}
 use Rattle.insert.specs.Fine.{Placing, Putting}
 use Rattle.insert.proofs.PlaceCode.{place_limits}
 use Rattle.insert.proofs.place.Statement.{statement}
@@ -19,8 +19,8 @@ page_start_requires c κs = let l = place_limits _ _ _ _ c.requires.0.placing in
 -- the page's place in the words
 putting : (c : tie.After-page_start-at) (d : Descent)
     → let a = c.args in
-    Placing a.f a.store.now a.head a.e a.item d
-    → Putting a.f a.store.now c.page_start-at.result a.head.capacity a.item a.head a.e d
+    Placing a.f a.store.now a.head (sound_end a.e) a.item d
+    → Putting a.f a.store.now c.page_start-at.result a.head.capacity a.item a.head (sound_end a.e) d
 putting c d p = record { placing = p; some = c.if-e-eq0.false; begins = c.page_start-at.ensures.0; capacity_is = refl }
 
 put_own_requires : tie.Need-put_own-requires
