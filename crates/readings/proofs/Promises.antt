@@ -17,14 +17,14 @@ use Rattle.store.specs.declared.Format.{Format}
 use Rattle.store.specs.declared.Item.{Item}
 use Rattle.store.specs.Format.{width}
 use Rattle.store.specs.Head.{head_of, page_at}
-use Rattle.page.specs.Page.{count, key_at, item_at, above, first_above, lawful_item}
+use Rattle.page.specs.Page.{count, key_at, above, first_above, lawful_item}
 use Rattle.page.proofs.Laws.{lawful_key}
 use Rattle.totals.specs.Promises.{EarliestOf}
 use Rattle.totals.proofs.Promises.{earliest_key_lem}
 use Rattle.search.specs.Way.{Sought}
 use Rattle.search.specs.Way.{Record, Nothing, Damaged}
 use Rattle.search.specs.Descent.{descent}
-use Rattle.search.specs.Find.{no_item, sound_page, in_page, sought_reply, checked, find_of, find_reply}
+use Rattle.search.specs.Find.{sound_page, in_page, sought_reply, checked, find_of, find_reply}
 use Rattle.search.specs.Next.{next_of, next_reply}
 use Rattle.page.specs.Schema.{key_of}
 use Rattle.represent.specs.Rep.{Rep, Holds}

@@ -19,8 +19,8 @@ use Rattle.totals.specs.Totals.{updated_of, totals_of}
 use Rattle.search.specs.Way.{Sought}
 use Rattle.search.specs.Way.{Record, Nothing, Damaged}
 use Rattle.search.specs.Next.{next_of}
-use Rattle.scan.specs.declared.Listing.{Listing}
-use Rattle.scan.specs.declared.Summing.{Summing}
+use Rattle.scan.specs.Outcome.{Listing}
+use Rattle.scan.specs.Outcome.{Summing}
 use Rattle.scan.specs.Range.{Ranged, ended, broken, also, range_from, listing_of, firsts}
 use Rattle.scan.specs.Summary.{done, sum_from}
 use Rattle.scan.proofs.RangeLaws.{lead, lead_true, next_lead, outcome, same_count, outcome_also}

@@ -3,16 +3,18 @@ use mathlib.Core.Path.{◌≡◌, refl, sym, ap, ◌∙◌}
 use mathlib.Core.Bool.{Bool, true, false, false≢true}
 use mathlib.Core.Logic.{inl, inr}
 use mathlib.Core.List.{List, [], ◌∷◌, ◌++◌, append_assoc, append-nil}
-use Prim.Native.Nat.{ℕ, zero, suc, ◌+◌, ◌-◌, ◌*◌, ◌/◌, ◌^◌, ◌≤◌, ◌<◌}
+use Prim.Native.Nat.{ℕ, zero, suc, ◌+◌, ◌-◌, ◌*◌, ◌/◌, ◌≤◌, ◌<◌}
 use native.Mathlib.Decide.{dec_lt, ℕ_discrete}
 use native.Mathlib.Omega.{arith}
-use lib.ListN.{length, get_or, take, drop, set, length-append, length-take, length-drop}
-use lib.Seq.{take_at, drop_at, take-length, drop-length, drop-drop, get_or-drop, paste}
-use native.Mathlib.Nat.{mul-le-mul_right, mul_comm, le-div_iff_mul-le}
+use Rattle.std.specs.Prelude.{Result, Ok}
+use Rattle.answers.specs.declared.Refusal.{Refusal}
+use lib.ListN.{length, take, drop, length-append, length-take, length-drop}
+use lib.Seq.{take_at, drop_at, take-length, drop-length, drop-drop}
+use native.Mathlib.Nat.{mul_comm, le-div_iff_mul-le}
 use borrow.Author.Tests.{lt-ltb, le-ltb}
 use Rattle.lists.specs.Lists.{part}
 use Rattle.lists.proofs.Cases.{bool_cases}
-use Rattle.lists.proofs.Parts.{part_in_lem, length_over, copied_more, copied_all}
+use Rattle.lists.proofs.Parts.{part_in_lem, length_over}
 use Rattle.store.specs.Head.{head_of, head_rule}
 use Rattle.store.specs.declared.Format.{Format}
 use Rattle.store.specs.declared.Head.{Head}
@@ -21,10 +23,11 @@ use Rattle.store.specs.Format.{words}
 use Rattle.search.specs.Way.{Sought}
 use Rattle.search.specs.Way.{Record, Nothing, Damaged}
 use Rattle.search.specs.Next.{next_of}
-use Rattle.scan.specs.declared.Listing.{Listing}
+use Rattle.search.proofs.WayLaws.{answered_ok}
+use Rattle.scan.specs.Outcome.{listing_result}
 use Rattle.page.specs.Page.{flat}
 use Rattle.page.proofs.Flat.{plot_words, length_flat}
-use Rattle.scan.specs.Range.{Ranged, also, range_from, ranged, listing, firsts, range_refused, listed, range_of}
+use Rattle.scan.specs.Range.{Ranged, also, range_from, ranged, listing, firsts, range_refused, range_reply, listed, range_of}
 use Rattle.scan.proofs.RangeLaws.{from_damaged, from_nothing, from_passed, from_full, from_last, from_on_lem}
 
 -- the first records of a walk, one by one
@@ -67,23 +70,13 @@ append_at at pre X out first last o n e =
     let none : drop (length out - at) (drop at out) ≡ [] = rw (back, rest) (drop-length B) in
     rw (front, none, e, whole, ← drop-drop (length X) at first) (simp (append-nil, append_assoc))
 
--- words of a page, from number a on, copied to the front of d: after j of them, one more, and all
-pub words_more : (pg d out : List ℕ) (a j : ℕ) → out ≡ paste d 0 (drop a pg) j → j < length d → a + j < length pg
-    → set out j (get_or pg (a + j) 0) ≡ paste d 0 (drop a pg) (j + 1)
-words_more pg d out a j e l m =
-    ap (set out j) (sym (get_or-drop a pg j 0)) ∙ copied_more (drop a pg) d out j 0 e l (omega (arith, length-drop a pg))
-
-pub words_all : (pg d out : List ℕ) (a n j : ℕ) → out ≡ paste d 0 (drop a pg) j → j ≡ n → a + n ≤ length pg
-    → out ≡ part pg a n ++ drop n d
-words_all pg d out a n j e z l =
-    copied_all (drop a pg) d out n (e ∙ ap (paste d 0 (drop a pg)) z) ∙ ap (λ x. x ++ drop n d) (sym (part_in_lem pg a n l))
-
-pub copied_fits : (w v i n L M : ℕ) → w ≡ v → v * (i + n) < L → v * n ≤ M → (w * n ≤ M) × (1 + w * i + w * n ≤ L)
-copied_fits w v i n L M e p q = rw e (q, omega arith)
-
--- the words of fewer than 2^32 records
-pub scaled : (w n : ℕ) → w ≤ 4 → n < 2 ^ 32 → w * n < 2 ^ 34
-scaled w n h l = let m : w * n ≤ 4 * n = mul-le-mul_right n h in omega arith
+-- words of a page, from number a on, copied over the front of d
+pub copied_part : (pg d ys : List ℕ) (a n : ℕ) → a + n ≤ length pg → ys ≡ take (a + n - a) (drop a pg)
+    → ys ++ drop (n - 0) d ≡ part pg a n ++ drop n d
+copied_part pg d ys a n l e =
+    let z : n - 0 ≡ n = omega arith in
+    let m : a + n - a ≡ n = omega arith in
+    rw (e, m, z, part_in_lem pg a n l) refl
 
 -- a range's records are the first ones of its walk
 module _ (f : Format) (s : List ℕ) (h : Head) (high : ℕ) where
@@ -155,36 +148,40 @@ module _ (f : Format) (s : List ℕ) (low high : ℕ) (out : List ℕ) where
   unfolding range_of
   range_given r o = rw (r, le-ltb high low o, range_of)
 
-  module _ (r : head_rule f s ≡ true) (o : low ≤ high) (l : Listing) (e : l ≡ listing R) where
-    pub range_damaged : l.ok ≡ false → (range_refused 9 ≡ (range_of f s low high out).reply) × (out ≡ (range_of f s low high out).words)
-    unfolding listed
-    range_damaged d =
-        let k : R.ok ≡ false = sym (ap (λ (x : Listing). x.ok) e ∙ listing_ok R) ∙ d in
-        rw (range_given r o) (rw (k, listed), rw (k, listed))
+  pub range_damaged : head_rule f s ≡ true → low ≤ high → (listing R).ok ≡ false
+      → (range_refused 9 ≡ (range_of f s low high out).reply) × (out ≡ (range_of f s low high out).words)
+  unfolding listed
+  range_damaged r o d =
+      let k : R.ok ≡ false = sym (listing_ok R) ∙ d in
+      rw (range_given r o) (rw (k, listed), rw (k, listed))
 
-    sound : l.ok ≡ true → R.ok ≡ true
-    sound d = sym (ap (λ (x : Listing). x.ok) e ∙ listing_ok R) ∙ d
+  -- the outcome that was found
+  module _ (r : head_rule f s ≡ true) (o : low ≤ high) {l : Rattle.scan.specs.declared.Listing.Listing}
+      {x : Result Rattle.scan.specs.declared.Listing.Listing Refusal} (is : x ≡ Ok l) (e : x ≡ listing_result (listing R)) where
+    found : ((listing R).ok ≡ true) × (l ≡ record { count = (listing R).count; more = (listing R).more })
+    found = answered_ok (listing R).ok (sym is ∙ e)
 
-    counted : l.ok ≡ true → l.count ≡ length R.items
-    counted d = ap (λ (x : Listing). x.count) e ∙ (listing_count R (sound d)).0
+    sound : R.ok ≡ true
+    sound = sym (listing_ok R) ∙ found.0
 
-    pub range_walk : l.ok ≡ true → firsts f s (head_of s) false low l.count ≡ R.items
+    pub range_counted : l.count ≡ length R.items
+    range_counted = ap (λ x. x.count) found.1 ∙ (listing_count R sound).0
+
+    range_walk : firsts f s (head_of s) false low l.count ≡ R.items
     unfolding ranged
-    range_walk d = rw (counted d) (range_firsts f s (head_of s) high (high + 1 - low + 1) false low (length out / words f) (sound d))
+    range_walk = rw range_counted (range_firsts f s (head_of s) high (high + 1 - low + 1) false low (length out / words f) sound)
 
-    pub range_length : l.ok ≡ true → length (firsts f s (head_of s) false low l.count) ≡ l.count
-    range_length d = ap length (range_walk d) ∙ sym (counted d)
+    pub range_length : length (firsts f s (head_of s) false low l.count) ≡ l.count
+    range_length = ap length range_walk ∙ sym range_counted
 
-    pub range_listed : (t : List ℕ) → l.ok ≡ true
-        → t ≡ flat f (firsts f s (head_of s) false low l.count) ++ drop (words f * l.count) out
-        → (record { number = 0; count = l.count; more = l.more } ≡ (range_of f s low high out).reply)
-        × (t ≡ (range_of f s low high out).words)
+    pub range_listed : (t : List ℕ) → t ≡ flat f (firsts f s (head_of s) false low l.count) ++ drop (words f * l.count) out
+        → (range_reply (Ok l) ≡ (range_of f s low high out).reply) × (t ≡ (range_of f s low high out).words)
     unfolding listed
-    range_listed t d w =
-        let m : l.more ≡ R.more = ap (λ (x : Listing). x.more) e ∙ (listing_count R (sound d)).1 in
+    range_listed t w =
+        let m : l.more ≡ R.more = ap (λ x. x.more) found.1 ∙ (listing_count R sound).1 in
         rw (range_given r o) (
-          rw (sound d, m, counted d, listed),
-          w ∙ rw (range_walk d, counted d, sound d, listed),
+          rw (sound, m, range_counted, listed),
+          w ∙ rw (range_walk, range_counted, sound, listed),
         )
 
 -- as many records as fit

@@ -3,7 +3,7 @@
 --                         `at` words of them in front; the walk w stands at the next one
 --   Turned f s h low n start out at left w == the same after all records of w's span, or as many as were left, were written
 use mathlib.Core.Path.{◌≡◌, refl, sym, ap, ◌∙◌}
-use mathlib.Core.Bool.{Bool, true, false}
+use mathlib.Core.Bool.{Bool, true, false, true≢false}
 use mathlib.Core.List.{List, [], ◌∷◌, ◌++◌, append_assoc}
 use Prim.Native.Nat.{ℕ, zero, suc, ◌+◌, ◌-◌, ◌*◌, ◌^◌, ◌≤◌, ◌<◌, min}
 use native.Mathlib.Decide.{dec_le}
@@ -13,6 +13,8 @@ use lib.ListN.{length, get_or, take, drop, length-append}
 use lib.Seq.{get_or-drop}
 use Rattle.lists.specs.Lists.{part}
 use Rattle.lists.proofs.Parts.{part_in_lem, part_out}
+use Rattle.std.specs.Prelude.{None, Ok, Err}
+use Rattle.answers.specs.declared.Refusal.{Refusal}
 use Rattle.store.specs.declared.Format.{Format}
 use Rattle.store.specs.declared.Head.{Head}
 use Rattle.store.specs.declared.Item.{Item}
@@ -21,9 +23,10 @@ use Rattle.store.specs.Head.{page_at, page_start, page_words, Under}
 use Rattle.store.proofs.Places.{under_limits}
 use Rattle.page.specs.Page.{flat}
 use Rattle.page.proofs.Laws.{rule_facts}
-use Rattle.search.specs.Way.{Span}
+use Rattle.search.specs.Way.{Span, span_result}
 use Rattle.search.specs.Span.{span_of, Rows}
 use Rattle.search.proofs.BlockLaws.{under_levels}
+use Rattle.search.proofs.WayLaws.{answered_err, span_none}
 use Rattle.scan.specs.Walk.{last_key, Standing, rows}
 use Rattle.scan.specs.Range.{firsts}
 use Rattle.scan.proofs.FillLaws.{part_room, length_filled}
@@ -131,6 +134,13 @@ module _ {f : Format} {s : List ℕ} {h : Head} {low n : ℕ} {start out : List 
   found : (w.ok ≡ true) × (w.page ≡ 0 → ⊥)
   found = rw x.walk (found_some x.under x.strict x.key left x.some x.full)
 
+  -- so it is neither past the last record nor at damage
+  pub fill_not_none : Ok None ≡ span_result w → ⊥
+  fill_not_none q = found.1 (span_none w q).1
+
+  pub fill_not_lost : {e : Refusal} → Err e ≡ span_result w → ⊥
+  fill_not_lost q = true≢false (sym found.0 ∙ (answered_err w.ok _ q).0)
+
   walking : Walking f s h w
   walking = record { strict = x.strict; key = x.key; span = x.walk }
 
@@ -159,7 +169,7 @@ module _ {f : Format} {s : List ℕ} {h : Head} {low n : ℕ} {start out : List 
       length_filled f x.its (length x.its) start out refl (omega (arith, fits 0 l)) x.written
 
   -- m records of it are written: all, or as many as are left
-  module _ {m : ℕ} (size : m ≡ min (w.to - w.from) left) where
+  module _ {m : ℕ} (size : m ≡ min left (w.to - w.from)) where
     pub fill_room : (1 ≤ m) × (m ≤ left) × (at + words f * m ≤ length out)
     fill_room =
         let l : length x.its + m ≤ n = omega (arith, x.counted, size) in (

@@ -15,7 +15,7 @@ use Rattle.store.specs.declared.Item.{Item}
 use Rattle.page.specs.Page.{above}
 use Rattle.totals.specs.declared.Totals.{Totals}
 use Rattle.totals.specs.Totals.{updated_of}
-use Rattle.scan.specs.declared.Listing.{Listing}
+use Rattle.scan.specs.Outcome.{Listing}
 use Rattle.search.specs.Way.{Record, Nothing, Damaged}
 use Rattle.search.specs.Next.{next_of}
 use Rattle.search.proofs.NextLaws.{next_above}

@@ -1,14 +1,18 @@
 -- Where a walk by next stands: w is the walk from its key, above it or at or above it.
+--   Held P x        == P holds of the span that a function returned as x
 --   Walking f s h w == that
 --   Fuelled .. w    == the same, with turns enough for every key up to high
 --   Summed .. w t, Listed .. w n == the totals t, or n records, are those before the walk w, and what is left from it on makes the whole
 use mathlib.Core.Path.{◌≡◌, refl, sym, ap, ◌∙◌, subst}
-use mathlib.Core.Bool.{Bool, true, false}
+use mathlib.Core.Bool.{Bool, true, false, true≢false}
 use mathlib.Core.List.{List}
 use Prim.Native.Nat.{ℕ, ◌+◌, ◌-◌, ◌^◌, ◌≤◌, ◌<◌}
 use native.Mathlib.Omega.{arith}
 use lib.ListN.{length}
 use Rattle.lists.specs.Lists.{All}
+use Rattle.std.specs.Prelude.{Option, Some, None, Result, Ok, Err}
+use Rattle.answers.specs.declared.Refusal.{Refusal}
+use Rattle.answers.specs.declared.Refusal.TheVariants.{DamageMet}
 use Rattle.store.specs.declared.Format.{Format}
 use Rattle.store.specs.declared.Head.{Head}
 use Rattle.store.specs.declared.Item.{Item}
@@ -18,23 +22,38 @@ use Rattle.page.specs.Page.{count, key_at, Filled}
 use Rattle.page.proofs.Inside.{page_lent, filled}
 use Rattle.page.proofs.Laws.{rule_facts}
 use Rattle.search.specs.Way.{Terminal}
-use Rattle.search.specs.Way.{Span}
+use Rattle.search.specs.Way.{Span, sound_span, span_result}
 use Rattle.search.specs.Descent.{terminal}
 use Rattle.search.specs.Span.{span_of, GoesBehind, Rows}
 use Rattle.search.proofs.BlockLaws.{under_levels}
 use Rattle.search.proofs.SpanLaws.{span_named, span_whole, span_behind}
 use Rattle.search.proofs.RowLaws.{behind_small}
+use Rattle.search.proofs.WayLaws.{span_is, span_none}
 use Rattle.totals.specs.declared.Totals.{Totals}
 use Rattle.totals.specs.Totals.{no_totals, totals_of, Bounded}
 use Rattle.totals.proofs.Laws.{bounded_none}
+use Rattle.scan.specs.Outcome.{listing_result, totals_result}
 use Rattle.scan.specs.Walk.{last_key, terminal_of, Behind, Standing, rows}
 use Rattle.scan.specs.Range.{range_from, ranged, listing, listing_of}
-use Rattle.scan.specs.Summary.{sum_from, summed, summing_of}
+use Rattle.scan.specs.Summary.{done, damage, sum_from, summed, summing_of}
 use Rattle.scan.proofs.RangeLaws.{lead, lead_true, lead_false, outcome, outcome_start, same_count}
 use Rattle.scan.proofs.ChainLaws.{Follows, key_after, chain_front, chain_few, chain_fits, chain_left}
 use Rattle.scan.proofs.WalkLaws.{length_rows, ends_upto, ends_cut, rows_of, stop_of, up_to}
 use Rattle.scan.proofs.WalkLaws.{span_held, span_follows, span_last, span_ends}
 use Rattle.scan.proofs.WalkLaws.{sum_goes, sum_stops, sum_end, range_goes, range_stops, range_fills, range_end}
+
+-- the span that a function returned
+abbrev pub Held : (Span → Type 0) → Result (Option Rattle.search.specs.declared.Span.Span) Refusal → Type 0
+Held P x = (w : Span) × (x ≡ span_result w) × P w
+
+module _ {P : Span → Type 0} {x : Result (Option Rattle.search.specs.declared.Span.Span) Refusal} (h : Held P x) where
+  pub held_some : {r : Rattle.search.specs.declared.Span.Span} → x ≡ Ok (Some r) → P (sound_span r) × (r.page ≡ 0 → ⊥)
+  held_some e =
+      let k = span_is h.0 (sym e ∙ h.1) in
+      (subst P (sym k.0) h.2, λ z. k.1 (sym (ap (λ r. r.page) k.0) ∙ z))
+
+  pub held_none : x ≡ Ok None → (w : Span) × (w.ok ≡ true) × (w.page ≡ 0) × P w
+  held_none e = let k = span_none h.0 (sym e ∙ h.1) in (h.0, k.0, k.1, h.2)
 
 pub record Walking (f : Format) (s : List ℕ) (h : Head) (w : Span) : Type 0 where
   pub strict : Bool
@@ -202,19 +221,25 @@ module _ (f : Format) (s : List ℕ) (h : Head) (low high : ℕ) where
     abbrev b : Fuelled w
     b = a.ahead
 
-    pub sum_done : w.page ≡ 0 → summing_of w.ok t ≡ summed f s h low high today
+    sum_done : (w.ok ≡ true → w.page ≡ 0) → summing_of w.ok t ≡ summed f s h low high today
     sum_done z =
         let l = under_levels u in
-        sym (sum_end f s h b.at.strict b.at.key l.0 l.1 w b.at.span (λ o. z) high today b.fuel t
-        (omega (arith, b.left, b.upto)))
+        sym (sum_end f s h b.at.strict b.at.key l.0 l.1 w b.at.span z high today b.fuel t (omega (arith, b.left, b.upto)))
         ∙ a.sums
+
+    pub sum_ended : w.ok ≡ true → w.page ≡ 0 → Ok t ≡ totals_result (summed f s h low high today)
+    unfolding summing_of
+    sum_ended o z = ap totals_result (ap (λ b. summing_of b t) (sym o) ∙ sum_done (λ y. z))
+
+    pub sum_lost : w.ok ≡ false → Err DamageMet ≡ totals_result (summed f s h low high today)
+    unfolding summing_of damage
+    sum_lost o = ap totals_result (ap (λ b. summing_of b t) (sym o) ∙ sum_done (λ y. absurd (true≢false (sym y ∙ o))))
 
     module _ (some : w.page ≡ 0 → ⊥) where
       pub sum_room : high < 2 ^ 32 → t.count + (stop_of f s h w high - w.from) ≤ 2 ^ 32
       sum_room o = omega (arith, few u b some, taken_length u b.at some high, a.counted, b.upto)
 
-      pub sum_over : high ≤ last_key f s h w → summing_of true (totals_of t (up_to f s h w high) today) ≡ summed f s h low high today
-      unfolding summing_of
+      pub sum_over : high ≤ last_key f s h w → done (totals_of t (up_to f s h w high) today) ≡ summed f s h low high today
       sum_over q =
           let l = under_levels u in
           sym (sum_stops f s h b.at.strict b.at.key l.0 l.1 w b.at.span (walk_ok u b.at some) some high today
@@ -222,7 +247,7 @@ module _ (f : Format) (s : List ℕ) (h : Head) (low high : ℕ) where
           ∙ a.sums
 
       pub sum_next : last_key f s h w < high → {v : Span} {x : Totals} → v ≡ span_of f s h true (last_key f s h w)
-          → x ≡ totals_of t (up_to f s h w high) today → Bounded x → x.count ≡ t.count + length (rows_of f s h w)
+          → x ≡ totals_of t (up_to f s h w high) today → Bounded x → x.count ≡ t.count + (stop_of f s h w high - w.from)
           → Summed today v x
       unfolding fuelled
       sum_next q p e c n =
@@ -232,7 +257,7 @@ module _ (f : Format) (s : List ℕ) (h : Head) (low high : ℕ) where
           record {
             ahead = fuelled true (last_key f s h w) (b.fuel - length (rows_of f s h w)) (on u b some q) (omega arith);
             bounded = c;
-            counted = omega (arith, n, a.counted, d, ends u b some q, lead_true);
+            counted = omega (arith, n, taken_count u b.at some high q, a.counted, d, ends u b some q, lead_true);
             sums =
                 rw (e, taken_all u b.at some high q)
                 (sym (sum_goes f s h b.at.strict b.at.key l.0 l.1 w b.at.span (walk_ok u b.at some) some high
@@ -262,12 +287,20 @@ module _ (f : Format) (s : List ℕ) (h : Head) (low high : ℕ) where
     abbrev c : Fuelled w
     c = a.ahead
 
-    pub list_done : w.page ≡ 0 → listing_of w.ok n ≡ listing (ranged f s h low high room)
+    list_done : (w.ok ≡ true → w.page ≡ 0) → listing_of w.ok n ≡ listing (ranged f s h low high room)
     list_done z =
         let l = under_levels u in
-        sym (range_end f s h c.at.strict c.at.key l.0 l.1 w c.at.span (λ o. z) high n c.fuel (room - n)
-        (omega (arith, c.left, c.upto)))
+        sym (range_end f s h c.at.strict c.at.key l.0 l.1 w c.at.span z high n c.fuel (room - n) (omega (arith, c.left, c.upto)))
         ∙ a.lists
+
+    pub list_ended : w.ok ≡ true → w.page ≡ 0
+        → Ok (record { count = n; more = 0 }) ≡ listing_result (listing (ranged f s h low high room))
+    unfolding listing_of
+    list_ended o z = ap listing_result (ap (λ b. listing_of b n) (sym o) ∙ list_done (λ y. z))
+
+    pub list_lost : w.ok ≡ false → Err DamageMet ≡ listing_result (listing (ranged f s h low high room))
+    unfolding listing_of
+    list_lost o = ap listing_result (ap (λ b. listing_of b n) (sym o) ∙ list_done (λ y. absurd (true≢false (sym y ∙ o))))
 
     module _ (some : w.page ≡ 0 → ⊥) where
       -- no room for all of the span: the first key not written
@@ -284,8 +317,7 @@ module _ (f : Format) (s : List ℕ) (h : Head) (low high : ℕ) where
           ∙ a.lists
 
       pub list_over : high ≤ last_key f s h w → stop_of f s h w high - w.from ≤ room - n
-          → listing_of true (n + (stop_of f s h w high - w.from)) ≡ listing (ranged f s h low high room)
-      unfolding listing_of
+          → record { ok = true; count = n + (stop_of f s h w high - w.from); more = 0 } ≡ listing (ranged f s h low high room)
       list_over q r =
           let l = under_levels u in
           let e = taken_length u c.at some high in
@@ -313,9 +345,3 @@ module _ (f : Format) (s : List ℕ) (h : Head) (low high : ℕ) where
                 c.fuel (room - n) q (omega (arith, enough u c some q)) (omega arith))
                 ∙ a.lists);
           }
-
--- an outcome counts no more than the records met
-pub listing_most : (ok : Bool) (n : ℕ) → (listing_of ok n).count ≤ n
-unfolding listing_of
-listing_most true n = omega arith
-listing_most false n = omega arith

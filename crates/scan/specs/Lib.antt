@@ -1,3 +1,4 @@
+pub mod Outcome
 pub mod Walk
 pub mod Range
 pub mod Summary

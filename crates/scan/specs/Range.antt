@@ -5,12 +5,14 @@
 --   listing r            == a range's outcome without its records
 --   listing_of ok n       == the outcome after n records with no further one
 --   firsts f s h strict k n == the first n records from the key k on
---   RangeReply, range_reply == document 01's number and values for each case of a `RangeAnswer`
+--   RangeReply, range_reply == document 01's number and values for what range returns
 --   range_of f s low high out == what range replies and the output words after it
 --   ended, broken, also it r == a range that is over, one that met damage, one with a record in front
 --   range_refused n       == the reply of a refusal with the number n
 --   After, listed        == a reply with the output words; what a walk that has ended replies and writes
-use Rattle.std.specs.Prelude.{Bool, true, false, List, [], ◌∷◌, ◌++◌, ℕ, zero, suc, ◌+◌, ◌-◌, ◌*◌, ◌/◌, ltb, eqb, length, drop}
+use Rattle.std.specs.Prelude.{Result, Ok, Err, Bool, true, false, List, [], ◌∷◌, ◌++◌, ℕ, zero, suc, ◌+◌, ◌-◌, ◌*◌, ◌/◌, ltb, eqb, length, drop}
+use Rattle.answers.specs.declared.Refusal.{Refusal}
+use Rattle.answers.specs.Answers.{number}
 use Rattle.store.specs.declared.Format.{Format}
 use Rattle.store.specs.declared.Head.{Head}
 use Rattle.store.specs.declared.Item.{Item}
@@ -18,10 +20,8 @@ use Rattle.store.specs.Format.{words}
 use Rattle.store.specs.Head.{head_of, head_rule}
 use Rattle.page.specs.Page.{flat}
 use Rattle.search.specs.Way.{Record, Nothing, Damaged}
-use Rattle.scan.specs.declared.Listing.{Listing}
-use Rattle.scan.specs.declared.RangeAnswer.{RangeAnswer}
-use Rattle.scan.specs.declared.RangeAnswer.TheVariants.{Listed, RangeHeadBroken, LowAboveHigh, RangeDamaged}
 use Rattle.search.specs.Next.{next_of}
+use Rattle.scan.specs.Outcome.{Listing}
 
 pub record Ranged : Type 0 where
   pub ok : Bool
@@ -94,11 +94,9 @@ pub record RangeReply : Type 0 where
 abbrev pub range_refused : ℕ → RangeReply
 range_refused n = record { number = n; count = 0; more = 0 }
 
-abbrev pub range_reply : RangeAnswer → RangeReply
-range_reply (Listed n k) = record { number = 0; count = n; more = k }
-range_reply RangeHeadBroken = range_refused 3
-range_reply LowAboveHigh = range_refused 7
-range_reply RangeDamaged = range_refused 9
+abbrev pub range_reply : Result Rattle.scan.specs.declared.Listing.Listing Refusal → RangeReply
+range_reply (Ok l) = record { number = 0; count = l.count; more = l.more }
+range_reply (Err e) = range_refused (number e)
 
 pub record After : Type 0 where
   pub reply : RangeReply

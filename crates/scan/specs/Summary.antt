@@ -3,11 +3,13 @@
 --   summing_of ok t       == the one or the other
 --   sum_from f s h high today fuel strict k t == the totals t with the records from the key k to high
 --   summed f s h low high today == the totals from low to high
---   SummaryReply, summary_reply == document 01's number and values for each case of a `SummaryAnswer`
+--   SummaryReply, summary_reply == document 01's number and values for what summary returns
 --   summary_of f s low high today == what summary is to reply
 --   summary_refused n     == the reply of a refusal with the number n
 --   summing_reply r       == the reply to a walk that has ended
-use Rattle.std.specs.Prelude.{Bool, true, false, List, ℕ, zero, suc, ◌+◌, ◌-◌, ltb, eqb}
+use Rattle.std.specs.Prelude.{Result, Ok, Err, Bool, true, false, List, ℕ, zero, suc, ◌+◌, ◌-◌, ltb, eqb}
+use Rattle.answers.specs.declared.Refusal.{Refusal}
+use Rattle.answers.specs.Answers.{number}
 use Rattle.plot.specs.Plot.{lawful_day}
 use Rattle.store.specs.declared.Format.{Format}
 use Rattle.store.specs.declared.Head.{Head}
@@ -15,11 +17,9 @@ use Rattle.store.specs.Head.{head_of, head_rule}
 use Rattle.totals.specs.declared.Totals.{Totals}
 use Rattle.totals.specs.Totals.{no_totals, updated_of}
 use Rattle.search.specs.Way.{Record, Nothing, Damaged}
-use Rattle.scan.specs.declared.Summing.{Summing}
-use Rattle.scan.specs.declared.SummaryAnswer.{SummaryAnswer}
-use Rattle.scan.specs.declared.SummaryAnswer.TheVariants.{Summed, SummaryHeadBroken, SummaryLowAboveHigh}
-use Rattle.scan.specs.declared.SummaryAnswer.TheVariants.{TodayOutside, SummaryDamaged}
 use Rattle.search.specs.Next.{next_of}
+use Rattle.scan.specs.declared.Summed.{Summed}
+use Rattle.scan.specs.Outcome.{Summing}
 
 abbrev pub done : Totals → Summing
 done t = record { ok = true; totals = t }
@@ -61,12 +61,9 @@ pub record SummaryReply : Type 0 where
 abbrev pub summary_refused : ℕ → SummaryReply
 summary_refused n = record { number = n; count = 0; total = 0; key = 0 }
 
-abbrev pub summary_reply : SummaryAnswer → SummaryReply
-summary_reply (Summed n t k) = record { number = 0; count = n; total = t; key = k }
-summary_reply SummaryHeadBroken = summary_refused 3
-summary_reply SummaryLowAboveHigh = summary_refused 7
-summary_reply TodayOutside = summary_refused 6
-summary_reply SummaryDamaged = summary_refused 9
+abbrev pub summary_reply : Result Summed Refusal → SummaryReply
+summary_reply (Ok t) = record { number = 0; count = t.count; total = t.total; key = t.key }
+summary_reply (Err e) = summary_refused (number e)
 
 abbrev pub summing_reply : Summing → SummaryReply
 summing_reply r =
