@@ -1,6 +1,6 @@
 -- On any words, the nodes of a plan have different numbers: each was visited under the rule of its level, which names the level.
 use mathlib.Core.Path.{◌≡◌, refl, sym, ap, ◌∙◌, subst}
-use mathlib.Core.Bool.{Bool, true, false, ◌&&◌, ◌||◌, not, false≢true}
+use mathlib.Core.Bool.{Bool, true, false, ◌||◌, not, false≢true}
 use mathlib.Core.List.{List, [], ◌∷◌, map}
 use mathlib.Core.Logic.{inl, inr}
 use Prim.Native.Nat.{ℕ, zero, suc, ◌+◌, ◌≤◌, ◌<◌, max}
@@ -12,12 +12,11 @@ use Rattle.lists.proofs.Tests.{and_true}
 use Rattle.store.specs.declared.Format.{Format}
 use Rattle.store.specs.declared.Head.{Head}
 use Rattle.store.specs.Format.{width}
-use Rattle.store.specs.Head.{head_of, node_start}
-use Rattle.node.specs.Node.{depth_word, level_word, node_rule}
+use Rattle.store.specs.Head.{node_start}
+use Rattle.node.specs.Node.{depth_word, level_word}
 use Rattle.node.proofs.NodeLaws.{node_facts}
 use Rattle.search.specs.declared.Step.{Step}
-use Rattle.search.specs.Way.{Descent}
-use Rattle.search.specs.Descent.{step_of, descent, no_step}
+use Rattle.search.specs.Descent.{descent, no_step}
 use Rattle.search.proofs.DescentLaws.{sound_facts, visited_sound}
 use Rattle.split.specs.Frame.{node_of}
 use Rattle.insert.proofs.InsideEnter.{StepIn, Down, descent_down}

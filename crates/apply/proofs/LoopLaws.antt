@@ -2,11 +2,11 @@
 use mathlib.Core.Path.{◌≡◌, refl, sym, ap, ap₂, ◌∙◌, subst}
 use mathlib.Core.Bool.{Bool, true, false}
 use mathlib.Core.List.{List, [], ◌∷◌, ◌++◌}
-use Prim.Native.Nat.{ℕ, suc, ◌+◌, ◌-◌, ◌*◌, ◌≤◌, ◌<◌}
+use Prim.Native.Nat.{ℕ, zero, suc, ◌+◌, ◌-◌, ◌*◌, ◌≤◌, ◌<◌}
 use native.Mathlib.Omega.{arith}
 use native.Mathlib.Decide.{ℕ_discrete}
 use lib.Pow.{pow_mono}
-use lib.ListN.{length, take, drop, set, length-set, length-take, get_or-append}
+use lib.ListN.{length, take, drop, set, drop_of_length-le, length-set, length-take, get_or-append}
 use lib.Seq.{drop-cons, get_or-take, get_or-set_same, get_or-set_other}
 use Rattle.lists.specs.Lists.{replaced, part}
 use Rattle.lists.proofs.Parts.{part_in_lem}
@@ -17,7 +17,7 @@ use Rattle.store.proofs.Places.{part_word, page_start_lem}
 use Rattle.store.specs.Released.{released_node, released_page}
 use Rattle.node.specs.Node.{forward_word}
 use Rattle.split.specs.Block.{linked}
-use Rattle.split.specs.Frame.{node_of, put_node, put_page}
+use Rattle.split.specs.Frame.{put_node, put_page}
 use Rattle.split.specs.Insertion.{SameSizes}
 use Rattle.split.proofs.Frame.{node_layout, put_node_head, put_page_head}
 use Rattle.release.specs.Release.{release_node, release_page}
@@ -121,6 +121,15 @@ module _ (θ : ℕ) (numbers blocks : List ℕ) where
       let up : suc i ≡ i + 1 = omega arith in
       ap (spots_from θ numbers blocks i) more ∙ ap (λ k. spot_in θ numbers blocks i ∷ spots_from θ numbers blocks k (n - (i + 1))) up
 
+  -- only the numbers in front are asked
+  pub spots_front : (m : ℕ) → m ≤ length numbers → (k i : ℕ) → i + k ≤ m
+      → spots_from θ (take m numbers) blocks i k ≡ spots_from θ numbers blocks i k
+  unfolding spots_from spot_in
+  spots_front m l zero i h = refl
+  spots_front m l (suc k) i h =
+      ap₂ (λ n xs. record { number = n; used = 0; last = 0; block = block_in θ blocks i } ∷ xs) (get_or-take m numbers i 0 (omega arith))
+      (spots_front m l k (suc i) (omega arith))
+
   pub blocks_first : (t : List ℕ) (n : ℕ) → put_spots t (spots_from θ numbers blocks 0 (n - 0)) ≡ put_spots t (spots_from θ numbers blocks 0 n)
   blocks_first t n = let e : n - 0 ≡ n = omega arith in ap (λ k. put_spots t (spots_from θ numbers blocks 0 k)) e
 
@@ -136,38 +145,27 @@ module _ (θ : ℕ) (numbers blocks : List ℕ) where
       let none : n - i ≡ 0 = omega arith in
       sym (ap (λ k. put_spots t (spots_from θ numbers blocks i k)) none) ∙ g
 
--- the next number
-numbers_next : (xs : List ℕ) (i n : ℕ) → i < n → n ≤ length xs → take (n - i) (drop i xs) ≡ word xs i ∷ take (n - (i + 1)) (drop (i + 1) xs)
-numbers_next xs i n h l =
-    let more : n - i ≡ suc (n - (i + 1)) = omega arith in
-    let up : suc i ≡ i + 1 = omega arith in
-    ap₂ take more (drop-cons xs i 0 (omega arith)) ∙ ap (λ k. word xs i ∷ take (n - (i + 1)) (drop k xs)) up
+-- the numbers that are left, after the next one
+module _ (xs : List ℕ) (i : ℕ) where
+  numbers_next : i < length xs → drop i xs ≡ word xs i ∷ drop (i + 1) xs
+  numbers_next h = let up : suc i ≡ i + 1 = omega arith in drop-cons xs i 0 h ∙ ap (λ k. word xs i ∷ drop k xs) up
 
-numbers_none : (xs : List ℕ) (i n : ℕ) → n ≤ i → take (n - i) (drop i xs) ≡ []
-numbers_none xs i n h = let none : n - i ≡ 0 = omega arith in ap (λ k. take k (drop i xs)) none
+  numbers_none : length xs ≤ i → drop i xs ≡ []
+  numbers_none h = drop_of_length-le xs {i = i} h
 
-pub nodes_first : (xs : List ℕ) (n : ℕ) (t : List ℕ) → release_nodes t (take (n - 0) (drop 0 xs)) ≡ release_nodes t (take n xs)
-nodes_first xs n t = let e : n - 0 ≡ n = omega arith in ap (λ k. release_nodes t (take k xs)) e
+  pub nodes_turn : (t t' X : List ℕ) → i < length xs → t' ≡ release_node t (word xs i)
+      → release_nodes t (drop i xs) ≡ X → release_nodes t' (drop (i + 1) xs) ≡ X
+  nodes_turn t t' X h e g = ap (λ s. release_nodes s (drop (i + 1) xs)) e ∙ sym (ap (release_nodes t) (numbers_next h)) ∙ g
 
-pub pages_first : (xs : List ℕ) (n : ℕ) (f : Format) (t : List ℕ) → release_pages f t (take (n - 0) (drop 0 xs)) ≡ release_pages f t (take n xs)
-pages_first xs n f t = let e : n - 0 ≡ n = omega arith in ap (λ k. release_pages f t (take k xs)) e
+  pub nodes_out : (t X : List ℕ) → length xs ≤ i → release_nodes t (drop i xs) ≡ X → t ≡ X
+  nodes_out t X h g = sym (ap (release_nodes t) (numbers_none h)) ∙ g
 
-module _ (xs : List ℕ) (i n : ℕ) where
-  pub nodes_turn : (t t' X : List ℕ) → i < n → n ≤ length xs → t' ≡ release_node t (word xs i)
-      → release_nodes t (take (n - i) (drop i xs)) ≡ X → release_nodes t' (take (n - (i + 1)) (drop (i + 1) xs)) ≡ X
-  nodes_turn t t' X h l e g =
-      ap (λ s. release_nodes s (take (n - (i + 1)) (drop (i + 1) xs))) e ∙ sym (ap (release_nodes t) (numbers_next xs i n h l)) ∙ g
+  pub pages_turn : (f : Format) (t t' X : List ℕ) → i < length xs → t' ≡ release_page f t (word xs i)
+      → release_pages f t (drop i xs) ≡ X → release_pages f t' (drop (i + 1) xs) ≡ X
+  pages_turn f t t' X h e g = ap (λ s. release_pages f s (drop (i + 1) xs)) e ∙ sym (ap (release_pages f t) (numbers_next h)) ∙ g
 
-  pub nodes_out : (t X : List ℕ) → n ≤ i → release_nodes t (take (n - i) (drop i xs)) ≡ X → t ≡ X
-  nodes_out t X h g = sym (ap (release_nodes t) (numbers_none xs i n h)) ∙ g
-
-  pub pages_turn : (f : Format) (t t' X : List ℕ) → i < n → n ≤ length xs → t' ≡ release_page f t (word xs i)
-      → release_pages f t (take (n - i) (drop i xs)) ≡ X → release_pages f t' (take (n - (i + 1)) (drop (i + 1) xs)) ≡ X
-  pages_turn f t t' X h l e g =
-      ap (λ s. release_pages f s (take (n - (i + 1)) (drop (i + 1) xs))) e ∙ sym (ap (release_pages f t) (numbers_next xs i n h l)) ∙ g
-
-  pub pages_out : (f : Format) (t X : List ℕ) → n ≤ i → release_pages f t (take (n - i) (drop i xs)) ≡ X → t ≡ X
-  pages_out f t X h g = sym (ap (release_pages f t) (numbers_none xs i n h)) ∙ g
+  pub pages_out : (f : Format) (t X : List ℕ) → length xs ≤ i → release_pages f t (drop i xs) ≡ X → t ≡ X
+  pages_out f t X h g = sym (ap (release_pages f t) (numbers_none h)) ∙ g
 
 -- the back link, by the first carried block
 module _ (s t : List ℕ) (θ : ℕ) (numbers blocks : List ℕ) (on : Bool) where

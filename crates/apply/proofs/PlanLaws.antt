@@ -32,7 +32,7 @@ use Rattle.remove.proofs.Releases.{room_kept}
 use Rattle.remove.proofs.Writes.{writable_kept, put_own_lem, t₁, t₂, t₃, w₁, w₂, w₃, room₁, spots₁, k₃}
 use Rattle.apply.specs.declared.Outline.{Outline}
 use Rattle.apply.specs.Carried.{block_in, spot_in, spots_from, LevelIs, Carried, Ready}
-use Rattle.apply.proofs.LoopLaws.{node_small, sizes_of_lem}
+use Rattle.apply.proofs.LoopLaws.{node_small, sizes_of_lem, spots_front}
 
 -- a number that stays: it is that of a block, which is still as it was
 abbrev Still : List ℕ → List ℕ → ℕ → Type 0
@@ -136,15 +136,15 @@ sizes_page f s t h p ws l z a b =
     sizes_of_lem s t h (elim (ℕ_discrete p 0) [ yes e ↦ ap head_of (a e) | no e ↦ ap head_of (b e) ∙ put_page_head f s p ws l ]) z
 
 -- one call after another
-pub both_is : (f : Format) (s t u pages nodes : List ℕ) (n m a b : ℕ) → a ≡ n → b ≡ m → t ≡ release_pages f s (take a pages)
-    → u ≡ release_nodes t (take b nodes) → u ≡ release_nodes (release_pages f s (take n pages)) (take m nodes)
-both_is f s t u pages nodes n m a b e d g i =
-    i ∙ ap₂ (λ x k. release_nodes x (take k nodes)) (g ∙ ap (λ k. release_pages f s (take k pages)) e) d
-
-pub kept_is : (θ : ℕ) (numbers blocks : List ℕ) (own t t' u : List ℕ) (b : Bool) (x : Spot) (n a : ℕ) → a ≡ n → t ≡ own
-    → t' ≡ put_spots t (spots_from θ numbers blocks 0 a) → u ≡ relinked t' b x → u ≡ relinked (put_spots own (spots_from θ numbers blocks 0 n)) b x
-kept_is θ numbers blocks own t t' u b x n a e d g i =
-    i ∙ ap (λ l. relinked l b x) (g ∙ ap₂ (λ l k. put_spots l (spots_from θ numbers blocks 0 k)) d e)
+pub kept_is : (θ : ℕ) (numbers blocks : List ℕ) (own t t' u : List ℕ) (b : Bool) (x : Spot) (n a : ℕ) → a ≡ n → n ≤ length numbers → t ≡ own
+    → t' ≡ put_spots t (spots_from θ (take a numbers) blocks 0 (length (take a numbers))) → u ≡ relinked t' b x
+    → u ≡ relinked (put_spots own (spots_from θ numbers blocks 0 n)) b x
+kept_is θ numbers blocks own t t' u b x n a e l d g i =
+    let m : a ≤ length numbers = omega arith in
+    let front : spots_from θ (take a numbers) blocks 0 (length (take a numbers)) ≡ spots_from θ numbers blocks 0 n =
+    ap (spots_from θ (take a numbers) blocks 0) (length-take-le a numbers m) ∙ spots_front θ numbers blocks a m a 0 (omega arith)
+    ∙ ap (spots_from θ numbers blocks 0) e in
+    i ∙ ap (λ w. relinked w b x) (g ∙ ap₂ put_spots d front)
 
 -- the third word of the first block
 forward_is : (θ : ℕ) (blocks : List ℕ) → θ ≤ 6 → 132 ≤ length blocks → forward_word (block_in θ blocks 0) 0 ≡ word blocks 3

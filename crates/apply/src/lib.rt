@@ -16,6 +16,7 @@ ghost use Rattle.apply.specs.Carried.{spot_in, spots_from, Carried, Ready};
 use store::{Format, Head};
 
 // The numbers of a plan. Of its levels, so many from the lowest one on change; a page 0 is null; and so many blocks are released.
+// (Counts beside the slices: those are arrays of fixed length, since there is no heap, and `Ready` speaks of them whole.)
 #[derive(Clone, Copy)]
 pub struct Outline {
     pub page: u32,
@@ -39,7 +40,7 @@ fn write_page(store: &mut [u32], f: Format, head: Head, p: u32, items: &[u32])
     }
     let at = store::page_start(f, head, p);
     let end = at + store::page_words(f, head.capacity);
-    split::copy(&mut store[at..end], items);
+    store[at..end].copy_from_slice(items);
 }
 
 // Writes a carried block, whose words begin at `at`, into node block n.
@@ -52,19 +53,17 @@ fn write_block(store: &mut [u32], head: Head, n: u32, blocks: &[u32], at: usize)
     split::put_block(store, head, n, &blocks[at..end]);
 }
 
-// Writes the n carried blocks, the lowest level first.
-fn write_blocks(store: &mut [u32], head: Head, numbers: &[u32], blocks: &[u32], n: usize)
-    requires { SameSizes (head_of store.old) head × (head.theta ≤ 6) × (8 ≤ length store.old) × (n ≤ length numbers.now)
-        × (132 * n ≤ length blocks.now)
-        × ((i : ℕ) → i < n → node_start head (word numbers.now i) + node_words head.theta ≤ length store.old) }
+// Writes the carried blocks with these numbers, the lowest level first.
+fn write_blocks(store: &mut [u32], head: Head, numbers: &[u32], blocks: &[u32])
+    requires { SameSizes (head_of store.old) head × (head.theta ≤ 6) × (8 ≤ length store.old)
+        × (132 * length numbers.now ≤ length blocks.now)
+        × ((i : ℕ) → i < length numbers.now → node_start head (word numbers.now i) + node_words head.theta ≤ length store.old) }
     ensures { (store.new
-        ≡ put_spots store.old (spots_from head.theta numbers.now blocks.now 0 n))
+        ≡ put_spots store.old (spots_from head.theta numbers.now blocks.now 0 (length numbers.now)))
         × SameSizes (head_of store.new) head }
 {
-    let mut i: usize = 0;
-    while i < n {
-        write_block(store, head, numbers[i], blocks, 132 * i);
-        i += 1;
+    for (i, number) in numbers.iter().enumerate() {
+        write_block(store, head, *number, blocks, 132 * i);
     }
 }
 
@@ -82,32 +81,28 @@ fn write_back(store: &mut [u32], head: Head, linked: bool, numbers: &[u32], bloc
     split::relink(store, head, blocks[3], numbers[0]);
 }
 
-// Releases n pages, in order.
-fn release_pages(store: &mut [u32], f: Format, head: Head, pages: &[u32], n: usize)
+// Releases pages, in order.
+fn release_pages(store: &mut [u32], f: Format, head: Head, pages: &[u32])
     requires { SameSizes (head_of store.old) head × (head.theta ≤ 6) × (1 ≤ head.capacity) × (head.capacity ≤ largest_capacity)
-        × (16 ≤ length store.old) × (n ≤ length pages.now) × (word store.old 11 + n < 2 ^ 32)
-        × ((i : ℕ) → i < n → page_start f head (word pages.now i) + page_words f head.capacity ≤ length store.old) }
-    ensures { (store.new ≡ release_pages f store.old (take n pages.now))
+        × (16 ≤ length store.old) × (word store.old 11 + length pages.now < 2 ^ 32)
+        × ((i : ℕ) → i < length pages.now → page_start f head (word pages.now i) + page_words f head.capacity ≤ length store.old) }
+    ensures { (store.new ≡ release_pages f store.old pages.now)
         × SameSizes (head_of store.new) head × (word store.new 10 ≡ word store.old 10) }
 {
-    let mut i: usize = 0;
-    while i < n {
-        release::release_page(store, f, head, pages[i]);
-        i += 1;
+    for page in pages {
+        release::release_page(store, f, head, *page);
     }
 }
 
-// Releases n nodes, in order.
-fn release_nodes(store: &mut [u32], head: Head, nodes: &[u32], n: usize)
-    requires { SameSizes (head_of store.old) head × (head.theta ≤ 6) × (16 ≤ length store.old) × (n ≤ length nodes.now)
-        × (word store.old 10 + n < 2 ^ 32)
-        × ((i : ℕ) → i < n → node_start head (word nodes.now i) + node_words head.theta ≤ length store.old) }
-    ensures { store.new ≡ release_nodes store.old (take n nodes.now) }
+// Releases nodes, in order. (A loop of its own: one over a closure would need the two laws of `release_pages` and this one all the same.)
+fn release_nodes(store: &mut [u32], head: Head, nodes: &[u32])
+    requires { SameSizes (head_of store.old) head × (head.theta ≤ 6) × (16 ≤ length store.old)
+        × (word store.old 10 + length nodes.now < 2 ^ 32)
+        × ((i : ℕ) → i < length nodes.now → node_start head (word nodes.now i) + node_words head.theta ≤ length store.old) }
+    ensures { store.new ≡ release_nodes store.old nodes.now }
 {
-    let mut i: usize = 0;
-    while i < n {
-        release::release_node(store, head, nodes[i]);
-        i += 1;
+    for node in nodes {
+        release::release_node(store, head, *node);
     }
 }
 
@@ -134,7 +129,7 @@ fn write_kept(
         (spot_in head.theta numbers.now blocks.now 0) }
 {
     write_page(store, f, head, o.page, items);
-    write_blocks(store, head, numbers, blocks, store::to_index(o.changed));
+    write_blocks(store, head, &numbers[..store::to_index(o.changed)], blocks);
     write_back(store, head, o.linked, numbers, blocks);
 }
 
@@ -148,8 +143,8 @@ fn release_both(store: &mut [u32], f: Format, head: Head, o: Outline, pages: &[u
     ensures { store.new ≡ release_nodes (release_pages f store.old (take o.pages pages.now))
         (take o.nodes nodes.now) }
 {
-    release_pages(store, f, head, pages, store::to_index(o.pages));
-    release_nodes(store, head, nodes, store::to_index(o.nodes));
+    release_pages(store, f, head, &pages[..store::to_index(o.pages)]);
+    release_nodes(store, head, &nodes[..store::to_index(o.nodes)]);
 }
 
 // Carries a plan out.

@@ -7,7 +7,9 @@ use borrow.Author.Tests.{eq-eqb, ne_eqb}
 use Rattle.store.specs.Head.{word}
 use Rattle.raw.specs.Words.{written}
 use Rattle.raw.proofs.Steps.{steps_first, steps_turn, steps_out}
-use Rattle.raw.specs.Blocks.{node_block, block}
+use Rattle.raw.specs.Blocks.{node_block, block_kind, block}
+use Rattle.raw.specs.declared.blocks.Block.{Block}
+use Rattle.harness.specs.declared.calls.Kind.TheVariants.{SetUp, Enter}
 use Rattle.harness.specs.declared.calls.Call.{Call}
 use Rattle.harness.specs.declared.calls.Reply.{Reply}
 use Rattle.harness.specs.declared.calls.Outcome.{Outcome}
@@ -20,7 +22,7 @@ use Rattle.faults.specs.Faults.{entries_put, node_put, path_put, levels_put, dee
 
 -- the call past the fourth enters a record
 pub call_enter : (key j : ℕ) {r : Call} → (j ≡ 0 → ⊥) → (j ≡ 1 → ⊥) → (j ≡ 2 → ⊥) → (j ≡ 3 → ⊥)
-    → r ≡ call_with 1 key 100 10 50 → r ≡ call_on key j
+    → r ≡ call_with Enter key 100 10 50 → r ≡ call_on key j
 unfolding call_on
 call_enter key zero a b c d e = absurd (a refl)
 call_enter key (suc zero) a b c d e = absurd (b refl)
@@ -63,11 +65,12 @@ module _ (rows : List (List ℕ)) (i : ℕ) (s t : List ℕ) (j : ℕ) {q : Play
   answers_out l = whole (steps_out _ (both s t) j 5 h l)
 
 -- the word of a row written
-pub broken_is : (s : List ℕ) (rows : List (List ℕ)) (i : ℕ) {k n b o y x : ℕ} {t : List ℕ}
-    → k ≡ cell_of rows i 0 → n ≡ cell_of rows i 1 → b ≡ block s k n → o ≡ cell_of rows i 2 → y ≡ o → x ≡ cell_of rows i 3
+pub broken_is : (s : List ℕ) (rows : List (List ℕ)) (i : ℕ) {c n b o y x : ℕ} (k : Block) {t : List ℕ}
+    → c ≡ cell_of rows i 0 → k ≡ block_kind c → n ≡ cell_of rows i 1 → b ≡ block s k n → o ≡ cell_of rows i 2 → y ≡ o → x ≡ cell_of rows i 3
     → t ≡ set s (b + y) x → t ≡ broken s rows i
 unfolding broken
-broken_is s rows i ek en eb eo ey ex et = et ∙ ap₂ (set s) (ap₂ ◌+◌ (eb ∙ ap₂ (block s) ek en) (ey ∙ eo)) ex
+broken_is s rows i k ec ek en eb eo ey ex et =
+    et ∙ ap₂ (set s) (ap₂ ◌+◌ (eb ∙ ap₂ (block s) (ek ∙ ap block_kind ec) en) (ey ∙ eo)) ex
 
 -- a row with a key, and one without
 module _ (sound s t : List ℕ) (rows : List (List ℕ)) (i : ℕ) {k : ℕ} {b : List ℕ}
@@ -143,7 +146,7 @@ pub levels_put_lem : (s : List ℕ) {t u v : List ℕ} → t ≡ set s 4 6 → u
 unfolding levels_put
 levels_put_lem s et eu ev = ev ∙ ap (λ u. set u 7 6) (eu ∙ ap (λ t. set t 6 6) et)
 
-pub deep_put_lem : (s : List ℕ) (depth : ℕ) {c : Call} {t u v w : List ℕ} → c ≡ call_with 0 6 1 6 1 → t ≡ (ran_of c s (0 ∷ [])).store
+pub deep_put_lem : (s : List ℕ) (depth : ℕ) {c : Call} {t u v w : List ℕ} → c ≡ call_with SetUp 6 1 6 1 → t ≡ (ran_of c s (0 ∷ [])).store
     → u ≡ path_put t 1 5 → v ≡ node_put u 1 depth 0 → w ≡ levels_put v → w ≡ deep_put s depth
 unfolding deep_put
 deep_put_lem s depth ec et eu ev ew =

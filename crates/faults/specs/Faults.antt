@@ -16,21 +16,23 @@ use Rattle.std.specs.Prelude.{true, false, List, [], ◌∷◌, ℕ, ◌+◌, �
 use Rattle.store.specs.Head.{word}
 use Rattle.raw.specs.Words.{written}
 use Rattle.raw.specs.Steps.{steps}
-use Rattle.raw.specs.Blocks.{node_block, block}
+use Rattle.raw.specs.Blocks.{node_block, block_kind, block}
+use Rattle.harness.specs.declared.calls.Kind.{Kind}
+use Rattle.harness.specs.declared.calls.Kind.TheVariants.{SetUp, Enter, Find, Next, Range, Summary}
 use Rattle.harness.specs.declared.calls.Call.{Call}
 use Rattle.harness.specs.declared.calls.Reply.{Reply}
 use Rattle.harness.specs.Calls.{refused, given, marked, ran_of, outcome}
 use Rattle.harness.specs.Tally.{judged_outcome}
 use Rattle.harness.specs.Script.{Played, both, cell_of}
 
-abbrev pub call_with : ℕ → ℕ → ℕ → ℕ → ℕ → Call
+abbrev pub call_with : Kind → ℕ → ℕ → ℕ → ℕ → Call
 call_with kind a b c d = record { kind = kind; a = a; b = b; c = c; d = d }
 
 unfoldable pub call_on : ℕ → ℕ → Call
 call_on key j =
     get_or
-    (call_with 2 key 0 0 0 ∷ call_with 3 key 0 0 0 ∷ call_with 4 key (2 ^ 32 - 1) 64 0 ∷ call_with 5 key (2 ^ 32 - 1) 40 0 ∷ []) j
-    (call_with 1 key 100 10 50)
+    (call_with Find key 0 0 0 ∷ call_with Next key 0 0 0 ∷ call_with Range key (2 ^ 32 - 1) 64 0 ∷ call_with Summary key (2 ^ 32 - 1) 40 0 ∷ []) j
+    (call_with Enter key 100 10 50)
 
 unfoldable pub numbered_reply : ℕ → Reply → Reply
 numbered_reply n got = elim (eqb n 0) [ true ↦ given got.a got.b got.c got.d | false ↦ refused n ]
@@ -44,7 +46,7 @@ unfoldable pub answers_from : List (List ℕ) → ℕ → Played → ℕ → ℕ
 answers_from rows i = steps (λ p j. answered_in p (call_on (cell_of rows i 4) j) (cell_of rows i (5 + j)))
 
 unfoldable pub broken : List ℕ → List (List ℕ) → ℕ → List ℕ
-broken s rows i = set s (block s (cell_of rows i 0) (cell_of rows i 1) + cell_of rows i 2) (cell_of rows i 3)
+broken s rows i = set s (block s (block_kind (cell_of rows i 0)) (cell_of rows i 1) + cell_of rows i 2) (cell_of rows i 3)
 
 unfoldable pub broken_row : List ℕ → List (List ℕ) → Played → ℕ → Played
 broken_row sound rows p i =
@@ -70,4 +72,4 @@ unfoldable pub levels_put : List ℕ → List ℕ
 levels_put s = set (set (set s 4 6) 6 6) 7 6
 
 unfoldable pub deep_put : List ℕ → ℕ → List ℕ
-deep_put s depth = levels_put (node_put (path_put (ran_of (call_with 0 6 1 6 1) s (0 ∷ [])).store 1 5) 1 depth 0)
+deep_put s depth = levels_put (node_put (path_put (ran_of (call_with SetUp 6 1 6 1) s (0 ∷ [])).store 1 5) 1 depth 0)

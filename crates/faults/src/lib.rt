@@ -7,8 +7,9 @@ ghost use Rattle.harness.specs.Script.{both};
 ghost use Rattle.faults.specs.Faults.{call_on, numbered_reply, answered_in, answers_from, broken, broken_row, broken_from, node_put};
 ghost use Rattle.faults.specs.Faults.{path_put, levels_put, deep_put};
 
-use harness::calls::{Call, Reply};
+use harness::calls::{Call, Kind, Reply};
 use harness::{calls, report, script};
+use raw::blocks::Block;
 use raw::{blocks, words};
 use store::to_index;
 
@@ -163,11 +164,11 @@ pub fn call_at(key: u32, j: usize) -> Call
     ensures { result ≡ call_on key j }
 {
     match j {
-        0 => calls::ask(calls::FIND, key, 0, 0, 0),
-        1 => calls::ask(calls::NEXT, key, 0, 0, 0),
-        2 => calls::ask(calls::RANGE, key, 4294967295, 64, 0),
-        3 => calls::ask(calls::SUMMARY, key, 4294967295, 40, 0),
-        _ => calls::ask(calls::ENTER, key, 100, 10, 50),
+        0 => calls::ask(Kind::Find, key, 0, 0, 0),
+        1 => calls::ask(Kind::Next, key, 0, 0, 0),
+        2 => calls::ask(Kind::Range, key, 4294967295, 64, 0),
+        3 => calls::ask(Kind::Summary, key, 4294967295, 40, 0),
+        _ => calls::ask(Kind::Enter, key, 100, 10, 50),
     }
 }
 
@@ -197,8 +198,7 @@ fn answers(rt: &impl Print, store: &mut [u32], rows: &[[u32; 10]], i: usize, tal
         (store.new ≡ q.store) × (tally.new ≡ q.tally) }
 {
     let key = script::cell(rows, i, 4);
-    let mut j: usize = 0;
-    while j < 5 {
+    for j in 0..5usize {
         answer(
             rt,
             store,
@@ -206,7 +206,6 @@ fn answers(rt: &impl Print, store: &mut [u32], rows: &[[u32; 10]], i: usize, tal
             script::cell(rows, i, 5 + j),
             tally,
         );
-        j += 1;
     }
 }
 
@@ -214,7 +213,8 @@ fn answers(rt: &impl Print, store: &mut [u32], rows: &[[u32; 10]], i: usize, tal
 fn break_word(store: &mut [u32], rows: &[[u32; 10]], i: usize)
     ensures { store.new ≡ broken store.old rows.now i }
 {
-    let block = blocks::start_of(store, script::cell(rows, i, 0), script::cell(rows, i, 1));
+    let kind = Block::from(script::cell(rows, i, 0));
+    let block = blocks::start_of(store, kind, script::cell(rows, i, 1));
     words::put(
         store,
         block + to_index(script::cell(rows, i, 2)),
@@ -252,10 +252,8 @@ fn break_rows(
         let q = broken_from sound.now rs (both store.old tally.old) 0 (length rs) in
         (store.new ≡ q.store) × (tally.new ≡ q.tally) }
 {
-    let mut i: usize = 0;
-    while i < rows.len() {
+    for i in 0..rows.len() {
         break_row(rt, sound, store, rows, i, tally);
-        i += 1;
     }
 }
 
@@ -291,14 +289,11 @@ fn put_node(store: &mut [u32], n: u32, depth: u32, pointer: u32)
     ensures { store.new ≡ node_put store.old n depth pointer }
 {
     let at = blocks::node_at(store, n);
-    let entries = store::pow2(depth % 7);
     words::put(store, at, depth);
     words::put(store, at + 1, n);
-    let mut j: usize = 0;
-    while j < entries {
+    for j in 0..store::pow2(depth % 7) {
         words::put(store, at + 4 + 2 * j, depth);
         words::put(store, at + 5 + 2 * j, pointer);
-        j += 1;
     }
 }
 
@@ -306,10 +301,8 @@ fn put_node(store: &mut [u32], n: u32, depth: u32, pointer: u32)
 fn put_path(store: &mut [u32])
     ensures { store.new ≡ path_put store.old 1 5 }
 {
-    let mut n: u32 = 1;
-    while n < 6 {
+    for n in 1..6u32 {
         put_node(store, n + 1, 6, n);
-        n += 1;
     }
 }
 
@@ -326,7 +319,7 @@ fn put_deep(store: &mut [u32], depth: u32)
     ensures { store.new ≡ deep_put store.old depth }
 {
     let mut out = [0u32; 1];
-    calls::reply_to(store, &mut out, calls::ask(calls::SET_UP, 6, 1, 6, 1));
+    calls::reply_to(store, &mut out, calls::ask(Kind::SetUp, 6, 1, 6, 1));
     put_path(store);
     put_node(store, 1, depth, 0);
     put_levels(store);
@@ -334,11 +327,9 @@ fn put_deep(store: &mut [u32], depth: u32)
 
 fn deep_paths(rt: &impl Print, store: &mut [u32], tally: &mut [u64]) {
     let rows = DEEP;
-    let mut i: usize = 0;
-    while i < 3 {
+    for i in 0..rows.len() {
         put_deep(store, script::cell(&rows, i, 3));
         answers(rt, store, &rows, i, tally);
-        i += 1;
     }
 }
 
@@ -362,5 +353,5 @@ pub fn run(rt: &impl Print, sound: &mut [u32], store: &mut [u32], tally: &mut [u
     report::start(tally, 5);
     tables_in(rt, sound, store, tally);
     deep_paths(rt, store, tally);
-    report::finish(rt, tally, b"broken rules");
+    report::finish(rt, tally, "broken rules");
 }

@@ -8,7 +8,7 @@ use native.Mathlib.Decide.{ℕ_discrete}
 use native.Mathlib.Numerals.{add-one}
 use native.Mathlib.Omega.{arith}
 use lib.ListN.{length, get_or, take, drop, set, drop_of_length-le}
-use lib.Seq.{drop-cons, get_or-take, length-take-le}
+use lib.Seq.{drop-cons}
 use Rattle.lists.specs.Lists.{All}
 use Rattle.lists.specs.Keyed.{Sorted}
 use Rattle.lists.proofs.Parts.{length_part}
@@ -243,16 +243,14 @@ module _ (f : Format) (s : List ℕ) (h : Head) (k : ℕ) where
       subst (λ x. Holds f h.capacity x hand items lost) (ap (pages_by f s h k y.stretch) (sym e) ∙ y.whole) y.holds
 
 -- the pages that are left: the next one, and the last
-pub rest_next : (n j : ℕ) (xs : List ℕ) → n ≤ length xs → j < n → drop j (take n xs) ≡ get_or xs j 0 ∷ drop (j + 1) (take n xs)
-rest_next n j xs l lt =
-    drop-cons (take n xs) j 0 (omega (arith, length-take-le n xs l))
-    ∙ ap₂ (λ y i. y ∷ drop i (take n xs)) (get_or-take n xs j 0 lt) (sym (add-one j))
+pub rest_next : (j : ℕ) (xs : List ℕ) → j < length xs → drop j xs ≡ get_or xs j 0 ∷ drop (j + 1) xs
+rest_next j xs h = drop-cons xs j 0 h ∙ ap (λ i. get_or xs j 0 ∷ drop i xs) (sym (add-one j))
 
 pub all_next : (P : ℕ → Type 0) {xs : List ℕ} {p : ℕ} {ps : List ℕ} → xs ≡ p ∷ ps → All P xs → P p × All P ps
 all_next P e a = subst (All P) e a
 
-pub rest_out : (n j : ℕ) (xs : List ℕ) → n ≤ length xs → n ≤ j → drop j (take n xs) ≡ []
-rest_out n j xs l h = drop_of_length-le (take n xs) {i = j} (omega (arith, length-take-le n xs l))
+pub rest_out : (j : ℕ) (xs : List ℕ) → length xs ≤ j → drop j xs ≡ []
+rest_out j xs h = drop_of_length-le xs {i = j} h
 
 -- the joins of the definition, z, by what join_pages and gather_page say
 pub plan_holds : (f : Format) (s : List ℕ) (h : Head) (k used page : ℕ) (rs : List Reach) {z : Pages} {j : PageJoins} {mates marks : List ℕ}

@@ -16,7 +16,7 @@ ghost use Rattle.gather.specs.Gather.{OwnPage, Holds, start_of, joined_by};
 
 use store::{Format, Head};
 
-// The page of a stretch after its joins: its number (0: null), and how many pages are released.
+// The page of a stretch after its joins: its number (0: null), and how many pages are released. (A count beside the lent numbers: no heap.)
 #[derive(Clone, Copy)]
 pub struct Gathered {
     pub page: u32,
@@ -40,7 +40,7 @@ fn first_page(
         × ((k used : ℕ) (rs : List Reach) → key_at f (page_at f store.now head page) i ≡ k
         → Holds f head.capacity (start_of f store.now head k used page rs) result items.new lost.new) }
 {
-    split::copy(items, store::page_at(store, f, head, page));
+    items.copy_from_slice(store::page_at(store, f, head, page));
     merge::take_out(items, f, head.capacity, i);
     if page::count_of(items) != 0 {
         return Gathered { page, lost: 0 };
@@ -116,13 +116,11 @@ pub fn gather_page(
         items.new lost.new) }
 {
     let mut hand = first_page(store, f, head, page, i, items, lost);
-    let mut j: usize = 0;
     let mut left = used;
-    while j < n {
+    for mate in &mates[..n] {
         let side = siblings::on_left(f, key, left);
-        hand = gather_turn(store, f, head, side, mates[j], hand, items, lost);
+        hand = gather_turn(store, f, head, side, *mate, hand, items, lost);
         left -= 1;
-        j += 1;
     }
     hand
 }

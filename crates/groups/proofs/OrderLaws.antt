@@ -16,35 +16,34 @@ use Rattle.harness.specs.Tally.{counted, tried, judged}
 use Rattle.harness.specs.Script.{Played, both}
 use Rattle.harness.proofs.ScriptLaws.{whole}
 use Rattle.model.specs.Model.{record_at}
+use Rattle.groups.specs.declared.orders.Order.{Order}
+use Rattle.groups.specs.declared.orders.Order.TheVariants.{Ascending, Descending, Drawn, Stride}
 use Rattle.groups.specs.declared.sets.Setting.{Setting}
 use Rattle.groups.specs.Sets.{set_up_call, parts_of}
-use Rattle.groups.specs.Orders.{placed_in, entered_once, entered_from, filled_in, compared_in, ordered_from}
+use Rattle.groups.specs.Orders.{order_of, placed_in, entered_once, entered_from, filled_in, compared_in, ordered_from}
 
 -- the record at a place: ascending, descending, as drawn, with a stride
-pub placed_up : (list drawn : List ℕ) (order i : ℕ) {r : Record} → order ≡ 0 → r ≡ record_at list i → r ≡ placed_in list drawn order i
-unfolding placed_in
-placed_up list drawn order i e er = rw (e, placed_in) er
+module _ (list drawn : List ℕ) (order : Order) (i : ℕ) where
+  pub placed_up : {r : Record} → order ≡ Ascending → r ≡ record_at list i → r ≡ placed_in list drawn order i
+  unfolding placed_in
+  placed_up e er = rw (e, placed_in) er
 
-pub placed_down : (list drawn : List ℕ) (order i : ℕ) {n k m : ℕ} {r : Record} → order ≡ 1
-    → n ≡ word list 0 → k ≡ min (i + 1) (2 ^ 32 - 1) → m ≡ n - k → r ≡ record_at list m → r ≡ placed_in list drawn order i
-unfolding placed_in
-placed_down list drawn order i e en ek em er = rw (e, placed_in) (er ∙ ap (record_at list) (em ∙ ap₂ ◌-◌ en ek))
+  pub placed_down : {n k m : ℕ} {r : Record} → order ≡ Descending
+      → n ≡ word list 0 → k ≡ min (i + 1) (2 ^ 32 - 1) → m ≡ n - k → r ≡ record_at list m → r ≡ placed_in list drawn order i
+  unfolding placed_in
+  placed_down e en ek em er = rw (e, placed_in) (er ∙ ap (record_at list) (em ∙ ap₂ ◌-◌ en ek))
 
-pub placed_drawn : (list drawn : List ℕ) (order i : ℕ) {r : Record} → order ≡ 2 → r ≡ record_at drawn i → r ≡ placed_in list drawn order i
-unfolding placed_in
-placed_drawn list drawn order i e er = rw (e, placed_in) er
+  pub placed_drawn : {r : Record} → order ≡ Drawn → r ≡ record_at drawn i → r ≡ placed_in list drawn order i
+  unfolding placed_in
+  placed_drawn e er = rw (e, placed_in) er
 
-abbrev pub stride_of : ℕ → ℕ → ℕ
-stride_of n p = elim (eqb n 0) [ true ↦ 0 | false ↦ p % n ]
-
-pub placed_stride : (list drawn : List ℕ) (order i : ℕ) {n p k : ℕ} {r : Record}
-    → (order ≡ 0 → ⊥) → (order ≡ 1 → ⊥) → (order ≡ 2 → ⊥)
-    → n ≡ word list 0 → p ≡ i * 7919 → k ≡ stride_of n p → r ≡ record_at list k → r ≡ placed_in list drawn order i
-unfolding placed_in
-placed_stride list drawn zero i a b c en ep ek er = absurd (a refl)
-placed_stride list drawn (suc zero) i a b c en ep ek er = absurd (b refl)
-placed_stride list drawn (suc (suc zero)) i a b c en ep ek er = absurd (c refl)
-placed_stride list drawn (suc (suc (suc order))) i a b c en ep ek er = er ∙ ap (record_at list) (ek ∙ ap₂ stride_of en ep)
+  pub placed_stride : {n p k : ℕ} {r : Record} → order ≡ Stride
+      → n ≡ word list 0 → p ≡ i * 7919 → k ≡ elim (eqb n 0) [ true ↦ 0 | false ↦ p % n ] → r ≡ record_at list k
+      → r ≡ placed_in list drawn order i
+  unfolding placed_in
+  placed_stride e en ep ek er =
+      let stride : ℕ → ℕ → ℕ = λ (n : ℕ) (p : ℕ). elim (eqb n 0) [ true ↦ 0 | false ↦ p % n ] in
+      rw (e, placed_in) (er ∙ ap (record_at list) (ek ∙ ap₂ stride en ep))
 
 -- an entry that is done, and one that is not
 module _ (s t : List ℕ) (r : Record) {c : Call} {got x : Reply} {u v : List ℕ}
@@ -73,12 +72,12 @@ module _ (s t : List ℕ) (r : Record) {c : Call} {got x : Reply} {u v : List �
       (store_is, tally_is ∙ second_arm _ _ _ test)
 
 -- the entries of an order
-pub entered_first : (list drawn : List ℕ) (order : ℕ) (p : Played) {n : ℕ} → n ≡ word list 0
+pub entered_first : (list drawn : List ℕ) (order : Order) (p : Played) {n : ℕ} → n ≡ word list 0
     → entered_from list drawn order p 0 (n - 0) ≡ entered_from list drawn order p 0 (word list 0)
 unfolding entered_from
 entered_first list drawn order p {n} e = steps_first _ p n ∙ ap (entered_from list drawn order p 0) e
 
-module _ (list drawn : List ℕ) (order : ℕ) (s t : List ℕ) (i n : ℕ) {q : Played}
+module _ (list drawn : List ℕ) (order : Order) (s t : List ℕ) (i n : ℕ) {q : Played}
     (h : entered_from list drawn order (both s t) i (n - i) ≡ q) where
   pub entered_turn : {r : Record} {u v : List ℕ} → i < n → r ≡ placed_in list drawn order i
       → (u ≡ (entered_once (both s t) r).store) × (v ≡ (entered_once (both s t) r).tally)
@@ -91,7 +90,7 @@ module _ (list drawn : List ℕ) (order : ℕ) (s t : List ℕ) (i n : ℕ) {q :
   entered_out l = whole (steps_out _ (both s t) i n h l)
 
 -- a store set up and the set entered
-pub filled_in_lem : (list drawn : List ℕ) (st : Setting) (order : ℕ) (s t : List ℕ) {n : ℕ} {u v x y : List ℕ}
+pub filled_in_lem : (list drawn : List ℕ) (st : Setting) (order : Order) (s t : List ℕ) {n : ℕ} {u v x y : List ℕ}
     → (n ≡ (reply_to (set_up_call st) s (0 ∷ [])).a % 2 ^ 32) × (u ≡ (ran_of (set_up_call st) s (0 ∷ [])).store)
     → v ≡ tried t (ltb 0 n)
     → (let q = entered_from list drawn order (both u v) 0 (word list 0) in (x ≡ q.store) × (y ≡ q.tally))
@@ -112,13 +111,14 @@ compared_in_lem first list s t e eb ew = (e.0, ew ∙ ap₂ tried e.1 (eb ∙ ap
 -- the other orders of a set
 module _ (first list drawn : List ℕ) (st : Setting) (s t : List ℕ) (order : ℕ) {q : Played}
     (h : ordered_from first list drawn st (both s t) order (4 - order) ≡ q) where
-  pub ordered_turn : {n : ℕ} {x y u v : List ℕ} → order < 4
-      → (let q = filled_in list drawn st order (both s t) in (n ≡ q.size) × (x ≡ q.played.store) × (y ≡ q.played.tally))
+  pub ordered_turn : {n : ℕ} {o : Order} {x y u v : List ℕ} → order < 4 → o ≡ order_of order
+      → (let q = filled_in list drawn st o (both s t) in (n ≡ q.size) × (x ≡ q.played.store) × (y ≡ q.played.tally))
       → (let q = compared_in first list (both x y) in (u ≡ q.store) × (v ≡ q.tally))
       → ordered_from first list drawn st (both u v) (order + 1) (4 - (order + 1)) ≡ q
   unfolding ordered_from
-  ordered_turn l f e =
-      steps_turn _ (both s t) order 4 h l (ap₂ both e.0 e.1 ∙ ap (compared_in first list) (ap₂ both f.1 f.2))
+  ordered_turn l eo f e =
+      steps_turn _ (both s t) order 4 h l
+      (ap₂ both e.0 e.1 ∙ ap (compared_in first list) (ap₂ both f.1 f.2 ∙ ap (λ o. (filled_in list drawn st o (both s t)).played) eo))
 
   pub ordered_out : 4 ≤ order → (s ≡ q.store) × (t ≡ q.tally)
   unfolding ordered_from

@@ -14,25 +14,28 @@ use Rattle.store.specs.Head.{word}
 use Rattle.raw.proofs.Steps.{first_arm, second_arm}
 use Rattle.stretches.specs.declared.Counts.{Counts}
 use Rattle.stretches.specs.Stretches.{counts_of}
+use Rattle.harness.specs.declared.calls.Kind.TheVariants.{Range}
 use Rattle.harness.specs.declared.calls.Call.{Call}
 use Rattle.harness.specs.declared.calls.Reply.{Reply}
 use Rattle.harness.specs.declared.calls.Outcome.{Outcome}
-use Rattle.harness.specs.Calls.{refused, given, entry_of, marked, ran_of, reply_to, outcome}
+use Rattle.harness.specs.Calls.{refused, given, entry_of, is_range, marked, ran_of, reply_to, outcome}
 use Rattle.harness.specs.Tally.{counted, tried, compared, judged_outcome}
 use Rattle.harness.specs.Script.{cell_of, Played, both}
 use Rattle.harness.proofs.ScriptLaws.{whole}
 use Rattle.model.specs.Model.{inserted, removed, holds_key, model_reply, listed_in}
+use Rattle.groups.specs.declared.sets.Pattern.{Pattern}
 use Rattle.groups.specs.declared.sets.Setting.{Setting}
-use Rattle.groups.specs.Sets.{setting_of, Booked, joined_in, booked_in, accepted_in, entered_in, set_up_call}
+use Rattle.groups.specs.Sets.{pattern_of, setting_of, Booked, joined_in, booked_in, accepted_in, entered_in, set_up_call}
 use Rattle.groups.specs.Sets.{Part, part_in, part_of, read_in, parts_from, parts_of, all_parts}
 
 -- a setting, number by number
-pub setting_is : (rows : List (List ℕ)) (i : ℕ) {a b c d e f g : ℕ}
-    → a ≡ cell_of rows i 0 → b ≡ cell_of rows i 1 → c ≡ cell_of rows i 2 → d ≡ cell_of rows i 3 → e ≡ cell_of rows i 4
+pub setting_is : (rows : List (List ℕ)) (i : ℕ) {a b c d k f g : ℕ} {e : Pattern}
+    → a ≡ cell_of rows i 0 → b ≡ cell_of rows i 1 → c ≡ cell_of rows i 2 → d ≡ cell_of rows i 3 → k ≡ cell_of rows i 4
+    → e ≡ pattern_of k
     → f ≡ cell_of rows i 5 → g ≡ 1000 * (i % 1000) % 2 ^ 32
     → ◌≡◌ {A = Setting} (record { theta = a; capacity = b; nodes = c; pages = d; pattern = e; records = f; seed = g }) (setting_of rows i)
 unfolding setting_of
-setting_is rows i a b c d e f g = rw (a, b, c, d, e, f, g)
+setting_is rows i a b c d k e f g = rw (e, k, a, b, c, d, f, g)
 
 -- a store set up
 pub prepared : (s : List ℕ) (st : Setting) {c : Call} {x : Reply} {n : ℕ} {t : List ℕ}
@@ -192,18 +195,18 @@ part_own list p c e w =
 
 -- a reading that is a range, and any other
 module _ (list s t : List ℕ) (c : Call) {u v : List ℕ} where
-  pub read_range : {k : ℕ} → c.kind ≡ 4
+  pub read_range : {k : ℕ} {b : Bool} → b ≡ is_range c.kind → b ≡ true
       → (let q = part_of list (both s t) c in (k ≡ q.next) × (u ≡ q.store) × (v ≡ q.tally))
       → let q = read_in list (both s t) c in (u ≡ q.store) × (v ≡ q.tally)
   unfolding read_in
-  read_range e w = rw (eq-eqb c.kind 4 e, read_in) (w.1, w.2)
+  read_range r e w = rw (sym r ∙ e, read_in) (w.1, w.2)
 
-  pub read_other : {o : Outcome} {x : Reply} → (c.kind ≡ 4 → ⊥)
+  pub read_other : {o : Outcome} {x : Reply} {b : Bool} → b ≡ is_range c.kind → b ≡ false
       → (o ≡ outcome c s (marked 0)) × (u ≡ (ran_of c s (marked 0)).store) → x ≡ model_reply list c → v ≡ judged_outcome t x o
       → let q = read_in list (both s t) c in (u ≡ q.store) × (v ≡ q.tally)
   unfolding read_in
-  read_other {o} e w ex ev =
-      rw (ne_eqb c.kind 4 e, read_in)
+  read_other {o} r e w ex ev =
+      rw (sym r ∙ e, read_in)
       (w.1, ev ∙ ap (λ x. judged_outcome t x o) ex ∙ ap (judged_outcome t (model_reply list c)) w.0)
 
 -- parts of the range: from the first on, at the last, after any other, and after so many without a last
@@ -214,7 +217,7 @@ parts_first list room p = let all : 1024 - 0 ≡ 1024 = omega arith in ap (parts
 module _ (list : List ℕ) (room : ℕ) (s t : List ℕ) (low m turn : ℕ) {q : Played}
     (h : parts_from list room (both s t) low (m - turn) ≡ q) where
   module _ {c : Call} {k : ℕ} {u v : List ℕ} (l : turn < m)
-      (ec : c ≡ record { kind = 4; a = low; b = 2 ^ 32 - 1; c = room; d = 0 })
+      (ec : c ≡ record { kind = Range; a = low; b = 2 ^ 32 - 1; c = room; d = 0 })
       (w : let q = part_of list (both s t) c in (k ≡ q.next) × (u ≡ q.store) × (v ≡ q.tally)) where
     abbrev onward : ℕ → Played → Played
     onward k p = elim (eqb k 0) [ true ↦ p | false ↦ parts_from list room p k (m - (turn + 1)) ]

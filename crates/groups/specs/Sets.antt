@@ -1,4 +1,5 @@
 -- Random sets against the plain sorted list: what one trial does, whatever is drawn.
+--   pattern_of n     == the pattern with a number of a table
 --   setting_of rows i == the setting of a row; its seed is made of the row's number
 --   Booked           == what the book replies, and the list after it
 --   joined_in list st r == a lawful record that is not held joins the list, unless the tree does not fit then
@@ -17,13 +18,23 @@ use Rattle.plot.specs.declared.Record.{Record}
 use Rattle.plot.specs.Plot as Plot
 use Rattle.store.specs.Head.{word}
 use Rattle.stretches.specs.Stretches.{counts_of}
+use Rattle.harness.specs.declared.calls.Kind.TheVariants.{SetUp, Range}
 use Rattle.harness.specs.declared.calls.Call.{Call}
 use Rattle.harness.specs.declared.calls.Reply.{Reply}
-use Rattle.harness.specs.Calls.{refused, given, entry_of, marked, ran_of, outcome}
+use Rattle.harness.specs.Calls.{refused, given, entry_of, is_range, marked, ran_of, outcome}
 use Rattle.harness.specs.Tally.{counted, tried, compared, judged_outcome}
 use Rattle.harness.specs.Script.{cell_of, Played, both}
 use Rattle.model.specs.Model.{inserted, removed, holds_key, model_reply, listed_in}
+use Rattle.groups.specs.declared.sets.Pattern.{Pattern}
+use Rattle.groups.specs.declared.sets.Pattern.TheVariants.{Uniform, Bursts, Prefixes, Extremes}
 use Rattle.groups.specs.declared.sets.Setting.{Setting}
+
+abbrev pub pattern_of : ℕ → Pattern
+pattern_of n =
+    elim (eqb n 0) [
+      | true ↦ Uniform
+      | false ↦ elim (eqb n 1) [ true ↦ Bursts | false ↦ elim (eqb n 2) [ true ↦ Prefixes | false ↦ Extremes ] ]
+    ]
 
 unfoldable pub setting_of : List (List ℕ) → ℕ → Setting
 setting_of rows i =
@@ -32,7 +43,7 @@ setting_of rows i =
       capacity = cell_of rows i 1;
       nodes = cell_of rows i 2;
       pages = cell_of rows i 3;
-      pattern = cell_of rows i 4;
+      pattern = pattern_of (cell_of rows i 4);
       records = cell_of rows i 5;
       seed = 1000 * (i % 1000) % 2 ^ 32;
     }
@@ -69,7 +80,7 @@ entered_in p x r =
     both s (elim (eqb o.reply.number 0) [ true ↦ accepted_in s o.reply t | false ↦ t ])
 
 abbrev pub set_up_call : Setting → Call
-set_up_call st = record { kind = 0; a = st.theta; b = st.capacity; c = st.nodes; d = st.pages }
+set_up_call st = record { kind = SetUp; a = st.theta; b = st.capacity; c = st.nodes; d = st.pages }
 
 pub record Part : Type 0 where
   pub next : ℕ
@@ -97,7 +108,7 @@ part_of list p c = part_in list p (replicate 1024 0) c
 unfoldable pub read_in : List ℕ → Played → Call → Played
 read_in list p c =
     let q = part_of list p c in
-    elim (eqb c.kind 4) [
+    elim (is_range c.kind) [
       | true ↦ both q.store q.tally
       | false ↦
           both (ran_of c p.store (marked 0)).store (judged_outcome p.tally (model_reply list c) (outcome c p.store (marked 0)))
@@ -106,7 +117,7 @@ read_in list p c =
 unfoldable pub parts_from : List ℕ → ℕ → Played → ℕ → ℕ → Played
 parts_from list room p low zero = both p.store (tried p.tally false)
 parts_from list room p low (suc n) =
-    let q = part_of list p (record { kind = 4; a = low; b = 2 ^ 32 - 1; c = room; d = 0 }) in
+    let q = part_of list p (record { kind = Range; a = low; b = 2 ^ 32 - 1; c = room; d = 0 }) in
     let after = both q.store q.tally in
     elim (eqb q.next 0) [ true ↦ after | false ↦ parts_from list room after q.next n ]
 

@@ -2,7 +2,7 @@
 ghost use Rattle.std.specs.Prelude.{◌≡◌};
 ghost use Rattle.store.specs.Head.{word};
 ghost use Rattle.harness.specs.Script.{both};
-ghost use Rattle.groups.specs.Orders.{placed_in, entered_once, entered_from, filled_in, compared_in, ordered_from};
+ghost use Rattle.groups.specs.Orders.{order_of, placed_in, entered_once, entered_from, filled_in, compared_in, ordered_from};
 
 use crate::sets;
 use crate::sets::Setting;
@@ -40,25 +40,45 @@ fn draw_record(list: &mut [u32], drawn: &mut [u32], setting: Setting, i: u32) {
 }
 
 pub fn draw_set(list: &mut [u32], drawn: &mut [u32], setting: Setting) {
-    words::fill(list, 0);
-    words::fill(drawn, 0);
-    let mut i: u32 = 0;
-    while i < setting.records {
+    list.fill(0);
+    drawn.fill(0);
+    for i in 0..setting.records {
         draw_record(list, drawn, setting, i);
-        i += 1;
     }
 }
 
-// The record at place i of an order: 0 ascending, 1 descending, 2 as drawn, 3 with a stride.
-fn record_in(list: &[u32], drawn: &[u32], order: u32, i: u32) -> Record
+// An order of entry: by key, up or down, as drawn, or with a stride.
+#[derive(Clone, Copy)]
+pub enum Order {
+    Ascending,
+    Descending,
+    Drawn,
+    Stride,
+}
+
+impl From<u32> for Order {
+    ghost from_gives = { λ n o. o ≡ order_of n };
+
+    fn from(number: u32) -> Order {
+        match number {
+            0 => Order::Ascending,
+            1 => Order::Descending,
+            2 => Order::Drawn,
+            _ => Order::Stride,
+        }
+    }
+}
+
+// The record at place i of an order.
+fn record_in(list: &[u32], drawn: &[u32], order: Order, i: u32) -> Record
     ensures { result ≡ placed_in list.now drawn.now order i }
 {
     let n = model::size(list);
     match order {
-        0 => model::record_at(list, i),
-        1 => model::record_at(list, words::difference(n, words::sum(i, 1))),
-        2 => model::record_at(drawn, i),
-        _ => model::record_at(list, words::remainder(plot::wide_product(i, 7919), n)),
+        Order::Ascending => model::record_at(list, i),
+        Order::Descending => model::record_at(list, n.saturating_sub(i.saturating_add(1))),
+        Order::Drawn => model::record_at(drawn, i),
+        Order::Stride => model::record_at(list, words::remainder(plot::wide_product(i, 7919), n)),
     }
 }
 
@@ -81,18 +101,15 @@ fn enter_all(
     store: &mut [u32],
     list: &[u32],
     drawn: &[u32],
-    order: u32,
+    order: Order,
     tally: &mut [u64],
 )
     ensures { let l = list.now in
         let q = entered_from l drawn.now order (both store.old tally.old) 0 (word l 0) in
         (store.new ≡ q.store) × (tally.new ≡ q.tally) }
 {
-    let n = model::size(list);
-    let mut i: u32 = 0;
-    while i < n {
+    for i in 0..model::size(list) {
         enter(rt, store, record_in(list, drawn, order, i), tally);
-        i += 1;
     }
 }
 
@@ -103,7 +120,7 @@ pub fn fill_store(
     list: &[u32],
     drawn: &[u32],
     setting: Setting,
-    order: u32,
+    order: Order,
     tally: &mut [u64],
 ) -> u32
     ensures { let p = both store.old tally.old in
@@ -111,7 +128,7 @@ pub fn fill_store(
         (result ≡ q.size) × (store.new ≡ q.played.store) × (tally.new ≡ q.played.tally) }
 {
     let size = sets::prepare(store, setting);
-    report::hold(rt, tally, size > 0, b"the store is set up");
+    report::hold(rt, tally, size > 0, "the store is set up");
     enter_all(rt, store, list, drawn, order, tally);
     size
 }
@@ -126,7 +143,7 @@ fn compare(rt: &impl Print, first: &[u32], store: &mut [u32], list: &[u32], tall
         rt,
         tally,
         twins::same_tree(first, store),
-        b"the trees are the same",
+        "the trees are the same",
     );
 }
 
@@ -144,11 +161,9 @@ fn other_orders(
         let q = ordered_from first.now list.now drawn.now setting p 1 3 in
         (store.new ≡ q.store) × (tally.new ≡ q.tally) }
 {
-    let mut order: u32 = 1;
-    while order < 4 {
-        fill_store(rt, store, list, drawn, setting, order, tally);
+    for order in 1..4u32 {
+        fill_store(rt, store, list, drawn, setting, Order::from(order), tally);
         compare(rt, first, store, list, tally);
-        order += 1;
     }
 }
 
@@ -163,7 +178,7 @@ fn set_of(
     tally: &mut [u64],
 ) {
     draw_set(list, drawn, setting);
-    fill_store(rt, first, list, drawn, setting, 0, tally);
+    fill_store(rt, first, list, drawn, setting, Order::Ascending, tally);
     sets::parts(rt, first, list, 1023, tally);
     other_orders(rt, first, store, list, drawn, setting, tally);
 }
@@ -181,10 +196,8 @@ fn sets_of(
     drawn: &mut [u32],
     tally: &mut [u64],
 ) {
-    let mut i: usize = 0;
-    while i < 16 {
+    for i in 0..SETTINGS.len() {
         set_of(rt, first, store, list, drawn, setting_at(i), tally);
-        i += 1;
     }
 }
 
@@ -198,5 +211,5 @@ pub fn run(
 ) {
     report::start(tally, 3);
     sets_of(rt, first, store, list, drawn, tally);
-    report::finish(rt, tally, b"orders of entry");
+    report::finish(rt, tally, "orders of entry");
 }

@@ -2,14 +2,37 @@
 ghost use Rattle.std.specs.Prelude.{◌≡◌, [], ◌∷◌, ◌%◌, ◌^◌};
 ghost use Rattle.harness.specs.Calls.{ran_of, reply_to};
 ghost use Rattle.harness.specs.Script.{both};
-ghost use Rattle.groups.specs.Sets.{setting_of, joined_in, booked_in, accepted_in, entered_in, set_up_call, part_in, part_of, read_in, parts_of};
+ghost use Rattle.groups.specs.Sets.{pattern_of, setting_of, joined_in, booked_in, accepted_in, entered_in, set_up_call, part_in, part_of, read_in, parts_of};
 ghost use Rattle.groups.specs.Sets.{all_parts};
 
-use harness::calls::{Call, Reply};
+use harness::calls::{Call, Kind, Reply};
 use harness::{calls, random, report, script};
 use plot::Record;
 use raw::words;
 use store::{to_index, widen, word};
+
+// How keys are drawn: anywhere, in bursts of neighbours, with long common prefixes, at the ends of stretches.
+#[derive(Clone, Copy)]
+pub enum Pattern {
+    Uniform,
+    Bursts,
+    Prefixes,
+    Extremes,
+}
+
+impl From<u32> for Pattern {
+    ghost from_gives = { λ n p. p ≡ pattern_of n };
+
+    // The pattern with a number of a table.
+    fn from(number: u32) -> Pattern {
+        match number {
+            0 => Pattern::Uniform,
+            1 => Pattern::Bursts,
+            2 => Pattern::Prefixes,
+            _ => Pattern::Extremes,
+        }
+    }
+}
 
 // A store and the set that is entered: θ, C, N, P, how keys are drawn, how many records, the seed.
 #[derive(Clone, Copy)]
@@ -18,7 +41,7 @@ pub struct Setting {
     pub capacity: u32,
     pub nodes: u32,
     pub pages: u32,
-    pub pattern: u32,
+    pub pattern: Pattern,
     pub records: u32,
     pub seed: u32,
 }
@@ -68,7 +91,7 @@ pub fn setting_of(rows: &[[u32; 10]], i: usize) -> Setting
         capacity: script::cell(rows, i, 1),
         nodes: script::cell(rows, i, 2),
         pages: script::cell(rows, i, 3),
-        pattern: script::cell(rows, i, 4),
+        pattern: Pattern::from(script::cell(rows, i, 4)),
         records: script::cell(rows, i, 5),
         seed: words::low(1000 * (i % 1000) as u64),
     }
@@ -76,27 +99,29 @@ pub fn setting_of(rows: &[[u32; 10]], i: usize) -> Setting
 
 // A power of two, or a number beside it: the ends of stretches.
 fn extreme(n: u32) -> u32 {
-    words::low(words::sum64(stretches::width(n / 3 % 33), widen(n % 3) + 4294967295))
+    words::low(stretches::width(n / 3 % 33))
+        .wrapping_add(n % 3)
+        .wrapping_sub(1)
 }
 
-// The key at a place: 0 uniform, 1 bursts of neighbours, 2 long common prefixes, 3 extremes.
-fn key_at(pattern: u32, seed: u32, i: u32) -> u32 {
+// The key at a place.
+fn key_at(pattern: Pattern, seed: u32, i: u32) -> u32 {
     let x = random::draw(seed, i);
     match pattern {
-        0 => x,
-        1 => words::low(widen(random::draw(seed, i / 12)) + widen(i % 12)),
-        2 => random::draw(seed, 70000 + i / 40)
-            ^ (x >> (random::draw(seed, words::sum(i, 80000)) % 32)),
-        _ => extreme(x),
+        Pattern::Uniform => x,
+        Pattern::Bursts => random::draw(seed, i / 12).wrapping_add(i % 12),
+        Pattern::Prefixes => random::draw(seed, 70000 + i / 40)
+            ^ (x >> (random::draw(seed, i.saturating_add(80000)) % 32)),
+        Pattern::Extremes => extreme(x),
     }
 }
 
 // Prices and terms: some perpetual, ended or with equal last days, a few outside their limits.
-pub fn record_at(pattern: u32, seed: u32, i: u32) -> Record {
+pub fn record_at(pattern: Pattern, seed: u32, i: u32) -> Record {
     let key = key_at(pattern, seed, i);
-    let price = random::draw(seed, words::sum(i, 10000));
-    let days = random::draw(seed, words::sum(i, 20000));
-    let kind = random::below(seed, words::sum(i, 30000), 16);
+    let price = random::draw(seed, i.saturating_add(10000));
+    let days = random::draw(seed, i.saturating_add(20000));
+    let kind = random::below(seed, i.saturating_add(30000), 16);
     match kind {
         0 | 1 | 2 => calls::record(key, price, 0, 0),
         3 | 4 | 5 => calls::record(key, price, 1 + days % 36525, 61000),
@@ -111,7 +136,7 @@ pub fn record_at(pattern: u32, seed: u32, i: u32) -> Record {
 // The record of try i; one in eight tries repeats an earlier key.
 fn tried_at(setting: Setting, i: u32) -> Record {
     let seed = setting.seed;
-    if random::below(seed, words::sum(i, 40000), 8) == 0 {
+    if random::below(seed, i.saturating_add(40000), 8) == 0 {
         return record_at(setting.pattern, seed, i / 2);
     }
     record_at(setting.pattern, seed, i)
@@ -197,7 +222,7 @@ fn part_in(
         rt,
         tally,
         model::lists(list, call.a, out, words::low(reply.a)),
-        b"the records are listed",
+        "the records are listed",
     );
     words::low(reply.b)
 }
@@ -216,7 +241,7 @@ fn reading(rt: &impl Print, store: &mut [u32], list: &[u32], call: Call, tally: 
     ensures { let q = read_in list.now (both store.old tally.old) call in
         (store.new ≡ q.store) × (tally.new ≡ q.tally) }
 {
-    if call.kind == calls::RANGE {
+    if call.kind.is_range() {
         part(rt, store, list, call, tally);
         return;
     }
@@ -227,16 +252,17 @@ fn reading(rt: &impl Print, store: &mut [u32], list: &[u32], call: Call, tally: 
 // The reading j after an entry: finds and nexts at the key, beside it and elsewhere; ranges and summaries over windows.
 fn reading_at(key: u32, seed: u32, j: u32) -> Call {
     let x = random::draw(seed, j);
-    let y = random::draw(seed, words::sum(j, 1));
-    let near = words::low(widen(key) + widen(j / 2) + 4294967294);
+    let y = random::draw(seed, j.saturating_add(1));
+    let near = key.wrapping_add(j / 2).wrapping_sub(2);
+    let seek = if j % 2 == 0 { Kind::Find } else { Kind::Next };
     match j {
-        0..=7 => calls::ask(calls::FIND + j % 2, near, 0, 0, 0),
-        8 | 9 => calls::ask(calls::FIND + j % 2, x, 0, 0, 0),
-        10 => calls::ask(calls::RANGE, x, y, x % 64, 0),
-        11 => calls::ask(calls::RANGE, near, 4294967295, x % 12, 0),
-        12 => calls::ask(calls::SUMMARY, x, y, x % 100002, 0),
-        13 => calls::ask(calls::SUMMARY, 0, key, 60998 + x % 4, 0),
-        _ => calls::ask(calls::SUMMARY, 0, 4294967295, 60000, 0),
+        0..=7 => calls::ask(seek, near, 0, 0, 0),
+        8 | 9 => calls::ask(seek, x, 0, 0, 0),
+        10 => calls::ask(Kind::Range, x, y, x % 64, 0),
+        11 => calls::ask(Kind::Range, near, 4294967295, x % 12, 0),
+        12 => calls::ask(Kind::Summary, x, y, x % 100002, 0),
+        13 => calls::ask(Kind::Summary, 0, key, 60998 + x % 4, 0),
+        _ => calls::ask(Kind::Summary, 0, 4294967295, 60000, 0),
     }
 }
 
@@ -248,10 +274,8 @@ fn readings(
     seed: u32,
     tally: &mut [u64],
 ) {
-    let mut j: u32 = 0;
-    while j < 15 {
+    for j in 0..15u32 {
         reading(rt, store, list, reading_at(key, seed, j), tally);
-        j += 1;
     }
 }
 
@@ -272,7 +296,7 @@ fn try_at(
         store,
         list,
         record.key,
-        words::sum(setting.seed, i),
+        setting.seed.saturating_add(i),
         tally,
     );
 }
@@ -284,10 +308,8 @@ fn tries(
     setting: Setting,
     tally: &mut [u64],
 ) {
-    let mut i: u32 = 0;
-    while i < setting.records {
+    for i in 0..setting.records {
         try_at(rt, store, list, setting, i, tally);
-        i += 1;
     }
 }
 
@@ -297,21 +319,19 @@ pub fn parts(rt: &impl Print, store: &mut [u32], list: &[u32], room: u32, tally:
         (store.new ≡ q.store) × (tally.new ≡ q.tally) }
 {
     let mut low: u32 = 0;
-    let mut turn: u32 = 0;
-    while turn < 1024 {
+    for _turn in 0..1024u32 {
         low = part(
             rt,
             store,
             list,
-            calls::ask(calls::RANGE, low, 4294967295, room, 0),
+            calls::ask(Kind::Range, low, 4294967295, room, 0),
             tally,
         );
         if low == 0 {
             return;
         }
-        turn += 1;
     }
-    report::hold(rt, tally, false, b"the parts end");
+    report::hold(rt, tally, false, "the parts end");
 }
 
 // Sets a store up for a setting; the size, 0 if refused.
@@ -320,7 +340,7 @@ pub fn prepare(store: &mut [u32], setting: Setting) -> u32
         (result ≡ (reply_to (set_up_call setting) s (0 ∷ [])).a % 2 ^ 32) × (store.new ≡ (ran_of (set_up_call setting) s (0 ∷ [])).store) }
 {
     let call = calls::ask(
-        calls::SET_UP,
+        Kind::SetUp,
         setting.theta,
         setting.capacity,
         setting.nodes,
@@ -351,9 +371,9 @@ fn set_of(
         rt,
         tally,
         prepare(store, setting) > 0,
-        b"the store is set up",
+        "the store is set up",
     );
-    words::fill(list, 0);
+    list.fill(0);
     tries(rt, store, list, setting, tally);
     all_parts(rt, store, list, tally);
 }
@@ -364,15 +384,13 @@ fn setting_at(i: usize) -> Setting {
 }
 
 fn sets(rt: &impl Print, store: &mut [u32], list: &mut [u32], tally: &mut [u64]) {
-    let mut i: usize = 0;
-    while i < 32 {
+    for i in 0..SETTINGS.len() {
         set_of(rt, store, list, setting_at(i), tally);
-        i += 1;
     }
 }
 
 pub fn run(rt: &impl Print, store: &mut [u32], list: &mut [u32], tally: &mut [u64]) {
     report::start(tally, 2);
     sets(rt, store, list, tally);
-    report::finish(rt, tally, b"random sets");
+    report::finish(rt, tally, "random sets");
 }

@@ -5,56 +5,54 @@ use mathlib.Core.List.{List}
 use Prim.Native.Nat.{ℕ, ◌+◌, ◌-◌, ◌*◌, ◌%◌, ◌^◌, ◌≤◌, ◌<◌, min}
 use native.Mathlib.Omega.{arith}
 use lib.ListN.{length, replicate, get_or-eq_default}
-use borrow.Author.Tests.{eq-eqb, ne_eqb, le-leb, lt-leb, not-true, not-false}
-use Rattle.plot.specs.Label.{convert_reply}
+use borrow.Author.Tests.{eq-eqb, ne_eqb, not-true, not-false}
 use Rattle.store.specs.Head.{word}
-use Rattle.exports.specs.Reply.{key_values}
 use Rattle.raw.specs.Words.{written, alike, all_from}
 use Rattle.raw.specs.Blocks.{page_block}
+use Rattle.harness.specs.declared.calls.Kind.{Kind}
+use Rattle.harness.specs.declared.calls.Kind.TheVariants.{Convert}
 use Rattle.harness.specs.declared.calls.Call.{Call}
 use Rattle.harness.specs.declared.calls.Reply.{Reply}
 use Rattle.harness.specs.declared.calls.Outcome.{Outcome}
-use Rattle.harness.specs.Calls.{ran_plain, kinds, ran_of, reply_to, mark, marked, written_out, open_words, stays, kept, outcome}
+use Rattle.harness.specs.Calls.{first_kinds, kind_of, is_range, writes, ran_of, reply_to, mark, marked, written_out, open_words, stays, kept, outcome}
 
--- a kind that is none of the list's, and one past the list converts a key
+-- a number past those of the other kinds
 pub above : {k : ℕ} (n : ℕ) → n ≤ k → (k ≡ n → ⊥) → n + 1 ≤ k
 above n l e = omega (arith, l, e)
 
-pub converts : (c : Call) (s out : List ℕ) → 9 ≤ c.kind
-    → ran_of c s out ≡ ran_plain (convert_reply c.a).number (key_values (convert_reply c.a)) s out
-unfolding ran_of kinds
-converts c s out h = get_or-eq_default (kinds c s out) _ h
+pub converts : (n : ℕ) → 9 ≤ n → Convert ≡ kind_of n
+converts n h = sym (get_or-eq_default first_kinds Convert h)
 
 -- the words that a call may write
-module _ {kind : ℕ} (r : Reply) where
-  pub written_other : (kind ≡ 4 → ⊥) → 0 ≡ written_out kind r
+module _ (kind : Kind) (r : Reply) {b : Bool} (eb : b ≡ is_range kind) where
+  pub written_other : not b ≡ true → 0 ≡ written_out kind r
   unfolding written_out
-  written_other k = rw (ne_eqb _ _ k, written_out) refl
+  written_other k = rw (sym eb ∙ not-true _ k, written_out) refl
 
-  pub written_refused : kind ≡ 4 → (r.number ≡ 0 → ⊥) → 0 ≡ written_out kind r
+  pub written_refused : not b ≡ false → (r.number ≡ 0 → ⊥) → 0 ≡ written_out kind r
   unfolding written_out
-  written_refused k n = rw (eq-eqb _ _ k, ne_eqb _ _ n, written_out) refl
+  written_refused k n = rw (sym eb ∙ not-false _ k, ne_eqb _ _ n, written_out) refl
 
-  pub written_range : {x y : ℕ} → kind ≡ 4 → r.number ≡ 0 → x ≡ r.a % 2 ^ 32 → y ≡ x → 4 * y ≡ written_out kind r
+  pub written_range : {x y : ℕ} → not b ≡ false → r.number ≡ 0 → x ≡ r.a % 2 ^ 32 → y ≡ x → 4 * y ≡ written_out kind r
   unfolding written_out
-  written_range k n e f = rw (eq-eqb _ _ k, eq-eqb _ _ n, written_out) (ap (λ z. 4 * z) (f ∙ e))
+  written_range k n e f = rw (sym eb ∙ not-false _ k, eq-eqb _ _ n, written_out) (ap (λ z. 4 * z) (f ∙ e))
 
-module _ (s : List ℕ) {kind : ℕ} (n : ℕ) where
-  pub open_reading : 1 < kind → 0 ≡ open_words s kind n
+module _ (s : List ℕ) (kind : Kind) (n : ℕ) {b : Bool} (eb : b ≡ writes kind) where
+  pub open_reading : not b ≡ true → 0 ≡ open_words s kind n
   unfolding open_words
-  open_reading k = rw (lt-leb _ _ k, open_words) refl
+  open_reading k = rw (sym eb ∙ not-true _ k, open_words) refl
 
-  pub open_refused : kind ≤ 1 → (n ≡ 0 → ⊥) → 0 ≡ open_words s kind n
+  pub open_refused : not b ≡ false → (n ≡ 0 → ⊥) → 0 ≡ open_words s kind n
   unfolding open_words
-  open_refused k e = rw (le-leb _ _ k, ne_eqb _ _ e, open_words) refl
+  open_refused k e = rw (sym eb ∙ not-false _ k, ne_eqb _ _ e, open_words) refl
 
-  pub open_done : {x y z : ℕ} → kind ≤ 1 → n ≡ 0 → x ≡ word s 3 → y ≡ min (x + 1) (2 ^ 32 - 1) → z ≡ page_block s y
+  pub open_done : {x y z : ℕ} → not b ≡ false → n ≡ 0 → x ≡ word s 3 → y ≡ min (x + 1) (2 ^ 32 - 1) → z ≡ page_block s y
       → z ≡ open_words s kind n
   unfolding open_words
-  open_done k e x y z = rw (le-leb _ _ k, eq-eqb _ _ e, open_words) (z ∙ ap (page_block s) (y ∙ ap (λ x. min (x + 1) (2 ^ 32 - 1)) x))
+  open_done k e x y z = rw (sym eb ∙ not-false _ k, eq-eqb _ _ e, open_words) (z ∙ ap (page_block s) (y ∙ ap (λ x. min (x + 1) (2 ^ 32 - 1)) x))
 
 -- what stays
-module _ (s k out : List ℕ) (kind : ℕ) (r : Reply) {n : ℕ} (b : Bool) (w : n ≡ written_out kind r) (o : b ≡ all_from out n mark) where
+module _ (s k out : List ℕ) (kind : Kind) (r : Reply) {n : ℕ} (b : Bool) (w : n ≡ written_out kind r) (o : b ≡ all_from out n mark) where
   pub stays_not : not b ≡ true → false ≡ stays s k out kind r
   unfolding stays
   stays_not f = rw (sym w, sym o, not-true b f) refl

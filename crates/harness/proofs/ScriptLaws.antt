@@ -7,12 +7,13 @@ use lib.ListN.{length, set, get_or, take, drop, get_or-eq_default}
 use borrow.Author.Tests.{eq-eqb, ne_eqb, le-leb, lt-leb}
 use Rattle.store.specs.Head.{word}
 use Rattle.raw.proofs.Steps.{steps_first, steps_turn, steps_out}
+use Rattle.harness.specs.declared.calls.Kind.{Kind}
 use Rattle.harness.specs.declared.calls.Call.{Call}
 use Rattle.harness.specs.declared.calls.Reply.{Reply}
 use Rattle.harness.specs.declared.calls.Outcome.{Outcome}
-use Rattle.harness.specs.Calls.{marked, ran_of, outcome}
+use Rattle.harness.specs.Calls.{kind_of, marked, ran_of, outcome}
 use Rattle.harness.specs.Tally.{judged_outcome}
-use Rattle.harness.specs.Script.{cell_of, call_at, reply_at, Played, both, played_call, played, played_in}
+use Rattle.harness.specs.Script.{cell_of, call_at, reply_at, Played, both, played_call, played_row, played, played_in}
 
 -- a number of a row, and one past the last row
 pub cell_in : (rows : List (List ℕ)) (i j : ℕ) {r : ℕ} → r ≡ word (get_or rows i []) j → r ≡ cell_of rows i j
@@ -24,11 +25,11 @@ unfolding cell_of
 cell_past rows i j h = sym (ap (λ row. word row j) (get_or-eq_default rows [] h))
 
 -- a call and a reply, number by number
-pub call_of : (rows : List (List ℕ)) (i : ℕ) {k a b c d : ℕ}
-    → k ≡ cell_of rows i 0 → a ≡ cell_of rows i 1 → b ≡ cell_of rows i 2 → c ≡ cell_of rows i 3 → d ≡ cell_of rows i 4
-    → ◌≡◌ {A = Call} (record { kind = k; a = a; b = b; c = c; d = d }) (call_at rows i)
+pub call_of : (rows : List (List ℕ)) (i : ℕ) {n a b c d : ℕ} {q : Kind} → n ≡ cell_of rows i 0 → q ≡ kind_of n
+    → a ≡ cell_of rows i 1 → b ≡ cell_of rows i 2 → c ≡ cell_of rows i 3 → d ≡ cell_of rows i 4
+    → ◌≡◌ {A = Call} (record { kind = q; a = a; b = b; c = c; d = d }) (call_at rows i)
 unfolding call_at
-call_of rows i k a b c d = rw (k, a, b, c, d)
+call_of rows i n k a b c d = rw (k, n, a, b, c, d)
 
 pub reply_of_lem : (rows : List (List ℕ)) (i : ℕ) {n a b c d : ℕ}
     → n ≡ cell_of rows i 5 → a ≡ cell_of rows i 6 → b ≡ cell_of rows i 7 → c ≡ cell_of rows i 8 → d ≡ cell_of rows i 9
@@ -36,23 +37,30 @@ pub reply_of_lem : (rows : List (List ℕ)) (i : ℕ) {n a b c d : ℕ}
 unfolding reply_at
 reply_of_lem rows i n a b c d = rw (n, a, b, c, d)
 
--- a call that writes a word, and one that is made
-pub call_poke : (s t : List ℕ) (c : Call) (x : Reply) {i : ℕ} {u : List ℕ}
-    → c.kind ≡ 9 → i ≡ c.a → u ≡ set s i c.b
-    → let p = played_call (both s t) c x in (u ≡ p.store) × (t ≡ p.tally)
-unfolding played_call
-call_poke s t c x e f w = rw (eq-eqb c.kind 9 e, played_call) (w ∙ ap (λ i. set s i c.b) f, refl)
-
-pub call_made : (s t : List ℕ) (c : Call) (x : Reply) {n : ℕ} {o : Outcome} {u v : List ℕ}
-    → (c.kind ≡ 9 → ⊥) → n ≡ c.c
+-- a call made
+pub call_made : (s t : List ℕ) (c : Call) (x : Reply) {n : ℕ} {o : Outcome} {u v : List ℕ} → n ≡ c.c
     → (o ≡ outcome c s (marked (min n 64))) × (u ≡ (ran_of c s (marked (min n 64))).store)
     → v ≡ judged_outcome t x o
     → let p = played_call (both s t) c x in (u ≡ p.store) × (v ≡ p.tally)
 unfolding played_call
-call_made s t c x d e w z =
+call_made s t c x e w z =
     let f = ap (λ n. marked (min n 64)) e in
-    rw (ne_eqb c.kind 9 d, played_call)
     (w.1 ∙ ap (λ out. (ran_of c s out).store) f, z ∙ ap (judged_outcome t x) (w.0 ∙ ap (outcome c s) f))
+
+-- a row that writes a word, and one that makes a call
+module _ (rows : List (List ℕ)) (s t : List ℕ) (i : ℕ) {k : ℕ} {u : List ℕ} (ek : k ≡ cell_of rows i 0) where
+  pub row_poke : {a n x : ℕ} → k ≡ 9 → a ≡ cell_of rows i 1 → n ≡ a → x ≡ cell_of rows i 2 → u ≡ set s n x
+      → let p = played_row rows (both s t) i in (u ≡ p.store) × (t ≡ p.tally)
+  unfolding played_row
+  row_poke e ea en ex w = rw (eq-eqb (cell_of rows i 0) 9 (sym ek ∙ e), played_row) (w ∙ ap₂ (set s) (en ∙ ea) ex, refl)
+
+  pub row_call : {c : Call} {x : Reply} {v : List ℕ} → (k ≡ 9 → ⊥) → c ≡ call_at rows i → x ≡ reply_at rows i
+      → (u ≡ (played_call (both s t) c x).store) × (v ≡ (played_call (both s t) c x).tally)
+      → let p = played_row rows (both s t) i in (u ≡ p.store) × (v ≡ p.tally)
+  unfolding played_row
+  row_call d ec ex w =
+      let f = ap₂ (played_call (both s t)) ec ex in
+      rw (ne_eqb (cell_of rows i 0) 9 (λ z. d (ek ∙ z)), played_row) (w.0 ∙ ap (λ q. q.store) f, w.1 ∙ ap (λ q. q.tally) f)
 
 -- what a loop holds is the whole
 pub whole : {s t : List ℕ} {q : Played} → both s t ≡ q → (s ≡ q.store) × (t ≡ q.tally)
@@ -63,13 +71,12 @@ pub played_first : (rows : List (List ℕ)) (p : Played) → played rows p 0 (le
 unfolding played
 played_first rows p = steps_first _ p (length rows)
 
-pub played_turn : (rows : List (List ℕ)) (s t : List ℕ) (i : ℕ) {u v : List ℕ} {c : Call} {x : Reply} {q : Played}
-    → i < length rows → played rows (both s t) i (length rows - i) ≡ q → c ≡ call_at rows i → x ≡ reply_at rows i
-    → (u ≡ (played_call (both s t) c x).store) × (v ≡ (played_call (both s t) c x).tally)
+pub played_turn : (rows : List (List ℕ)) (s t : List ℕ) (i : ℕ) {u v : List ℕ} {q : Played}
+    → i < length rows → played rows (both s t) i (length rows - i) ≡ q
+    → (u ≡ (played_row rows (both s t) i).store) × (v ≡ (played_row rows (both s t) i).tally)
     → played rows (both u v) (i + 1) (length rows - (i + 1)) ≡ q
 unfolding played
-played_turn rows s t i h e f g w =
-    steps_turn _ (both s t) i (length rows) e h (ap₂ both w.0 w.1 ∙ ap₂ (played_call (both s t)) f g)
+played_turn rows s t i h e w = steps_turn _ (both s t) i (length rows) e h (ap₂ both w.0 w.1)
 
 pub played_out : (rows : List (List ℕ)) (i : ℕ) {s t : List ℕ} {q : Played} → played rows (both s t) i (length rows - i) ≡ q
     → length rows ≤ i → (s ≡ q.store) × (t ≡ q.tally)

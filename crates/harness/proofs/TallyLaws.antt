@@ -1,36 +1,33 @@
 -- What a tally holds, by the tests that the code has made.
 use mathlib.Core.Path.{◌≡◌, sym, ap, ◌∙◌}
-use mathlib.Core.Bool.{Bool, true, false}
+use mathlib.Core.Bool.{Bool, true, false, not}
 use mathlib.Core.List.{List}
-use Prim.Native.Nat.{ℕ, ◌+◌, ◌-◌, ◌^◌, ◌≤◌, ◌<◌}
+use Prim.Native.Nat.{ℕ, ◌+◌, ◌-◌, ◌^◌, ◌≤◌, ◌<◌, min}
+use native.Mathlib.Decide.{dec_lt}
 use native.Mathlib.Omega.{arith}
 use lib.Dec.{leb}
-use lib.ListN.{length, set}
-use borrow.Author.Tests.{lt-ltb, le-ltb, le-leb, lt-leb}
+use lib.ListN.{set}
+use Rattle.std.proofs.lemmas.List.{set-get_or}
+use borrow.Author.Tests.{lt-ltb, le-ltb, le-leb, lt-leb, not-true, not-false}
 use Rattle.store.specs.Head.{word}
-use Rattle.raw.specs.Words.{written}
-use Rattle.raw.proofs.Laws.{written_all}
 use Rattle.harness.specs.declared.calls.Reply.{Reply}
 use Rattle.harness.specs.declared.calls.Outcome.{Outcome}
 use Rattle.harness.specs.Calls.{same_reply}
-use Rattle.harness.specs.Tally.{counted, answer_place, started, tried, compared, judged, judged_outcome}
+use Rattle.harness.specs.Tally.{counted, answer_place, tried, compared, judged, judged_outcome}
 
--- a count below its top, and one at its top
-pub counted_more : (t : List ℕ) (i : ℕ) {n : ℕ} {u : List ℕ} → n ≡ word t i → n < 2 ^ 64 - 1 → u ≡ set t i (n + 1)
-    → u ≡ counted t i
+-- a count with one more, and one at its top
+pub counted_set : (t : List ℕ) (i : ℕ) {n m : ℕ} {u : List ℕ} → n ≡ word t i → n < 2 ^ 64 → m ≡ min (n + 1) (2 ^ 64 - 1)
+    → u ≡ set t i m → u ≡ counted t i
 unfolding counted
-counted_more t i e h w =
-    w ∙ ap (λ m. set t i (m + 1)) e ∙ rw (lt-ltb (word t i) (2 ^ 64 - 1) (omega (arith, e)), counted)
-
-pub counted_full : (t : List ℕ) (i : ℕ) {n : ℕ} → n ≡ word t i → 2 ^ 64 - 1 ≤ n → t ≡ counted t i
-unfolding counted
-counted_full t i e h = rw (le-ltb (word t i) (2 ^ 64 - 1) (omega (arith, e)), counted)
-
--- every count is 0, and the group's number is written
-pub started_all : (t : List ℕ) (group i : ℕ) {s u : List ℕ} → length t ≤ i → s ≡ written (λ _. 0) t i → u ≡ set s 0 group
-    → u ≡ started t group
-unfolding started
-started_all t group i h e w = w ∙ ap (λ l. set l 0 group) (e ∙ written_all 0 t i h)
+counted_set t i {n} {m} e r h w =
+    elim (dec_lt n (2 ^ 64 - 1)) [
+      | yes l ↦
+          let more : m ≡ word t i + 1 = omega arith in
+          w ∙ ap (set t i) more ∙ rw (lt-ltb (word t i) (2 ^ 64 - 1) (omega (arith, e)), counted)
+      | no l ↦
+          let same : m ≡ word t i = omega arith in
+          w ∙ ap (set t i) same ∙ set-get_or t i 0 ∙ rw (le-ltb (word t i) (2 ^ 64 - 1) (omega (arith, e)), counted)
+    ]
 
 -- whether a failure is printed, by the count of the failures
 module _ (t : List ℕ) {u : List ℕ} {n : ℕ} (w : u ≡ counted t 2) (e : n ≡ word u 2) where
@@ -54,9 +51,14 @@ unfolding tried
 tried_failed t holds e w z = rw e (z ∙ ap (λ l. counted l 2) w)
 
 -- what a trial tries
-pub compared_tried : (t : List ℕ) (x y : Reply) {b : Bool} {u : List ℕ} → b ≡ same_reply x y → u ≡ tried t b → u ≡ compared t x y
-unfolding compared
-compared_tried t x y e w = w ∙ ap (tried t) e
+module _ (t : List ℕ) (x y : Reply) {d : Bool} {u : List ℕ} (ed : d ≡ not (same_reply x y)) (eu : u ≡ counted t 1) where
+  pub compared_same : d ≡ false → u ≡ compared t x y
+  unfolding compared
+  compared_same e = tried_held t (same_reply x y) (not-false _ (sym ed ∙ e)) eu
+
+  pub compared_other : {v : List ℕ} → d ≡ true → v ≡ counted u 2 → v ≡ compared t x y
+  unfolding compared
+  compared_other e ev = tried_failed t (same_reply x y) (not-true _ (sym ed ∙ e)) eu ev
 
 pub judged_compared : (t : List ℕ) (x y : Reply) {i : ℕ} {u v : List ℕ}
     → i ≡ answer_place y.number → u ≡ counted t i → v ≡ compared u x y → v ≡ judged t x y

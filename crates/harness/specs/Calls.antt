@@ -7,8 +7,10 @@
 --   values_in a, output_after out a == the values of an answer, and the output after it
 --   Ran           == an answer's number and values, and the words of the store and of the output after it
 --   ran_on q s out, ran_plain n vs s out == the call q on a store; an answer that has no store
---   kinds c s out == the calls that the numbers c may stand for, by their kind
---   ran_of c s out == the call that they stand for; a kind past the list converts a key
+--   first_kinds    == the kinds with the numbers 0 to 8 of a table
+--   kind_of n      == the kind with a number; any number past those converts a key
+--   is_range k, writes k == a call of the kind writes records to its output; may write the store
+--   ran_of c s out == a call made
 --   reply_to c s out == its reply
 --   mark, marked n == what the words of an output hold before a call; an output of n words
 --   written_out kind r == the words of the output that a call has written
@@ -16,7 +18,7 @@
 --   stays s kept out kind r == no word has changed but those that the call may write
 --   kept s        == the words of a store, kept: at most 16,384
 --   outcome c s out == the reply, and whether those words have stayed
-use Rattle.std.specs.Prelude.{Bool, true, false, ◌&&◌, List, [], ◌∷◌, ℕ, ◌+◌, ◌-◌, ◌*◌, ◌%◌, ◌^◌, min, eqb, leb, length, get_or, replicate}
+use Rattle.std.specs.Prelude.{Bool, true, false, ◌&&◌, List, [], ◌∷◌, ℕ, ◌+◌, ◌-◌, ◌*◌, ◌%◌, ◌^◌, min, eqb, length, get_or, replicate}
 use Rattle.plot.specs.declared.Record.{Record}
 use Rattle.plot.specs.Money.{balance_reply}
 use Rattle.plot.specs.Label.{key_of_reply, label_of_reply, convert_reply}
@@ -27,6 +29,8 @@ use Rattle.exports.specs.Reply.{filled, size_values, enter_values, record_values
 use Rattle.exports.specs.Reply.{balance_values, key_values, label_values}
 use Rattle.raw.specs.Words.{written, alike, all_from}
 use Rattle.raw.specs.Blocks.{page_block}
+use Rattle.harness.specs.declared.calls.Kind.{Kind}
+use Rattle.harness.specs.declared.calls.Kind.TheVariants.{SetUp, Enter, Find, Next, Range, Summary, Balance, KeyOf, LabelOf, Convert}
 use Rattle.harness.specs.declared.calls.Call.{Call}
 use Rattle.harness.specs.declared.calls.Reply.{Reply}
 use Rattle.harness.specs.declared.calls.Outcome.{Outcome}
@@ -41,13 +45,13 @@ abbrev pub held_reply : Record → Reply
 held_reply r = given r.key r.price r.lease r.last
 
 unfoldable pub same_reply : Reply → Reply → Bool
-same_reply x y = eqb x.number y.number && eqb x.a y.a && eqb x.b y.b && eqb x.c y.c && eqb x.d y.d
+same_reply x y = eqb x.number y.number && (eqb x.a y.a && (eqb x.b y.b && (eqb x.c y.c && eqb x.d y.d)))
 
 abbrev pub record_of : Call → Record
 record_of c = record { key = c.a; price = c.b; lease = c.c; last = c.d }
 
 abbrev pub entry_of : Record → Call
-entry_of r = record { kind = 1; a = r.key; b = r.price; c = r.lease; d = r.last }
+entry_of r = record { kind = Enter; a = r.key; b = r.price; c = r.lease; d = r.last }
 
 unfoldable pub reply_of : ℕ → List ℕ → Reply
 reply_of n vs =
@@ -82,26 +86,39 @@ ran_on q s out =
 abbrev pub ran_plain : ℕ → List ℕ → List ℕ → List ℕ → Ran
 ran_plain n vs s out = record { number = n; values = vs; store = s; out = out }
 
-unfoldable pub kinds : Call → List ℕ → List ℕ → List Ran
-kinds c s out =
-    let balance = balance_reply c.a c.b c.c c.d in
-    let key = key_of_reply (record { section = c.a; row = c.b; place = c.c; letter = c.d }) in
-    let label = label_of_reply c.a in
-    ran_on (set_up c.a c.b c.c c.d) s out
-    ∷ ran_on (enter (record { key = c.a; price = c.b; lease = c.c; last = c.d })) s out
-    ∷ ran_on (find c.a) s out
-    ∷ ran_on (next c.a) s out
-    ∷ ran_on (range c.a c.b out) s out
-    ∷ ran_on (summary c.a c.b c.c) s out
-    ∷ ran_plain balance.number (balance_values balance) s out
-    ∷ ran_plain key.number (key_values key) s out
-    ∷ ran_plain label.number (label_values label) s out
-    ∷ []
+abbrev pub first_kinds : List Kind
+first_kinds = SetUp ∷ Enter ∷ Find ∷ Next ∷ Range ∷ Summary ∷ Balance ∷ KeyOf ∷ LabelOf ∷ []
+
+abbrev pub kind_of : ℕ → Kind
+kind_of n = get_or first_kinds n Convert
+
+abbrev pub is_range : Kind → Bool
+is_range Range = true
+is_range _ = false
+
+abbrev pub writes : Kind → Bool
+writes SetUp = true
+writes Enter = true
+writes _ = false
 
 unfoldable pub ran_of : Call → List ℕ → List ℕ → Ran
 ran_of c s out =
+    let balance = balance_reply c.a c.b c.c c.d in
+    let key = key_of_reply (record { section = c.a; row = c.b; place = c.c; letter = c.d }) in
+    let label = label_of_reply c.a in
     let converted = convert_reply c.a in
-    get_or (kinds c s out) c.kind (ran_plain converted.number (key_values converted) s out)
+    elim c.kind [
+      | SetUp ↦ ran_on (set_up c.a c.b c.c c.d) s out
+      | Enter ↦ ran_on (enter (record { key = c.a; price = c.b; lease = c.c; last = c.d })) s out
+      | Find ↦ ran_on (find c.a) s out
+      | Next ↦ ran_on (next c.a) s out
+      | Range ↦ ran_on (range c.a c.b out) s out
+      | Summary ↦ ran_on (summary c.a c.b c.c) s out
+      | Balance ↦ ran_plain balance.number (balance_values balance) s out
+      | KeyOf ↦ ran_plain key.number (key_values key) s out
+      | LabelOf ↦ ran_plain label.number (label_values label) s out
+      | Convert ↦ ran_plain converted.number (key_values converted) s out
+    ]
 
 unfoldable pub reply_to : Call → List ℕ → List ℕ → Reply
 reply_to c s out = let a = ran_of c s out in reply_of a.number a.values
@@ -112,13 +129,13 @@ mark = 4277009102
 unfoldable pub marked : ℕ → List ℕ
 marked n = replicate n mark
 
-unfoldable pub written_out : ℕ → Reply → ℕ
-written_out kind r = elim (eqb kind 4 && eqb r.number 0) [ true ↦ 4 * (r.a % 2 ^ 32) | false ↦ 0 ]
+unfoldable pub written_out : Kind → Reply → ℕ
+written_out kind r = elim (is_range kind && eqb r.number 0) [ true ↦ 4 * (r.a % 2 ^ 32) | false ↦ 0 ]
 
-unfoldable pub open_words : List ℕ → ℕ → ℕ → ℕ
-open_words s kind n = elim (leb kind 1 && eqb n 0) [ true ↦ page_block s (min (word s 3 + 1) (2 ^ 32 - 1)) | false ↦ 0 ]
+unfoldable pub open_words : List ℕ → Kind → ℕ → ℕ
+open_words s kind n = elim (writes kind && eqb n 0) [ true ↦ page_block s (min (word s 3 + 1) (2 ^ 32 - 1)) | false ↦ 0 ]
 
-unfoldable pub stays : List ℕ → List ℕ → List ℕ → ℕ → Reply → Bool
+unfoldable pub stays : List ℕ → List ℕ → List ℕ → Kind → Reply → Bool
 stays s kept out kind r =
     let from = open_words s kind r.number in
     all_from out (written_out kind r) mark && alike s from kept from (length s - from)

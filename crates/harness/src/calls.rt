@@ -1,52 +1,102 @@
 // A call of any public operation, and its reply, as plain numbers.
 ghost use Rattle.std.specs.Prelude.{◌≡◌, min, length};
 ghost use Rattle.exports.specs.Reply.{filled};
-ghost use Rattle.harness.specs.Calls.{refused, given, held_reply, same_reply, record_of, entry_of, ran_of, reply_to};
-ghost use Rattle.harness.specs.Calls.{marked, written_out, open_words, stays, outcome};
+ghost use Rattle.harness.specs.Calls.{refused, given, held_reply, record_of, entry_of, ran_of, reply_to};
+ghost use Rattle.harness.specs.Calls.{kind_of, is_range, writes, marked, written_out, open_words, stays, outcome};
 
 use plot::Record;
 use raw::{blocks, words};
+use std::fmt;
 use store::{to_index, word};
 
-// The kinds of calls. Any other number converts a key.
-pub const SET_UP: u32 = 0;
+// The kinds of calls.
+#[derive(Clone, Copy, PartialEq)]
+pub enum Kind {
+    SetUp,
+    Enter,
+    Find,
+    Next,
+    Range,
+    Summary,
+    Balance,
+    KeyOf,
+    LabelOf,
+    Convert,
+}
 
-pub const ENTER: u32 = 1;
+impl From<u32> for Kind {
+    ghost from_gives = { λ n k. k ≡ kind_of n };
 
-pub const FIND: u32 = 2;
+    // The kind with a number of a table; any number past the others converts a key.
+    fn from(number: u32) -> Kind {
+        match number {
+            0 => Kind::SetUp,
+            1 => Kind::Enter,
+            2 => Kind::Find,
+            3 => Kind::Next,
+            4 => Kind::Range,
+            5 => Kind::Summary,
+            6 => Kind::Balance,
+            7 => Kind::KeyOf,
+            8 => Kind::LabelOf,
+            _ => Kind::Convert,
+        }
+    }
+}
 
-pub const NEXT: u32 = 3;
+impl Kind {
+    // Whether a call writes records to its output.
+    pub fn is_range(self) -> bool
+        ensures { result ≡ is_range self }
+    {
+        match self {
+            Kind::Range => true,
+            _ => false,
+        }
+    }
 
-pub const RANGE: u32 = 4;
-
-pub const SUMMARY: u32 = 5;
-
-pub const BALANCE: u32 = 6;
-
-pub const KEY_OF: u32 = 7;
-
-pub const LABEL_OF: u32 = 8;
+    // Whether a call may write the store.
+    fn writes(self) -> bool
+        ensures { result ≡ writes self }
+    {
+        match self {
+            Kind::SetUp => true,
+            Kind::Enter => true,
+            _ => false,
+        }
+    }
+}
 
 // What the words of an output hold before a call.
 pub const MARK: u32 = 4277009102;
 
 #[derive(Clone, Copy)]
 pub struct Call {
-    pub kind: u32,
+    pub kind: Kind,
     pub a: u32,
     pub b: u32,
     pub c: u32,
     pub d: u32,
 }
 
-// The number of the answer, and the values with it: 0 where there is none.
-#[derive(Clone, Copy)]
+// The number of the answer, as C gets it, and the values with it: 0 where there is none.
+#[derive(Clone, Copy, PartialEq)]
 pub struct Reply {
     pub number: u32,
     pub a: u64,
     pub b: u64,
     pub c: u64,
     pub d: u64,
+}
+
+impl fmt::Display for Reply {
+    fn fmt<W: fmt::Write>(&self, f: &mut fmt::Formatter<W>) -> fmt::Result {
+        write!(
+            f,
+            "{} {} {} {} {}",
+            self.number, self.a, self.b, self.c, self.d
+        )
+    }
 }
 
 // A reply, and whether every word that the call may not change is as it was.
@@ -82,7 +132,8 @@ pub fn done(a: u64, b: u64, c: u64, d: u64) -> Reply
     }
 }
 
-pub fn ask(kind: u32, a: u32, b: u32, c: u32, d: u32) -> Call
+// A call by its values, on one line where many are written.
+pub fn ask(kind: Kind, a: u32, b: u32, c: u32, d: u32) -> Call
     ensures { result ≡ record { kind = kind; a = a; b = b; c = c; d = d } }
 {
     Call { kind, a, b, c, d }
@@ -107,24 +158,7 @@ pub fn held(plot: Record) -> Reply
     )
 }
 
-pub fn same(x: Reply, y: Reply) -> bool
-    ensures { result ≡ same_reply x y }
-{
-    if x.number != y.number {
-        return false;
-    }
-    if x.a != y.a {
-        return false;
-    }
-    if x.b != y.b {
-        return false;
-    }
-    if x.c != y.c {
-        return false;
-    }
-    x.d == y.d
-}
-
+// A record by its values, on one line where many are written.
 pub fn record(key: u32, price: u32, lease: u32, last: u32) -> Record
     ensures { result ≡ record { key = key; price = price; lease = lease; last = last } }
 {
@@ -147,7 +181,7 @@ pub fn record_of(call: Call) -> Record
 pub fn entry(plot: Record) -> Call
     ensures { result ≡ entry_of plot }
 {
-    ask(ENTER, plot.key, plot.price, plot.lease, plot.last)
+    ask(Kind::Enter, plot.key, plot.price, plot.lease, plot.last)
 }
 
 // Makes a call: the answer's number, and its values in `values`.
@@ -156,18 +190,17 @@ fn call_with(store: &mut [u32], out: &mut [u32], call: Call, values: &mut [u64])
         (result ≡ a.number) × (store.new ≡ a.store) × (out.new ≡ a.out)
         × (values.new ≡ filled a.values values.old) }
 {
-    let kind = call.kind;
-    match kind {
-        SET_UP => exports::plots_set_up(store, call.a, call.b, call.c, call.d, values),
-        ENTER => exports::plots_enter(store, call.a, call.b, call.c, call.d, values),
-        FIND => exports::plots_find(store, call.a, values),
-        NEXT => exports::plots_next(store, call.a, values),
-        RANGE => exports::plots_range(store, call.a, call.b, out, values),
-        SUMMARY => exports::plots_summary(store, call.a, call.b, call.c, values),
-        BALANCE => exports::plots_balance(call.a, call.b, call.c, call.d, values),
-        KEY_OF => exports::plots_key_of(call.a, call.b, call.c, call.d, values),
-        LABEL_OF => exports::plots_label_of(call.a, values),
-        _ => exports::plots_convert(call.a, values),
+    match call.kind {
+        Kind::SetUp => exports::plots_set_up(store, call.a, call.b, call.c, call.d, values),
+        Kind::Enter => exports::plots_enter(store, call.a, call.b, call.c, call.d, values),
+        Kind::Find => exports::plots_find(store, call.a, values),
+        Kind::Next => exports::plots_next(store, call.a, values),
+        Kind::Range => exports::plots_range(store, call.a, call.b, out, values),
+        Kind::Summary => exports::plots_summary(store, call.a, call.b, call.c, values),
+        Kind::Balance => exports::plots_balance(call.a, call.b, call.c, call.d, values),
+        Kind::KeyOf => exports::plots_key_of(call.a, call.b, call.c, call.d, values),
+        Kind::LabelOf => exports::plots_label_of(call.a, values),
+        Kind::Convert => exports::plots_convert(call.a, values),
     }
 }
 
@@ -188,10 +221,10 @@ pub fn reply_to(store: &mut [u32], out: &mut [u32], call: Call) -> Reply
 }
 
 // How many words of the output a call has written.
-fn written(kind: u32, reply: Reply) -> usize
+fn written(kind: Kind, reply: Reply) -> usize
     ensures { result ≡ written_out kind reply }
 {
-    if kind != RANGE {
+    if !kind.is_range() {
         return 0;
     }
     if reply.number != 0 {
@@ -201,27 +234,27 @@ fn written(kind: u32, reply: Reply) -> usize
 }
 
 // How many words of the store a call with this answer may change: the store's size, or none.
-fn open_words(store: &[u32], kind: u32, number: u32) -> usize
+fn open_words(store: &[u32], kind: Kind, number: u32) -> usize
     ensures { result ≡ open_words store.now kind number }
 {
-    if kind > ENTER {
+    if !kind.writes() {
         return 0;
     }
     if number != 0 {
         return 0;
     }
-    blocks::page_at(store, words::sum(word(store, 3), 1))
+    blocks::page_at(store, word(store, 3).saturating_add(1))
 }
 
 // Whether a call has left every word that it may not change.
-fn stayed(store: &[u32], kept: &[u32], out: &[u32], kind: u32, reply: Reply) -> bool
+fn stayed(store: &[u32], kept: &[u32], out: &[u32], kind: Kind, reply: Reply) -> bool
     ensures { result ≡ stays store.now kept.now out.now kind reply }
 {
     if !words::all_from(out, written(kind, reply), MARK) {
         return false;
     }
     let from = open_words(store, kind, reply.number);
-    words::same(store, from, kept, from, words::less(store.len(), from))
+    words::same(store, from, kept, from, store.len().saturating_sub(from))
 }
 
 // Makes a call with a marked output, and looks at every word that it may not change. A store has at most 16,384 words here.
@@ -231,7 +264,7 @@ pub fn watched(store: &mut [u32], out: &mut [u32], call: Call) -> Outcome
 {
     let mut kept = [0u32; 16384];
     words::copy(store, &mut kept, store.len());
-    words::fill(out, MARK);
+    out.fill(MARK);
     let reply = reply_to(store, out, call);
     Outcome {
         reply,
@@ -245,8 +278,5 @@ pub fn watched_in(store: &mut [u32], room: usize, call: Call) -> Outcome
         (result ≡ outcome call s o) × (store.new ≡ (ran_of call s o).store) }
 {
     let mut out = [0u32; 64];
-    if room < 64 {
-        return watched(store, &mut out[0..room], call);
-    }
-    watched(store, &mut out, call)
+    watched(store, &mut out[0..room.min(64)], call)
 }

@@ -1,8 +1,6 @@
 // Numbers that look random: each is made of a seed and a place, so no state is carried.
-use store::widen;
-
 fn scrambled(x: u32) -> u32 {
-    ((widen(x) * 2246822507 + 3266489909) % 4294967296) as u32
+    x.wrapping_mul(2246822507).wrapping_add(3266489909)
 }
 
 // The number at a place.
@@ -13,10 +11,7 @@ pub fn draw(seed: u32, i: u32) -> u32 {
     c ^ (c >> 16)
 }
 
-// The number at a place, cut to 0 .. n - 1.
+// The number at a place, cut to 0 .. n - 1; 0 where n is 0.
 pub fn below(seed: u32, i: u32, n: u32) -> u32 {
-    if n == 0 {
-        return 0;
-    }
-    draw(seed, i) % n
+    draw(seed, i).checked_rem(n).unwrap_or(0)
 }

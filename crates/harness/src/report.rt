@@ -4,9 +4,7 @@ ghost use Rattle.std.proofs.Math.ListN;
 ghost use Rattle.store.specs.Head.{word};
 ghost use Rattle.harness.specs.Tally.{counted, answer_place, started, tried, compared, judged, judged_outcome};
 
-use crate::calls;
 use crate::calls::{Outcome, Reply};
-use store::widen;
 
 // The places of a tally: the group's number, the trials, those that failed, the entries accepted, and from MET on the answers by their numbers.
 pub const GROUP: usize = 0;
@@ -21,14 +19,6 @@ pub const MET: usize = 4;
 
 // Failures that are printed of a group.
 const SHOWN: u64 = 10;
-
-fn say(rt: &impl Print, text: &[u8]) {
-    let _ = rt.write_all(text);
-}
-
-fn say_number(rt: &impl Print, n: u64) {
-    let _ = rt.print(n);
-}
 
 // A count of the tally.
 pub fn count(tally: &[u64], i: usize) -> u64
@@ -48,14 +38,11 @@ fn set(tally: &mut [u64], i: usize, value: u64)
     }
 }
 
-// Adds one to a count.
+// Adds one to a count; one at its top stays.
 pub fn add(tally: &mut [u64], i: usize)
     ensures { tally.new ≡ counted tally.old i }
 {
-    let n = count(tally, i);
-    if n < 18446744073709551615 {
-        set(tally, i, n + 1);
-    }
+    set(tally, i, count(tally, i).saturating_add(1));
 }
 
 fn answer_place(number: u32) -> usize
@@ -68,25 +55,8 @@ fn answer_place(number: u32) -> usize
 pub fn start(tally: &mut [u64], group: u64)
     ensures { tally.new ≡ started tally.old group }
 {
-    let mut i: usize = 0;
-    while i < tally.len() {
-        set(tally, i, 0);
-        i += 1;
-    }
+    tally.fill(0);
     set(tally, GROUP, group);
-}
-
-fn say_reply(rt: &impl Print, reply: Reply) {
-    say(rt, b" ");
-    say_number(rt, widen(reply.number));
-    say(rt, b" ");
-    say_number(rt, reply.a);
-    say(rt, b" ");
-    say_number(rt, reply.b);
-    say(rt, b" ");
-    say_number(rt, reply.c);
-    say(rt, b" ");
-    say_number(rt, reply.d);
 }
 
 // Counts a failure; whether it is to be printed, with the start of its line.
@@ -97,34 +67,22 @@ fn failure(rt: &impl Print, tally: &mut [u64]) -> bool
     if count(tally, FAILED) > SHOWN {
         return false;
     }
-    say(rt, b"  group ");
-    say_number(rt, count(tally, GROUP));
-    say(rt, b", trial ");
-    say_number(rt, count(tally, TRIED));
-    say(rt, b": ");
+    let group = count(tally, GROUP);
+    let trial = count(tally, TRIED);
+    let _ = print!(rt; "  group {group}, trial {trial}: ");
     true
 }
 
 // A trial of a fact.
-pub fn hold(rt: &impl Print, tally: &mut [u64], holds: bool, fact: &[u8])
+pub fn hold(rt: &impl Print, tally: &mut [u64], holds: bool, fact: &str)
     ensures { tally.new ≡ tried tally.old holds }
 {
     add(tally, TRIED);
     if !holds {
         if failure(rt, tally) {
-            say(rt, b"expected that ");
-            say(rt, fact);
-            say(rt, b", got that not\n");
+            let _ = println!(rt; "expected that {fact}, got that not");
         }
     }
-}
-
-fn say_difference(rt: &impl Print, expected: Reply, got: Reply) {
-    say(rt, b"expected");
-    say_reply(rt, expected);
-    say(rt, b", got");
-    say_reply(rt, got);
-    say(rt, b"\n");
 }
 
 // A trial of a value that is not a call's answer.
@@ -132,9 +90,9 @@ pub fn compare(rt: &impl Print, tally: &mut [u64], expected: Reply, got: Reply)
     ensures { tally.new ≡ compared tally.old expected got }
 {
     add(tally, TRIED);
-    if !calls::same(expected, got) {
+    if expected != got {
         if failure(rt, tally) {
-            say_difference(rt, expected, got);
+            let _ = println!(rt; "expected {expected}, got {got}");
         }
     }
 }
@@ -153,17 +111,14 @@ pub fn judge_outcome(rt: &impl Print, tally: &mut [u64], expected: Reply, got: O
 {
     let reply = got.reply;
     judge(rt, tally, expected, reply);
-    hold(rt, tally, got.kept, b"the words stay");
+    hold(rt, tally, got.kept, "the words stay");
 }
 
 // Prints how many answers had a number, if any.
 fn say_count(rt: &impl Print, tally: &[u64], number: u32) {
     let n = count(tally, answer_place(number));
     if n > 0 {
-        say(rt, b" ");
-        say_number(rt, widen(number));
-        say(rt, b":");
-        say_number(rt, n);
+        let _ = print!(rt; " {number}:{n}");
     }
 }
 
@@ -176,22 +131,18 @@ fn say_counts(rt: &impl Print, tally: &[u64]) {
 fn say_entries(rt: &impl Print, tally: &[u64]) {
     let n = count(tally, ENTRIES);
     if n > 0 {
-        say(rt, b", entries accepted ");
-        say_number(rt, n);
+        let _ = print!(rt; ", entries accepted {n}");
     }
 }
 
 // Prints a group's line.
-pub fn finish(rt: &impl Print, tally: &[u64], name: &[u8]) {
-    say_number(rt, count(tally, GROUP));
-    say(rt, b" ");
-    say(rt, name);
-    say(rt, b": tried ");
-    say_number(rt, count(tally, TRIED));
-    say(rt, b", failed ");
-    say_number(rt, count(tally, FAILED));
+pub fn finish(rt: &impl Print, tally: &[u64], name: &str) {
+    let group = count(tally, GROUP);
+    let tried = count(tally, TRIED);
+    let failed = count(tally, FAILED);
+    let _ = print!(rt; "{group} {name}: tried {tried}, failed {failed}");
     say_entries(rt, tally);
-    say(rt, b", answers");
+    let _ = print!(rt; ", answers");
     say_counts(rt, tally);
-    say(rt, b"\n");
+    let _ = println!(rt);
 }

@@ -1,13 +1,13 @@
-// Calls and the replies to them, written as tables.
+// Calls and the replies to them, written as tables. A row is ten numbers without names, so that it stays one line.
 ghost use Rattle.std.specs.Prelude.{◌≡◌, length};
-ghost use Rattle.harness.specs.Script.{both, cell_of, call_at, reply_at, played_call, played, played_in};
+ghost use Rattle.harness.specs.Script.{both, cell_of, call_at, reply_at, played_call, played_row, played, played_in};
 
-use crate::calls::{Call, Reply};
+use crate::calls::{Call, Kind, Reply};
 use crate::{calls, report};
 use raw::words;
 use store::{to_index, word};
 
-// A row that makes no call: the word at the first number gets the second.
+// The first number of a row that makes no call: the word at the second number gets the third.
 const POKE: u32 = 9;
 
 // A number of a table, 0 outside it.
@@ -25,7 +25,7 @@ pub fn call_at(rows: &[[u32; 10]], i: usize) -> Call
     ensures { result ≡ call_at rows.now i }
 {
     Call {
-        kind: cell(rows, i, 0),
+        kind: Kind::from(cell(rows, i, 0)),
         a: cell(rows, i, 1),
         b: cell(rows, i, 2),
         c: cell(rows, i, 3),
@@ -51,24 +51,30 @@ fn play_call(rt: &impl Print, store: &mut [u32], call: Call, expected: Reply, ta
     ensures { let p = played_call (both store.old tally.old) call expected in
         (store.new ≡ p.store) × (tally.new ≡ p.tally) }
 {
-    if call.kind == POKE {
-        words::put(store, to_index(call.a), call.b);
-        return;
-    }
     let outcome = calls::watched_in(store, to_index(call.c), call);
     report::judge_outcome(rt, tally, expected, outcome);
 }
 
-// Makes the calls of a table one after the other.
+// Makes the call of a row, or writes its word.
+fn play_row(rt: &impl Print, rows: &[[u32; 10]], i: usize, store: &mut [u32], tally: &mut [u64])
+    ensures { let p = played_row rows.now (both store.old tally.old) i in
+        (store.new ≡ p.store) × (tally.new ≡ p.tally) }
+{
+    if cell(rows, i, 0) == POKE {
+        words::put(store, to_index(cell(rows, i, 1)), cell(rows, i, 2));
+        return;
+    }
+    play_call(rt, store, call_at(rows, i), reply_at(rows, i), tally);
+}
+
+// Plays the rows of a table one after the other.
 pub fn play(rt: &impl Print, rows: &[[u32; 10]], store: &mut [u32], tally: &mut [u64])
     ensures { let rs = rows.now in
         let p = played rs (both store.old tally.old) 0 (length rs) in
         (store.new ≡ p.store) × (tally.new ≡ p.tally) }
 {
-    let mut i: usize = 0;
-    while i < rows.len() {
-        play_call(rt, store, call_at(rows, i), reply_at(rows, i), tally);
-        i += 1;
+    for i in 0..rows.len() {
+        play_row(rt, rows, i, store, tally);
     }
 }
 

@@ -3,16 +3,14 @@ use mathlib.Core.Path.{◌≡◌, refl, sym, ap, ◌∙◌}
 use mathlib.Core.Bool.{Bool, true, false, not}
 use mathlib.Core.List.{List, [], ◌∷◌, ◌++◌, append_assoc}
 use Prim.Native.Nat.{ℕ, zero, suc, ◌+◌, ◌-◌, ◌*◌, ◌≤◌, ◌<◌}
-use native.Mathlib.Numerals.{add-one}
 use native.Mathlib.Omega.{arith}
 use borrow.Author.Tests.{eq-eqb, ne_eqb}
 use lib.Dec.{eqb}
-use lib.ListN.{length, get_or, take, drop, set, replicate, length-append, length-drop}
-use lib.Seq.{length-take-le, take_at, drop_at, take-suc, get_or-drop}
+use lib.ListN.{length, get_or, take, drop, replicate, length-append, length-drop}
+use lib.Seq.{length-take-le, take_at, drop_at}
 use Rattle.lists.specs.Lists.{All, replaced}
 use Rattle.lists.specs.Keyed.{Sorted}
 use Rattle.lists.proofs.Shifts.{shares}
-use Rattle.lists.proofs.Parts.{replaced_none}
 use Rattle.lists.proofs.AppendLaws.{all_at}
 use Rattle.lists.proofs.ListLaws.{all_map, filter_true, filter_false}
 use Rattle.store.specs.declared.Format.{Format}
@@ -26,7 +24,7 @@ use Rattle.search.specs.Find.{no_item}
 use Rattle.represent.specs.Image.{page_image}
 use Rattle.represent.proofs.PageImage.{page_count_lem, page_key}
 use Rattle.put.specs.Put.{cut_to}
-use Rattle.put.proofs.WordLaws.{row, replaced_more}
+use Rattle.put.proofs.WordLaws.{row}
 use Rattle.put.proofs.PutLaws.{room_for, blank, length_low, length_high, image_sides}
 use Rattle.joins.specs.Joins.{without}
 use Rattle.merge.specs.Added.{added}
@@ -173,26 +171,13 @@ out_page f C pg rs i is lawful sorted h =
     let l : i < length rs = omega (arith, h, page_count_lem f C pg rs is) in
     ap (page_image f C) (sym (without_at key_of no_item rs i l sorted) ∙ ap (λ k. without key_of k rs) (sym (page_key f C pg rs is lawful i l)))
 
--- words of another list, copied one after another
-module _ (s : List ℕ) (at : ℕ) (o : List ℕ) (from : ℕ) where
-  pub in_none : s ≡ replaced at 0 (take 0 (drop from o)) s
-  in_none = sym (replaced_none at s)
-
-  pub in_turn_lem : (n j : ℕ) (t : List ℕ) → at + n ≤ length s → from + n ≤ length o → j < n → t ≡ replaced at j (take j (drop from o)) s
-      → set t (at + j) (get_or o (from + j) 0) ≡ replaced at (j + 1) (take (j + 1) (drop from o)) s
-  in_turn_lem n j t a b l e =
-      let room : j < length (drop from o) = omega (arith, length-drop from o) in
-      rw (e, add-one j)
-      (replaced_more at j (take j (drop from o)) (get_or o (from + j) 0) s (omega arith) (length-take-le j (drop from o) (omega (arith, room)))
-      ∙ ap (λ k. replaced at (suc j) k s) (sym (take-suc (drop from o) j 0 room ∙ ap (λ y. take j (drop from o) ++ y ∷ []) (get_or-drop from o j 0))))
-
 -- room for the words that are moved and copied
 module _ (f : Format) (C w L : ℕ) (is : w ≡ words f) (long : L ≡ page_words f C) where
-  pub room_out : (n i : ℕ) → i < n → n ≤ C → 1 + w * i + w + w * (n - 1 - i) ≤ L
-  room_out n i h l =
+  pub ends_out : (n i : ℕ) → i < n → n ≤ C → (1 + w * n ≡ 1 + w * i + w + w * (n - 1 - i)) × (1 + w * n ≤ L)
+  ends_out n i h l =
       let next : w * i + w ≡ w * suc i = omega arith in
       let less : n - 1 - i ≡ n - suc i = omega arith in
-      omega (arith, room_for f C w n L is long l, shares w (suc i) n (omega arith), next, ap (λ k. w * k) less)
+      (omega (arith, shares w (suc i) n (omega arith), next, ap (λ k. w * k) less), room_for f C w n L is long l)
 
   pub room_both : (n m : ℕ) → n + m ≤ C → 1 + w * n + w * m ≤ L
   room_both n m l = omega (arith, room_for f C w (n + m) L is long l)

@@ -2,8 +2,8 @@
 
 #![tactic(auto)]
 
-ghost use Rattle.std.specs.Prelude.{◌≡◌, true, List, ◌++◌, ◌+◌, ◌≤◌, ◌<◌, length, take, drop};
-ghost use Rattle.lists.specs.Lists.{All, replaced};
+ghost use Rattle.std.specs.Prelude.{◌≡◌, true, List, ◌+◌, ◌≤◌, ◌<◌, length};
+ghost use Rattle.lists.specs.Lists.{All};
 ghost use Rattle.lists.specs.Keyed.{Sorted};
 ghost use Rattle.store.specs.Head.{page_words};
 ghost use Rattle.page.specs.Page.{count, key_at, lawful_item};
@@ -14,18 +14,6 @@ ghost use Rattle.merge.specs.Added.{added};
 
 use store::{Format, Item};
 
-// Copies n words of another slice, from `from` on, to a part, from `at` on.
-fn copy_in(part: &mut [u32], at: usize, other: &[u32], from: usize, n: usize)
-    requires { (at + n ≤ length part.old) × (from + n ≤ length other.now) }
-    ensures { part.new ≡ replaced at n (take n (drop from other.now)) part.old }
-{
-    let mut j: usize = 0;
-    while j < n {
-        part[at + j] = other[from + j];
-        j += 1;
-    }
-}
-
 // Takes record i out of a page: the later ones move down, and the last place is cleared.
 pub fn take_out(part: &mut [u32], f: Format, capacity: u32, i: usize)
     requires { (length part.old ≡ page_words f capacity) × (count part.old ≤ capacity) × (i < count part.old) }
@@ -35,37 +23,8 @@ pub fn take_out(part: &mut [u32], f: Format, capacity: u32, i: usize)
     let n = page::count_of(part);
     let w = store::words_of(f);
     let at = 1 + w * i;
-    put::copy_words(part, at + w, at, w * (n - 1 - i));
+    part.copy_within(at + w..1 + w * n, at);
     put::cut_page(part, f, capacity, n - 1);
-}
-
-// Adds the records of another page behind those of a page.
-fn add_behind(part: &mut [u32], f: Format, capacity: u32, other: &[u32])
-    requires { (length part.old ≡ page_words f capacity) × (length other.now ≡ page_words f capacity)
-        × (count part.old + count other.now ≤ capacity) }
-    ensures { (rs its : List Item) → part.old ≡ page_image f capacity rs → other.now ≡ page_image f capacity its
-        → part.new ≡ page_image f capacity (rs ++ its) }
-{
-    let n = page::count_of(part);
-    let m = page::count_of(other);
-    let w = store::words_of(f);
-    copy_in(part, 1 + w * n, other, 1, w * m);
-    put::cut_page(part, f, capacity, n + m);
-}
-
-// Adds the records of another page in front of those of a page.
-fn add_before(part: &mut [u32], f: Format, capacity: u32, other: &[u32])
-    requires { (length part.old ≡ page_words f capacity) × (length other.now ≡ page_words f capacity)
-        × (count part.old + count other.now ≤ capacity) }
-    ensures { (rs its : List Item) → part.old ≡ page_image f capacity rs → other.now ≡ page_image f capacity its
-        → part.new ≡ page_image f capacity (its ++ rs) }
-{
-    let n = page::count_of(part);
-    let m = page::count_of(other);
-    let w = store::words_of(f);
-    put::move_up(part, 1, w * n, w * m);
-    copy_in(part, 1, other, 1, w * m);
-    put::cut_page(part, f, capacity, n + m);
 }
 
 // Adds the records of another page, in front or behind.
@@ -75,9 +34,14 @@ pub fn add_page(part: &mut [u32], f: Format, capacity: u32, other: &[u32], befor
     ensures { (rs its : List Item) → part.old ≡ page_image f capacity rs → other.now ≡ page_image f capacity its
         → part.new ≡ page_image f capacity (added before rs its) }
 {
+    let n = page::count_of(part);
+    let m = page::count_of(other);
+    let w = store::words_of(f);
+    let mut at = 1 + w * n;
     if before {
-        add_before(part, f, capacity, other);
-        return;
+        part.copy_within(1..at, 1 + w * m);
+        at = 1;
     }
-    add_behind(part, f, capacity, other);
+    part[at..at + w * m].copy_from_slice(&other[1..1 + w * m]);
+    put::cut_page(part, f, capacity, n + m);
 }

@@ -7,23 +7,24 @@ use native.Mathlib.Omega.{arith}
 use lib.Dec.{eqb, ltb, leb}
 use lib.ListN.{set}
 use borrow.Author.Tests.{eq-eqb, ne_eqb, lt-ltb, le-ltb, le-leb, lt-leb, ltb-true, leb-true}
-use Rattle.lists.specs.Lists.{every}
-use Rattle.lists.proofs.Tests.{every_at, same_test}
+use Rattle.std.specs.Prelude.{Option, Some, None, unwrap_or}
+use Rattle.std.specs.Option.{MatchOption}
+use Rattle.lists.proofs.Tests.{same_test}
 use Rattle.plot.specs.declared.Record.{Record}
 use Rattle.plot.specs.Plot.{is_word, lawful_day, lawful_term, lawful}
 use Rattle.plot.specs.Money.{days_left, amount}
 use Rattle.plot.proofs.Laws.{amount_quotient}
 use Rattle.store.specs.Head.{word}
 use Rattle.raw.specs.Words.{alike}
-use Rattle.raw.proofs.Laws.{tests_more}
 use Rattle.raw.proofs.Steps.{steps_turn, steps_out, first_arm, second_arm}
-use Rattle.harness.specs.declared.calls.Call.{Call}
+use Rattle.harness.specs.declared.calls.Kind.{Kind}
+use Rattle.harness.specs.declared.calls.Kind.TheVariants.{Find, Next, Range}
 use Rattle.harness.specs.declared.calls.Reply.{Reply}
 use Rattle.harness.specs.Calls.{refused, given, held_reply}
 use Rattle.model.specs.declared.Sheet.{Sheet}
 use Rattle.model.specs.Model.{place_of, record_at, with_record, leading, rank_of, rank_after, moved_up, moved_down, inserted, removed}
 use Rattle.model.specs.Model.{holds_key, found_in, next_in, between_of, range_in, ahead_of, added_to, no_sheet, sheet_from, summary_in}
-use Rattle.model.specs.Model.{model_reply, listed_in}
+use Rattle.model.specs.Model.{listed_in}
 
 -- a record, word by word
 module _ (s : List ℕ) (i : ℕ) {p : ℕ} (at : p ≡ place_of i) where
@@ -64,18 +65,17 @@ module _ (s : List ℕ) (k : ℕ) where
   abbrev pub below : ℕ → Bool
   below i = ltb (word s (place_of i)) k
 
-  module _ (i : ℕ) (h : every i below ≡ true) where
-    pub rank_more : {p w : ℕ} → p ≡ place_of i → w ≡ word s p → w < k → every (i + 1) below ≡ true
-    rank_more e f l = tests_more i below h (lt-ltb (word s (place_of i)) k (rw (← e, ← f) l))
-
-    pub rank_stop : {n p w : ℕ} → n ≡ word s 0 → i < n → p ≡ place_of i → w ≡ word s p → k ≤ w → i ≡ rank_of s k
-    unfolding rank_of
-    rank_stop m q e f l =
-        leading_stop (word s 0) below i (omega (arith, m)) (every_at i below h) (le-ltb (word s (place_of i)) k (rw (← e, ← f) l))
-
-    pub rank_all : {n : ℕ} → n ≡ word s 0 → n ≡ i → n ≡ rank_of s k
-    unfolding rank_of
-    rank_all m e = m ∙ leading_all (word s 0) below (λ j q. every_at i below h j (omega (arith, m, e)))
+  -- the first key that is not below k, if any
+  pub rank_found : (r : Option ℕ) {n : ℕ} → n ≡ word s 0
+      → MatchOption r ((i : ℕ) → 0 ≤ i → i < n → word s (place_of i) < k)
+      (λ i. (0 ≤ i) × (i < n) × (k ≤ word s (place_of i)) × ((j : ℕ) → 0 ≤ j → j < i → word s (place_of j) < k))
+      → unwrap_or r n ≡ rank_of s k
+  unfolding rank_of
+  rank_found None e h =
+      e ∙ leading_all (word s 0) below (λ i l. lt-ltb (word s (place_of i)) k (h i (omega arith) (omega (arith, e))))
+  rank_found (Some i) e h =
+      leading_stop (word s 0) below i (omega (arith, e, h.1)) (λ j l. lt-ltb (word s (place_of j)) k (h.3 j (omega arith) l))
+      (le-ltb (word s (place_of i)) k h.2)
 
 -- how many keys are at most a key
 module _ (s : List ℕ) (k : ℕ) {r : ℕ} where
@@ -89,12 +89,12 @@ module _ (s : List ℕ) (k : ℕ) {r : ℕ} where
 
 -- records moved up by one: a turn and the end
 module _ (s₀ s : List ℕ) (at m i : ℕ) (h : moved_up s at (i - at) ≡ moved_up s₀ at (m - at)) where
-  pub up_more : {t : List ℕ} {r : Record} → at < i → r ≡ record_at s (i - 1) → t ≡ with_record s i r
+  pub up_more : {t : List ℕ} {r : Record} → at < i → r ≡ record_at s (i - 1) → t ≡ with_record s (i - 1 + 1) r
       → moved_up t at (i - 1 - at) ≡ moved_up s₀ at (m - at)
   unfolding moved_up
   up_more l er et =
       let n : i - at ≡ suc (i - 1 - at) = omega arith in
-      let p : i ≡ at + (i - 1 - at) + 1 = omega arith in
+      let p : i - 1 + 1 ≡ at + (i - 1 - at) + 1 = omega arith in
       let q : i - 1 ≡ at + (i - 1 - at) = omega arith in
       ap (λ x. moved_up x at (i - 1 - at)) (et ∙ ap₂ (with_record s) p (er ∙ ap (record_at s) q))
       ∙ ap (moved_up s at) (sym n) ∙ h
@@ -299,32 +299,13 @@ module _ (s : List ℕ) (low high : ℕ) {a : Reply} where
           ea ∙ ap (λ x. given sh.count sh.total x 0) ek ∙ ap (λ x. given x.count x.total x.key 0) es
           ∙ second_arm (ltb 99999 today) _ _ (le-ltb 99999 today q) ∙ second_arm (ltb high low) _ _ (le-ltb high low l)
 
--- the reply by its kind
-module _ (s : List ℕ) (c : Call) {a : Reply} where
-  pub reply_find : c.kind ≡ 2 → a ≡ found_in s c.a → a ≡ model_reply s c
-  unfolding model_reply
-  reply_find e ea = ea ∙ first_arm (eqb c.kind 2) _ _ (eq-eqb c.kind 2 e)
-
-  pub reply_next : c.kind ≡ 3 → a ≡ next_in s c.a → a ≡ model_reply s c
-  unfolding model_reply
-  reply_next e ea =
-      ea ∙ first_arm (eqb c.kind 3) _ _ (eq-eqb c.kind 3 e)
-      ∙ second_arm (eqb c.kind 2) _ _ (ne_eqb c.kind 2 (λ q. omega (arith, e, q)))
-
-  pub reply_range : c.kind ≡ 4 → a ≡ range_in s c.a c.b c.c → a ≡ model_reply s c
-  unfolding model_reply
-  reply_range e ea =
-      ea ∙ first_arm (eqb c.kind 4) _ _ (eq-eqb c.kind 4 e)
-      ∙ second_arm (eqb c.kind 3) _ _ (ne_eqb c.kind 3 (λ q. omega (arith, e, q)))
-      ∙ second_arm (eqb c.kind 2) _ _ (ne_eqb c.kind 2 (λ q. omega (arith, e, q)))
-
-  pub reply_summary : (c.kind ≡ 2 → ⊥) → (c.kind ≡ 3 → ⊥) → (c.kind ≡ 4 → ⊥) → a ≡ summary_in s c.a c.b c.c
-      → a ≡ model_reply s c
-  unfolding model_reply
-  reply_summary e f g ea =
-      ea ∙ second_arm (eqb c.kind 4) _ _ (ne_eqb c.kind 4 g)
-      ∙ second_arm (eqb c.kind 3) _ _ (ne_eqb c.kind 3 f)
-      ∙ second_arm (eqb c.kind 2) _ _ (ne_eqb c.kind 2 e)
+-- a kind that is none of those named
+pub other_reading : {A : Type 0} (k : Kind) (f n r : A) {s : A} → (k ≡ Find → ⊥) → (k ≡ Next → ⊥) → (k ≡ Range → ⊥)
+    → s ≡ elim k [ Find ↦ f | Next ↦ n | Range ↦ r | _ ↦ s ]
+other_reading Find f n r a b c = absurd (a refl)
+other_reading Next f n r a b c = absurd (b refl)
+other_reading Range f n r a b c = absurd (c refl)
+other_reading _ f n r a b c = refl
 
 -- records that are the list's
 pub listed_is : (s : List ℕ) (low : ℕ) (out : List ℕ) (n : ℕ) {b : Bool} {i p m : ℕ}

@@ -22,6 +22,7 @@ use Rattle.plot.specs.Money.{amount}
 use Rattle.store.specs.Head.{word}
 use Rattle.raw.specs.Words.{alike}
 use Rattle.raw.specs.Steps.{steps}
+use Rattle.harness.specs.declared.calls.Kind.TheVariants.{Find, Next, Range}
 use Rattle.harness.specs.declared.calls.Call.{Call}
 use Rattle.harness.specs.declared.calls.Reply.{Reply}
 use Rattle.model.specs.declared.Sheet.{Sheet}
@@ -128,17 +129,14 @@ summary_in s low high today =
       | false ↦ elim (ltb 99999 today) [ true ↦ refused 6 | false ↦ given sh.count sh.total sh.key 0 ]
     ]
 
--- kinds 2 to 4 in their order; any other is a summary
+-- any other kind is a summary
 unfoldable pub model_reply : List ℕ → Call → Reply
 model_reply s c =
-    elim (eqb c.kind 2) [
-      | true ↦ found_in s c.a
-      | false ↦
-          elim (eqb c.kind 3) [
-            | true ↦ next_in s c.a
-            | false ↦
-                elim (eqb c.kind 4) [ true ↦ range_in s c.a c.b c.c | false ↦ summary_in s c.a c.b c.c ]
-          ]
+    elim c.kind [
+      | Find ↦ found_in s c.a
+      | Next ↦ next_in s c.a
+      | Range ↦ range_in s c.a c.b c.c
+      | _ ↦ summary_in s c.a c.b c.c
     ]
 
 unfoldable pub listed_in : List ℕ → ℕ → List ℕ → ℕ → Bool

@@ -11,7 +11,7 @@ ghost use Rattle.model.specs.Model.{removed, holds_key, found_in, next_in, betwe
 ghost use Rattle.model.specs.Model.{summary_in, model_reply, listed_in};
 
 use harness::calls;
-use harness::calls::{Call, Reply};
+use harness::calls::{Call, Kind, Reply};
 use plot::Record;
 use raw::words;
 use raw::words::put;
@@ -69,14 +69,7 @@ fn rank(list: &[u32], key: u32) -> u32
     ensures { result ≡ rank_of list.now key }
 {
     let n = size(list);
-    let mut i: u32 = 0;
-    while i < n {
-        if word(list, place(i)) >= key {
-            return i;
-        }
-        i += 1;
-    }
-    n
+    (0..n).find(|i| word(list, place(*i)) >= key).unwrap_or(n)
 }
 
 // How many keys are at most a key.
@@ -93,11 +86,9 @@ fn rank_after(list: &[u32], key: u32) -> u32
 fn make_room(list: &mut [u32], at: u32)
     ensures { let s = list.old in list.new ≡ moved_up s at (word s 0 - at) }
 {
-    let mut i: u32 = size(list);
-    while at < i {
-        let record = record_at(list, i - 1);
-        put_record(list, i, record);
-        i -= 1;
+    for i in (at..size(list)).rev() {
+        let record = record_at(list, i);
+        put_record(list, i + 1, record);
     }
 }
 
@@ -120,19 +111,16 @@ pub fn append(list: &mut [u32], plot: Record)
 {
     let n = size(list);
     put_record(list, n, plot);
-    put(list, 0, words::sum(n, 1));
+    put(list, 0, n.saturating_add(1));
 }
 
 // Moves the records after a place down by one.
 fn close_up(list: &mut [u32], at: u32)
     ensures { let s = list.old in list.new ≡ moved_down s at (word s 0 - at) }
 {
-    let n = size(list);
-    let mut i: u32 = at;
-    while i < n {
+    for i in at..size(list) {
         let record = record_at(list, i + 1);
         put_record(list, i, record);
-        i += 1;
     }
 }
 
@@ -175,10 +163,7 @@ fn days_left(plot: Record, today: u32) -> u32
     if plot.last < today {
         return 0;
     }
-    if plot.last - today >= plot.lease {
-        return plot.lease;
-    }
-    plot.last - today + 1
+    plot.lease.min((plot.last - today).saturating_add(1))
 }
 
 // Price × days left / lease days, 0 if perpetual.
@@ -215,12 +200,7 @@ fn next(list: &[u32], key: u32) -> Reply
 fn between(list: &[u32], low: u32, high: u32) -> u32
     ensures { result ≡ between_of list.now low high }
 {
-    let first = rank(list, low);
-    let end = rank_after(list, high);
-    if end < first {
-        return 0;
-    }
-    end - first
+    rank_after(list, high).saturating_sub(rank(list, low))
 }
 
 fn range(list: &[u32], low: u32, high: u32, room: u32) -> Reply
@@ -234,7 +214,7 @@ fn range(list: &[u32], low: u32, high: u32, room: u32) -> Reply
     if n <= fit {
         return calls::listing(n, 0);
     }
-    let more = record_at(list, words::sum(rank(list, low), fit));
+    let more = record_at(list, rank(list, low).saturating_add(fit));
     calls::listing(fit, more.key)
 }
 
@@ -253,8 +233,8 @@ fn added(sheet: Sheet, plot: Record, today: u32) -> Sheet
     ensures { result ≡ added_to sheet plot today }
 {
     let earlier = (plot.lease > 0) & ((sheet.key == 0) | ahead(sheet, plot));
-    let count = words::sum64(sheet.count, 1);
-    let total = words::sum64(sheet.total, balance(plot, today));
+    let count = sheet.count.saturating_add(1);
+    let total = sheet.total.saturating_add(balance(plot, today));
     if earlier {
         return Sheet {
             count,
@@ -277,7 +257,6 @@ fn sheet_over(list: &[u32], low: u32, high: u32, today: u32) -> Sheet
     ensures { let s = list.now in result ≡ sheet_from s today no_sheet (rank_of s low) (between_of s low high) }
 {
     let end = rank_after(list, high);
-    let mut i: u32 = rank(list, low);
     let mut sheet = Sheet {
         count: 0,
         total: 0,
@@ -285,9 +264,8 @@ fn sheet_over(list: &[u32], low: u32, high: u32, today: u32) -> Sheet
         price: 0,
         key: 0,
     };
-    while i < end {
+    for i in rank(list, low)..end {
         sheet = added(sheet, record_at(list, i), today);
-        i += 1;
     }
     sheet
 }
@@ -309,11 +287,10 @@ fn summary(list: &[u32], low: u32, high: u32, today: u32) -> Reply
 pub fn reply_to(list: &[u32], call: Call) -> Reply
     ensures { result ≡ model_reply list.now call }
 {
-    let kind = call.kind;
-    match kind {
-        calls::FIND => find(list, call.a),
-        calls::NEXT => next(list, call.a),
-        calls::RANGE => range(list, call.a, call.b, call.c),
+    match call.kind {
+        Kind::Find => find(list, call.a),
+        Kind::Next => next(list, call.a),
+        Kind::Range => range(list, call.a, call.b, call.c),
         _ => summary(list, call.a, call.b, call.c),
     }
 }

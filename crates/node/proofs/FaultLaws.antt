@@ -7,7 +7,6 @@ use Rattle.std.proofs.Common.{◌≡◌, ℕ, zero, suc, ◌+◌, ◌-◌, ◌*�
 use mathlib.Core.Bool.{false≢true}
 use native.Mathlib.Decide.{dec_lt}
 use lib.Bits.{bit_or, bit_xor, or_lt, xor_self}
-use mir.Val.{bool_byte}
 use Rattle.lists.specs.Lists.{every, greatest}
 use Rattle.lists.proofs.Cases.{by_cases}
 use Rattle.lists.proofs.Gather.{or_above, or_none, none_or, or_zero, or_below, xor_none}
@@ -124,18 +123,6 @@ full_greatest n H f p d =
       | yes l ↦ absurd (false≢true (sym e ∙ every_of n t (λ k h. other k (λ i. omega (arith, greatest_at n f k h)))))
       | no l ↦ ap not e ∙ sym (eq-eqb (greatest n f) H (omega (arith, greatest_le n f H d)))
     ])
-
--- the tests of one more entry, as they are gathered
-byte : (b : Bool) → bool_byte b ≡ elim b [ true ↦ 1 | false ↦ 0 ]
-byte true = refl
-byte false = refl
-
-pub gathered_is : (H low high apart : ℕ) (x y : Entry ℕ) (g : Faults) {o t : ℕ} → o ≡ outside_of H low high y → t ≡ torn_of apart x y
-    → ◌≡◌ {A = Faults}
-    (record { outside = bit_or g.outside o; torn = bit_or g.torn t; full = bit_or g.full (bool_byte (eqb y.0 H)) })
-    (gathered_of H low high apart x y g)
-unfolding gathered_of
-gathered_is H low high apart x y g p q = rw (p, q, byte (eqb y.0 H))
 
 -- the gathered tests
 module _ (H low high : ℕ) (ws : List ℕ) where

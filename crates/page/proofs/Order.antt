@@ -1,8 +1,8 @@
 -- A check of records in order, one after another.
 --   Before f pg i b    == b is the key before record i, 0 for none
---   Reached f pg n p i == p is the check of n records after the first i
+--   Reached f pg i g b == the first i records are checked: g says whether they are in order, b is the last key
 use mathlib.Core.Path.{◌≡◌, refl, sym, ap, ◌∙◌}
-use mathlib.Core.Bool.{Bool, true, false, ◌&&◌, false≢true}
+use mathlib.Core.Bool.{Bool, true, ◌&&◌, false≢true}
 use mathlib.Core.List.{List}
 use Prim.Native.Nat.{ℕ, zero, suc, ◌+◌, ◌^◌, ◌≤◌, ◌<◌}
 use native.Mathlib.Decide.{dec_lt}
@@ -11,36 +11,22 @@ use native.Mathlib.Omega.{arith}
 use lib.Dec.{ltb}
 use lib.Pow.{pow_pos}
 use borrow.Author.Count.{below_more}
-use borrow.Author.Tests.{ltb-true, ltb-false, lt-ltb}
+use borrow.Author.Tests.{ltb-true, lt-ltb}
 use Rattle.lists.proofs.Cases.{by_cases}
 use Rattle.lists.proofs.Tests.{and_true, same_test, untrue}
 use Rattle.store.specs.declared.Format.{Format}
 use Rattle.store.specs.declared.Item.{Item}
 use Rattle.store.specs.Format.{width}
-use Rattle.page.specs.declared.Progress.{Progress}
-use Rattle.page.specs.Page.{item_at, key_at, lawful_item, in_turn, begun, goes_on, checked_of, ordered}
+use Rattle.page.specs.Page.{item_at, key_at, lawful_item, in_turn, ordered}
 use Rattle.page.proofs.Laws.{Ordered, ordered_facts, facts_ordered, lawful_key}
 
 abbrev Before : Format → List ℕ → ℕ → ℕ → Type 0
 Before f pg i b = (i ≡ 0 → b ≡ 0) × ((j : ℕ) → j + 1 ≡ i → b ≡ key_at f pg j)
 
-pub record Reached (f : Format) (pg : List ℕ) (n : ℕ) (p : Progress) (i : ℕ) : Type 0 where
-  pub counted : i + p.left ≡ n
-  pub good : p.good ≡ ordered f pg i
-  pub before : Before f pg i p.key
-  pub short : p.key < 2 ^ width f
-
-pub goes_on_lem : (p : Progress) → goes_on p ≡ true → 0 < p.left
-unfolding goes_on
-goes_on_lem p e = ltb-true 0 p.left e
-
-all_checked : (p : Progress) → goes_on p ≡ false → p.left ≡ 0
-unfolding goes_on
-all_checked p e = omega (arith, ltb-false 0 p.left e)
-
-pub less_left : (f : Format) (p : Progress) → goes_on p ≡ true → (it : Item) {p' : Progress} → p' ≡ checked_of f p it → p'.left < p.left
-unfolding checked_of
-less_left f p e it c = omega (arith, goes_on_lem p e, ap (λ (x : Progress). x.left) c)
+pub record Reached (f : Format) (pg : List ℕ) (i : ℕ) (g : Bool) (b : ℕ) : Type 0 where
+  pub good : g ≡ ordered f pg i
+  pub before : Before f pg i b
+  pub short : b < 2 ^ width f
 
 module _ (f : Format) (pg : List ℕ) where
   highest : (i b : ℕ) → Ordered f pg i → Before f pg i b → (j : ℕ) → j < i → key_at f pg j ≤ b
@@ -94,39 +80,22 @@ module _ (f : Format) (pg : List ℕ) where
       rw t
       (untrue (λ o. false≢true (sym t ∙ e ∙ facts_ordered f pg i (fewer i (i + 1) (omega arith) (ordered_facts f pg (i + 1) o))))))
 
-  start : (n : ℕ) → Reached f pg n (begun n) 0
-  start n =
+  pub starts : Reached f pg 0 true 0
+  starts =
       record {
-        counted = omega arith;
         good = sym (facts_ordered f pg 0 (record { lawful = λ i q. absurd (omega arith); ascends = λ i j q r. absurd (omega arith) }));
         before = (λ e. refl, λ j e. absurd (omega arith));
         short = pow_pos (width f);
       }
 
-  pub starts : (n : ℕ) {p : Progress} → p ≡ begun n → {i : ℕ} → i ≡ 0 → Reached f pg n p i
-  starts n c z = rw (c, z) (start n)
-
-  module _ (n : ℕ) (p : Progress) (i : ℕ) (h : Reached f pg n p i) where
-    pub within : goes_on p ≡ true → i < n
-    within e = omega (arith, h.counted, goes_on_lem p e)
-
-    step : goes_on p ≡ true → (it : Item) → it ≡ item_at f pg i → it.key < 2 ^ width f → Reached f pg n (checked_of f p it) (i + 1)
-    unfolding checked_of
-    step e it d s =
-        record {
-          counted = omega (arith, h.counted, goes_on_lem p e);
-          good = ap (λ x. p.good && in_turn f p.key x) d ∙ turned i p.key h.good h.before;
-          before = (
-            λ z. absurd (omega arith),
-            λ j z. let m : i ≡ j = omega arith in ap (λ (x : Item). x.key) d ∙ ap (key_at f pg) m,
-          );
-          short = s;
-        }
-
-    pub next :
-        goes_on p ≡ true → {it : Item} → it ≡ item_at f pg i → it.key < 2 ^ width f → {p' : Progress} → p' ≡ checked_of f p it →
-        {j : ℕ} → j ≡ i + 1 → Reached f pg n p' j
-    next e {it = it} d s c z = rw (c, z) (step e it d s)
-
-    pub ends : goes_on p ≡ false → p.good ≡ ordered f pg n
-    ends e = let m : i ≡ n = omega (arith, h.counted, all_checked p e) in h.good ∙ ap (ordered f pg) m
+  pub next : {i b : ℕ} {g t : Bool} {it : Item} → Reached f pg i g b → it ≡ item_at f pg i → it.key < 2 ^ width f → t ≡ in_turn f b it
+      → Reached f pg (i + 1) (g && t) it.key
+  next {i = i} {b = b} {g = g} h e s t =
+      record {
+        good = ap (λ x. g && x) (t ∙ ap (in_turn f b) e) ∙ turned i b h.good h.before;
+        before = (
+          λ z. absurd (omega arith),
+          λ j z. let m : i ≡ j = omega arith in ap (λ (x : Item). x.key) e ∙ ap (key_at f pg) m,
+        );
+        short = s;
+      }

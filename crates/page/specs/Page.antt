@@ -7,9 +7,6 @@
 --   plot_of it             == the plot record of an item
 --   lawful_item f it       == the record may be held
 --   in_turn f k it         == the record may be held, and its key is above the key k
---   begun n               == a check of n records, before the first
---   goes_on p              == some records are left
---   checked_of f p it      == the check p after the next record, it
 --   ordered f pg n        == the first n records are lawful and their keys ascend
 --   page_rule f C pg       == a visited page, with the capacity C
 --   Lent f C pg           == pg is a page block, lent whole, or no word of one that the store has not
@@ -27,7 +24,6 @@ use Rattle.store.specs.declared.Format.TheVariants.{Plots}
 use Rattle.store.specs.declared.Item.{Item}
 use Rattle.store.specs.Format.{width, words}
 use Rattle.store.specs.Head.{word, zeros, page_words}
-use Rattle.page.specs.declared.Progress.{Progress}
 
 abbrev pub count : List ℕ → ℕ
 count pg = word pg 0
@@ -61,15 +57,6 @@ lawful_item Plots it = plot_schema.lawful (plot_of it)
 
 unfoldable pub in_turn : Format → ℕ → Item → Bool
 in_turn f k it = lawful_item f it && ltb k it.key
-
-abbrev pub begun : ℕ → Progress
-begun n = record { good = true; key = 0; left = n }
-
-unfoldable pub goes_on : Progress → Bool
-goes_on p = ltb 0 p.left
-
-unfoldable pub checked_of : Format → Progress → Item → Progress
-checked_of f p it = record { good = p.good && in_turn f p.key it; key = it.key; left = p.left - 1 }
 
 unfoldable pub ordered : Format → List ℕ → ℕ → Bool
 ordered f pg n = every n (λ i. lawful_item f (item_at f pg i)) && every (n - 1) (λ i. ltb (key_at f pg i) (key_at f pg (i + 1)))

@@ -11,6 +11,7 @@ use lib.Seq.{take_at, drop_at, drop-drop, get_or-drop}
 use Rattle.lists.specs.Lists.{replaced, part}
 use Rattle.lists.proofs.Parts.{part_in_lem, part_next, part_replaced, length_replaced, replaced_below, replaced_above}
 use Rattle.lists.proofs.Elsewhere.{Elsewhere, elsewhere_replaced, part_beside}
+use Rattle.lists.proofs.Shifts.{shares}
 use Rattle.store.specs.declared.Format.{Format}
 use Rattle.store.specs.declared.Item.{Item}
 use Rattle.store.specs.Format.{words}
@@ -19,7 +20,7 @@ use Rattle.page.specs.Page.{flat}
 use Rattle.represent.specs.Image.{page_image}
 use Rattle.put.specs.Put.{Halvable, cut_to}
 use Rattle.put.proofs.WordLaws.{row, length_row, lent, lent_is, over_two, inner_row}
-use Rattle.put.proofs.PutLaws.{room_cut, size_front, blank, length_low, length_high, image_sides}
+use Rattle.put.proofs.PutLaws.{room_for, room_cut, size_front, blank, length_low, length_high, image_sides}
 
 module _ (f : Format) (C : ℕ) (rs : List Item) (i : ℕ) (within : i ≤ length rs) where
   cut_low : cut_to f C i (page_image f C rs) ≡ page_image f C (take i rs)
@@ -38,19 +39,13 @@ module _ (f : Format) (C : ℕ) (rs : List Item) (i : ℕ) (within : i ≤ lengt
       ap (λ l. (length rs - i) ∷ (l ++ replicate (words f * (C - (length rs - i))) 0)) e
       ∙ ap (λ k. k ∷ (flat f (drop i rs) ++ replicate (words f * (C - k)) 0)) (sym (length-drop i rs))
 
--- what `copy_words` asks
+-- the words of the records from number i on, and the room for them
 pub copy_fits : (f : Format) (C from to i w n : ℕ) (s : List ℕ) → Halvable f s C from to i → w ≡ words f → n ≡ word s from
-    → (from + 1 + w * i + w * (n - i) ≤ length s) × (to + 1 + w * (n - i) ≤ length s)
-    × ((from + 1 + w * i + w * (n - i) ≤ to + 1) ⊎ (to + 1 ≤ from + 1 + w * i))
-copy_fits f C from to i w n s ready is e = (omega (arith, ready.from_in, room), omega (arith, ready.to_in, room), apart ready.apart)
-  where
-    room : 1 + w * i + w * (n - i) ≤ page_words f C
-    room = room_cut f C w n (page_words f C) is refl i (omega (arith, ready.within)) (omega (arith, ready.fits))
-
-    apart : (from + page_words f C ≤ to) ⊎ (to + page_words f C ≤ from)
-        → (from + 1 + w * i + w * (n - i) ≤ to + 1) ⊎ (to + 1 ≤ from + 1 + w * i)
-    apart (inl h) = inl (omega (arith, room))
-    apart (inr h) = inr (omega (arith, room))
+    → (from + 1 + w * n ≡ from + 1 + w * i + w * (n - i)) × (from + 1 + w * n ≤ length s) × (to + 1 + w * (n - i) ≤ length s)
+copy_fits f C from to i w n s ready is e =
+    let in_all : w * i + w * (n - i) ≡ w * n = shares w i n (omega (arith, ready.within)) in
+    let room : 1 + w * n ≤ page_words f C = room_for f C w n (page_words f C) is refl (omega (arith, ready.fits)) in
+    (omega (arith, in_all), omega (arith, ready.from_in, room), omega (arith, ready.to_in, room, in_all))
 
 module _ (f : Format) (C from to i : ℕ) (s : List ℕ) (ready : Halvable f s C from to i) (rs : List Item)
     (is : part s from (page_words f C) ≡ page_image f C rs) where

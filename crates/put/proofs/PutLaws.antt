@@ -50,6 +50,11 @@ module _ (f : Format) (C w n L : ℕ) (is : w ≡ words f) (long : L ≡ page_wo
       rw (long, is)
       (omega (arith, shares (words f) i n l, shares (words f) n C (omega arith), shares (words f) 1 (C - n) (omega arith)))
 
+-- a page with room for a record has its words
+pub first_room : (f : Format) (C : ℕ) → 1 ≤ C → words f < page_words f C
+unfolding page_words
+first_room f C h = omega (arith, shares (words f) 1 C h)
+
 -- a page cut to n records
 pub cut_words : (f : Format) (C n w : ℕ) (s last : List ℕ) → n ≤ C → length s ≡ page_words f C → w ≡ words f
     → last ≡ replicate (length (end (set s 0 n) (1 + w * n))) 0

@@ -2,7 +2,7 @@
 
 #![tactic(auto)]
 
-ghost use Rattle.std.specs.Prelude.{◌≡◌, true, false, List, [], ◌∷◌, ◌⊎◌, ℕ, suc, ◌+◌, ◌*◌, ◌≤◌, ◌<◌, length, take, drop};
+ghost use Rattle.std.specs.Prelude.{◌≡◌, true, false, List, [], ◌∷◌, ℕ, suc, ◌*◌, ◌≤◌, ◌<◌, length, take, drop};
 ghost use Rattle.lists.specs.Bits.{bit as bit_of};
 ghost use Rattle.lists.specs.Lists.{All, replaced, part};
 ghost use Rattle.lists.specs.Keyed.{Sorted, Prefix, insert};
@@ -16,18 +16,6 @@ ghost use Rattle.put.specs.Put.{Halvable, cut_to};
 
 use store::{Format, Item};
 
-// Moves n words up by so many places, the last one first.
-pub fn move_up(part: &mut [u32], from: usize, n: usize, by: usize)
-    requires { from + n + by ≤ length part.old }
-    ensures { part.new ≡ replaced (from + by) n (take n (drop from part.old)) part.old }
-{
-    let mut j = n;
-    while j > 0 {
-        j -= 1;
-        part[from + by + j] = part[from + j];
-    }
-}
-
 // Puts a record in order into a page that has room. Only the records behind it are moved.
 pub fn put_record(part: &mut [u32], f: Format, capacity: u32, item: Item)
     requires { (length part.old ≡ page_words f capacity) × (count part.old < capacity) × (Filled f part.old) }
@@ -38,22 +26,24 @@ pub fn put_record(part: &mut [u32], f: Format, capacity: u32, item: Item)
     let i = page::first_above(part, f, true, item.key);
     let w = store::words_of(f);
     let at = 1 + w * i;
-    move_up(part, at, w * (n - i), w);
+    part.copy_within(at..1 + w * n, at + w);
     page::write_item(&mut part[at..], f, item);
     part[0] = (n + 1) as u32;
 }
 
 // Writes a page of one record, whole.
+#[tactic(auto, using(crate::proofs::PutLaws::first_room))]
 pub fn write_first(part: &mut [u32], f: Format, capacity: u32, item: Item)
     requires { (1 ≤ capacity) × (length part.old ≡ page_words f capacity) }
     ensures { part.new ≡ page_image f capacity (item ∷ []) }
 {
-    store::clear(part);
+    part.fill(0);
     part[0] = 1;
     page::write_item(&mut part[1..], f, item);
 }
 
 // Whether a bit of a key is set; bit 0 is the lowest.
+#[tactic(auto, unfolding(lists::specs::Bits::bit))]
 pub fn bit_set(key: u64, bit: u32) -> bool
     requires { bit < 64 }
     ensures { result ≡ bit_of bit key }
@@ -69,27 +59,13 @@ pub fn low_count(page: &[u32], f: Format, bit: u32) -> usize
         → Prefix key_of (suc bit) q rs → (take result rs ≡ side key_of false bit rs) × (drop result rs ≡ side key_of true bit rs)) }
 {
     let n = page::count_of(page);
-    let mut i: usize = 0;
-    while i < n {
+    for i in 0..n {
         let item = page::read_one(page, f, i);
         if bit_set(item.key, bit) {
             return i;
         }
-        i += 1;
     }
-    i
-}
-
-// Copies n words to another place, the first one first: it lies below them, or they do not overlap it.
-pub fn copy_words(store: &mut [u32], from: usize, to: usize, n: usize)
-    requires { (from + n ≤ length store.old) × (to + n ≤ length store.old) × ((from + n ≤ to) ⊎ (to ≤ from)) }
-    ensures { store.new ≡ replaced to n (take n (drop from store.old)) store.old }
-{
-    let mut j: usize = 0;
-    while j < n {
-        store[to + j] = store[from + j];
-        j += 1;
-    }
+    n
 }
 
 // Gives a page n records: its first n stay, and all words behind them are cleared.
@@ -99,7 +75,7 @@ pub fn cut_page(part: &mut [u32], f: Format, capacity: u32, n: usize)
 {
     part[0] = n as u32;
     let rest = 1 + store::words_of(f) * n;
-    store::clear(&mut part[rest..]);
+    part[rest..].fill(0);
 }
 
 // The records of the page at `from`, from number i on, go to the page at `to`, which is written whole; the others stay.
@@ -113,7 +89,7 @@ pub fn halve_page(store: &mut [u32], f: Format, capacity: u32, from: usize, to: 
     let n = store::to_index(store::word(store, from));
     let size = store::page_words(f, capacity);
     let high = n - i;
-    copy_words(store, from + 1 + w * i, to + 1, w * high);
+    store.copy_within(from + 1 + w * i..from + 1 + w * n, to + 1);
     let from_end = from + size;
     cut_page(&mut store[from..from_end], f, capacity, i);
     let to_end = to + size;

@@ -1,67 +1,50 @@
--- Words written one after another, tests made one after another, and where blocks stand.
+-- Words copied, tests made one after another, and where blocks stand.
 use mathlib.Core.Path.{◌≡◌, refl, sym, ap, ap₂, ◌∙◌}
-use mathlib.Core.Bool.{Bool, true, false, false≢true}
-use mathlib.Core.List.{List}
-use Prim.Native.Nat.{ℕ, ◌+◌, ◌-◌, ◌*◌, ◌%◌, ◌^◌, ◌≤◌, ◌<◌, min}
-use native.Mathlib.Nat.{mod-lt, mod-eq_of_lt, lt_of_lt_of_le}
+use mathlib.Core.Bool.{Bool, true, false, ◌&&◌}
+use mathlib.Core.List.{List, ◌++◌}
+use Prim.Native.Nat.{ℕ, zero, suc, ◌+◌, ◌-◌, ◌*◌, ◌%◌, ◌^◌, ◌≤◌, ◌<◌, min}
+use native.Mathlib.Nat.{zero-add}
+use native.Mathlib.Numerals.{add-one}
 use native.Mathlib.Decide.{dec_lt}
 use native.Mathlib.Omega.{arith}
-use lib.ListN.{length, set, replicate, length-set, length-replicate, get_or-replicate}
-use lib.Seq.{ext_get_or, get_or-set_same, get_or-set_other}
+use lib.ListN.{length, replicate, take, drop, get_or}
+use lib.Seq.{ext_get_or}
 use lib.Dec.{eqb}
-use borrow.Author.Tests.{eqb-true, eqb-false, eq-eqb, ne_eqb, lt-ltb, le-ltb}
+use borrow.Author.Tests.{ne_eqb, lt-ltb, le-ltb}
+use Rattle.std.specs.List.{list_all, range_with_len}
+use Rattle.std.proofs.lemmas.List.{length-take, length-drop, length-append, length-replicate, get_or-take, get_or-drop, get_or-replicate, get_or_past}
+use Rattle.std.proofs.lemmas.List.{get_or_append_left, get_or-append_right, take_at, take_all, drop_at, drop-drop}
+use Rattle.std.proofs.lemmas.List.FromFn.{length-range_with_len, get_or-range_with_len}
+use Rattle.std.proofs.lemmas.List.Folds.{list_all_more}
 use Rattle.lists.specs.Lists.{every}
-use Rattle.lists.proofs.Cases.{by_cases}
-use Rattle.lists.proofs.Tests.{every_none, every_and, every_at, untrue, length_tab, get_d_tab, tab_of}
+use Rattle.lists.proofs.Tests.{every_ext, length_tab, get_d_tab}
 use Rattle.store.specs.Head.{word}
-use Rattle.raw.specs.Words.{written, alike, all_from}
-use Rattle.raw.specs.Blocks.{node_size, node_block, page_block, block}
+use Rattle.raw.specs.Words.{written, all_from}
+use Rattle.raw.specs.Blocks.{node_size}
 
--- one test more, and one that fails
-pub tests_more : (n : ℕ) (t : ℕ → Bool) → every n t ≡ true → t n ≡ true → every (n + 1) t ≡ true
-tests_more n t e h = every_and n t ∙ rw (e, h)
+-- tests of the elements of a list, and of the numbers of a range
+tests_front : (p : ℕ → Bool) (xs : List ℕ) (n : ℕ) → n ≤ length xs → list_all p (take n xs) ≡ every n (λ k. p (get_or xs k 0))
+unfolding every
+tests_front p xs zero h = refl
+tests_front p xs (suc n) h =
+    ap (λ m. list_all p (take m xs)) (sym (add-one n)) ∙ list_all_more p xs n 0 (omega arith)
+    ∙ ap (λ b. b && p (get_or xs n 0)) (tests_front p xs n (omega arith))
 
-pub tests_fail : (n : ℕ) (t : ℕ → Bool) (k : ℕ) → k < n → t k ≡ false → false ≡ every n t
-tests_fail n t k l h = untrue (λ e. false≢true (sym h ∙ every_at n t e k l))
+pub tests_list : (p t : ℕ → Bool) (xs : List ℕ) (n : ℕ) → length xs ≡ n → ((k : ℕ) → k < n → p (get_or xs k 0) ≡ t k)
+    → list_all p xs ≡ every n t
+tests_list p t xs n l h =
+    ap (list_all p) (sym (take_all n xs (omega arith))) ∙ tests_front p xs n (omega arith) ∙ every_ext n _ t h
 
--- words alike
-module _ (a : List ℕ) (i : ℕ) (b : List ℕ) (j : ℕ) where
-  pub alike_none : alike a i b j 0 ≡ true
-  unfolding alike
-  alike_none = every_none _
-
-  pub alike_more : (n : ℕ) → alike a i b j n ≡ true → word a (i + n) ≡ word b (j + n) → alike a i b j (n + 1) ≡ true
-  unfolding alike
-  alike_more n e h = tests_more n _ e (eq-eqb (word a (i + n)) (word b (j + n)) h)
-
-  pub alike_fail : (n k : ℕ) → k < n → (word a (i + k) ≡ word b (j + k) → ⊥) → false ≡ alike a i b j n
-  unfolding alike
-  alike_fail n k l h = tests_fail n _ k l (ne_eqb (word a (i + k)) (word b (j + k)) h)
+pub tests_range : (t : ℕ → Bool) (n : ℕ) → list_all t (range_with_len 0 n) ≡ every n t
+tests_range t n =
+    tests_list t t (range_with_len 0 n) n (length-range_with_len 0 n)
+    (λ k h. ap t (get_or-range_with_len 0 n k 0 h ∙ zero-add k))
 
 -- words of one value
-module _ (s : List ℕ) (i v : ℕ) where
-  pub all_more : (n : ℕ) → every n (λ k. eqb (word s (i + k)) v) ≡ true → word s (i + n) ≡ v
-      → every (n + 1) (λ k. eqb (word s (i + k)) v) ≡ true
-  all_more n e h = tests_more n _ e (eq-eqb (word s (i + n)) v h)
-
-  pub all_fail : (k : ℕ) → k < length s - i → (word s (i + k) ≡ v → ⊥) → false ≡ all_from s i v
-  unfolding all_from
-  all_fail k l h = tests_fail (length s - i) _ k l (ne_eqb (word s (i + k)) v h)
-
-  pub all_done : (n : ℕ) → n ≡ length s - i → every n (λ k. eqb (word s (i + k)) v) ≡ true → true ≡ all_from s i v
-  unfolding all_from
-  all_done n l e = sym e ∙ ap (λ m. every m (λ k. eqb (word s (i + k)) v)) l
-
--- remainders
-pub remainder_none : (a n : ℕ) → n ≡ 0 → ◌≡◌ {A = ℕ} 0 (elim (eqb n 0) [ true ↦ 0 | false ↦ a % n ])
-remainder_none a n e = rw e
-
-pub remainder_some : (a : ℕ) {d n r : ℕ} → d ≡ n → (d ≡ 0 → ⊥) → n < 2 ^ 32 → r ≡ a % d % 2 ^ 32
-    → r ≡ elim (eqb n 0) [ true ↦ 0 | false ↦ a % n ]
-remainder_some a {d} {n} e z h r =
-    let p : 0 < n = omega (arith, z, e) in
-    r ∙ ap (λ x. a % x % 2 ^ 32) e ∙ mod-eq_of_lt (lt_of_lt_of_le (mod-lt a p) (omega arith))
-    ∙ rw (ne_eqb n 0 (λ q. z (e ∙ q)))
+pub all_is : (s : List ℕ) (i v : ℕ) → list_all (λ w. eqb w v) (drop i s) ≡ all_from s i v
+unfolding all_from
+all_is s i v =
+    tests_list (λ w. eqb w v) _ (drop i s) (length s - i) (length-drop i s) (λ k h. ap (λ w. eqb w v) (get_or-drop i s k 0))
 
 -- the words of blocks, and the block of a kind
 pub words_cut : {w b k n m : ℕ} → w ≡ b * k % 2 ^ 32 → b ≡ n → k ≡ m → w ≡ n * m % 2 ^ 32
@@ -74,19 +57,6 @@ size_within θ h = let e : θ ≡ min θ 6 = omega arith in ap (λ x. 4 + 2 * 2 
 pub size_above : (θ : ℕ) → 6 < θ → 132 ≡ node_size θ
 unfolding node_size
 size_above θ h = let e : 6 ≡ min θ 6 = omega arith in ap (λ x. 4 + 2 * 2 ^ x) e
-
-module _ (s : List ℕ) (kind n : ℕ) where
-  pub block_head : kind ≡ 1 → 0 ≡ block s kind n
-  unfolding block
-  block_head e = rw e
-
-  pub block_node : kind ≡ 2 → node_block s n ≡ block s kind n
-  unfolding block
-  block_node e = rw e
-
-  pub block_page : (kind ≡ 1 → ⊥) → (kind ≡ 2 → ⊥) → page_block s n ≡ block s kind n
-  unfolding block
-  block_page d e = rw (ne_eqb kind 1 d, ne_eqb kind 2 e, block)
 
 module _ (g : ℕ → ℕ) (s : List ℕ) where
   pub written_length : (n : ℕ) → length (written g s n) ≡ length s
@@ -102,48 +72,44 @@ module _ (g : ℕ → ℕ) (s : List ℕ) where
   unfolding written
   written_above n j h l = get_d_tab (length s) _ j 0 l ∙ rw (le-ltb j n h)
 
-  pub written_none : written g s 0 ≡ s
-  unfolding written
-  written_none = tab_of 0 (length s) _ s refl (λ i h. rw (le-ltb i 0 (omega arith)))
+-- the first words copied, and zeros where there are none to copy
+module _ (f t : List ℕ) (n : ℕ) {k m : ℕ} (ek : k ≡ min n (length t)) (em : m ≡ min k (length f)) where
+  abbrev copied_list : List ℕ
+  copied_list = take m f ++ (replicate (k - m) 0 ++ drop k t)
 
-  -- a word other than n does not show whether n is written
-  beside : (n j : ℕ) → (j ≡ n → ⊥) → j < length s → word (written g s n) j ≡ word (written g s (n + 1)) j
-  beside n j d l =
-      elim (dec_lt j n) [
-        | yes h ↦ written_below n j h l ∙ sym (written_below (n + 1) j (omega arith) l)
-        | no h ↦ written_above n j (omega arith) l ∙ sym (written_above (n + 1) j (omega (arith, d)) l)
+  known : length (take m f) ≡ m
+  known = length-take m f ∙ omega arith
+
+  long : length copied_list ≡ length t
+  long =
+      length-append (take m f) _ ∙ ap₂ ◌+◌ known (length-append (replicate (k - m) 0) (drop k t)
+      ∙ ap₂ ◌+◌ (length-replicate {A = ℕ} (k - m) 0) (length-drop k t)) ∙ omega arith
+
+  at : (j : ℕ) → j < length t → word copied_list j ≡ word (written (word f) t n) j
+  at j l =
+      elim (dec_lt j m) [
+        | yes a ↦
+            get_or_append_left (take m f) _ 0 j (omega (arith, known)) ∙ get_or-take m f j 0 a
+            ∙ sym (written_below (word f) t n j (omega arith) l)
+        | no a ↦
+            get_or-append_right (take m f) _ m j 0 known (omega arith)
+            ∙ elim (dec_lt j k) [
+              | yes b ↦
+                  get_or_append_left (replicate (k - m) 0) _ 0 (j - m) (omega (arith, length-replicate {A = ℕ} (k - m) 0))
+                  ∙ get_or-replicate (k - m) (j - m) 0 0 (omega arith) ∙ sym (get_or_past f j 0 (omega arith))
+                  ∙ sym (written_below (word f) t n j (omega arith) l)
+              | no b ↦
+                  get_or-append_right (replicate (k - m) 0) _ (k - m) (j - m) 0 (length-replicate {A = ℕ} (k - m) 0) (omega arith)
+                  ∙ get_or-drop k t _ 0 ∙ ap (word t) (omega arith) ∙ sym (written_above (word f) t n j (omega arith) l)
+            ]
       ]
 
-  -- the word n written after those before it
-  pub written_more : (n : ℕ) → set (written g s n) n (g n) ≡ written g s (n + 1)
-  written_more n =
-      ext_get_or 0 t (written g s (n + 1)) (long ∙ sym (written_length (n + 1))) (λ j h. at j (omega (arith, long)))
-    where
-      t : List ℕ
-      t = set (written g s n) n (g n)
-
-      long : length t ≡ length s
-      long = length-set (written g s n) n (g n) ∙ written_length n
-
-      at : (j : ℕ) → j < length s → word t j ≡ word (written g s (n + 1)) j
-      at j l =
-          by_cases (eqb j n)
-          (λ q. let e = eqb-true j n q in
-          ap (word t) e ∙ get_or-set_same (written g s n) n (g n) 0 (omega (arith, written_length n, e)) ∙ ap g (sym e)
-          ∙ sym (written_below (n + 1) j (omega (arith, e)) l))
-          (λ q. let d = eqb-false j n q in get_or-set_other (written g s n) n j (g n) 0 d ∙ beside n j d l)
-
-  -- the same of a list after a write
-  pub written_turn : (n : ℕ) {t u : List ℕ} {v : ℕ} → t ≡ written g s n → u ≡ set t n v → v ≡ g n
-      → u ≡ written g s (n + 1)
-  written_turn n e w h = w ∙ ap₂ (λ x y. set x n y) e h ∙ written_more n
-
--- every word written
-pub written_all : (v : ℕ) (s : List ℕ) (n : ℕ) → length s ≤ n → written (λ _. v) s n ≡ replicate (length s) v
-written_all v s n h =
-    ext_get_or 0 (written (λ _. v) s n) (replicate (length s) v) (long ∙ sym (length-replicate (length s) v))
-    (λ j q. let l : j < length s = omega (arith, long) in
-    written_below (λ _. v) s n j (omega arith) l ∙ sym (get_or-replicate (length s) j v 0 l))
-  where
-    long : length (written (λ _. v) s n) ≡ length s
-    long = written_length (λ _. v) s n
+  pub copied : {s z : List ℕ} → s ≡ take m f → z ≡ replicate (k - m) 0
+      → take m (s ++ drop m t) ++ (z ++ drop (k - m) (drop m (s ++ drop m t))) ≡ written (word f) t n
+  copied {s} {z} es ez =
+      let ls : length s ≡ m = ap length es ∙ known in
+      let rest : drop (k - m) (drop m (s ++ drop m t)) ≡ drop k t =
+      ap (drop (k - m)) (drop_at s (drop m t) m ls) ∙ drop-drop (k - m) m t ∙ ap (λ i. drop i t) (omega arith) in
+      ap₂ ◌++◌ (take_at s (drop m t) m ls ∙ es) (ap₂ ◌++◌ ez rest)
+      ∙ ext_get_or 0 copied_list (written (word f) t n) (long ∙ sym (written_length (word f) t n))
+      (λ j h. at j (omega (arith, long)))

@@ -16,7 +16,6 @@ use Rattle.raw.specs.Blocks.{node_block, page_size, page_block}
 use Rattle.raw.specs.Twins.{node_word, entries_of, depth_at, pointer_at, Paired, both, paired, paired_from, paired_below}
 use Rattle.raw.specs.Twins.{paired_next, paired_all}
 use Rattle.raw.specs.Twins.{same_page, twin, same_pointer, same_link, same_entries, same_node, apart_from, same_head, same_tree}
-use Rattle.raw.proofs.Laws.{tests_more, tests_fail}
 use Rattle.raw.proofs.Steps.{steps_first, steps_turn, steps_out}
 
 -- the twins and the queue of a pairing
@@ -127,36 +126,14 @@ module _ (x y twins : List ℕ) (level p q : ℕ) where
   unfolding same_pointer
   pointer_twin h = rw (one_fails (eqb level 1) (not (eqb p 0)) (not (eqb q 0)) h, same_pointer)
 
--- an entry of two nodes
-module _ (x y twins : List ℕ) (a b : ℕ) where
-  abbrev pub same_entry : ℕ → Bool
-  same_entry j =
-      eqb (depth_at x a j) (depth_at y b j) && same_pointer x y twins (node_word x a 1) (pointer_at x a j) (pointer_at y b j)
-
-  -- by where the nodes stand
-  module _ {i k : ℕ} (ei : i ≡ node_block x a) (ek : k ≡ node_block y b) (j : ℕ) {d e : ℕ}
-      (ed : d ≡ word x (i + 4 + 2 * j)) (ee : e ≡ word y (k + 4 + 2 * j)) where
-    abbrev depths : eqb (depth_at x a j) (depth_at y b j) ≡ eqb d e
-    depths = sym (ap₂ eqb (ed ∙ ap (λ i. word x (i + 4 + 2 * j)) ei) (ee ∙ ap (λ k. word y (k + 4 + 2 * j)) ek))
-
-    pub entry_depth_lem : (d ≡ e → ⊥) → same_entry j ≡ false
-    entry_depth_lem h = rw (depths ∙ ne_eqb d e h)
-
-    pub entry_pointer_lem : {l p q : ℕ} {r : Bool} → d ≡ e → l ≡ node_word x a 1 → p ≡ word x (i + 5 + 2 * j) → q ≡ word y (k + 5 + 2 * j)
-        → r ≡ same_pointer x y twins l p q → same_entry j ≡ r
-    entry_pointer_lem {p = p} {q = q} h el ep eq er =
-        let first = ep ∙ ap (λ i. word x (i + 5 + 2 * j)) ei in
-        let second = eq ∙ ap (λ k. word y (k + 5 + 2 * j)) ek in
-        rw (depths ∙ eq-eqb d e h)
-        (sym (er ∙ ap (λ l. same_pointer x y twins l p q) el ∙ ap₂ (same_pointer x y twins (node_word x a 1)) first second))
-
-  pub entries_fail : (n j : ℕ) → n ≡ entries_of x a → j < n → same_entry j ≡ false → false ≡ same_entries x y twins a b
-  unfolding same_entries
-  entries_fail n j e l h = tests_fail n same_entry j l h ∙ ap (λ m. every m same_entry) e
-
-  pub entries_all : {n j : ℕ} → n ≡ entries_of x a → j ≡ n → every j same_entry ≡ true → true ≡ same_entries x y twins a b
-  unfolding same_entries
-  entries_all e f h = sym h ∙ ap (λ m. every m same_entry) (f ∙ e)
+-- the entries of two nodes, by where the nodes stand
+pub entries_alike : (x y twins : List ℕ) (a b : ℕ) {i k l n : ℕ} → i ≡ node_block x a → k ≡ node_block y b → l ≡ node_word x a 1
+    → n ≡ entries_of x a
+    → every n (λ j. eqb (word x (i + 4 + 2 * j)) (word y (k + 4 + 2 * j))
+    && same_pointer x y twins l (word x (i + 5 + 2 * j)) (word y (k + 5 + 2 * j)))
+    ≡ same_entries x y twins a b
+unfolding same_entries
+entries_alike x y twins a b ei ek el en = rw (ei, ek, el, en)
 
 -- a node and its twin, test by test
 module _ (x y twins : List ℕ) (a : ℕ) {i b : ℕ} (ei : i ≡ a) (eb : b ≡ word twins i) where
@@ -210,21 +187,6 @@ module _ (x y twins : List ℕ) (a : ℕ) {i b : ℕ} (ei : i ≡ a) (eb : b ≡
           unfolding same_node
           node_entries m e =
               rw (some, level, depth, passed back n, passed forward m, same_node) (e ∙ ap (same_entries x y twins a) it)
-
--- every node of the first store
-module _ (x y twins : List ℕ) {n : ℕ} (en : n ≡ word x 4) where
-  abbrev test : ℕ → Bool
-  test k = same_node x y twins (k + 1)
-
-  module _ (a : ℕ) {r : Bool} (er : r ≡ same_node x y twins (a + 1)) where
-    pub nodes_fail : a < n → not r ≡ true → false ≡ every (word x 4) test
-    nodes_fail l h = tests_fail n test a l (failed er h) ∙ ap (λ m. every m test) en
-
-    pub nodes_more : every a test ≡ true → not r ≡ false → every (a + 1) test ≡ true
-    nodes_more e h = tests_more a test e (passed er h)
-
-  pub nodes_all : {a : ℕ} → a ≡ n → every a test ≡ true → true ≡ every (word x 4) test
-  nodes_all e h = sym h ∙ ap (λ m. every m test) (e ∙ en)
 
 -- no twin of two nodes: none left, and one more
 pub apart_first : (twins seen : List ℕ) (n : ℕ) → apart_from twins seen 0 (n - 0) ≡ apart_from twins seen 0 n

@@ -3,9 +3,12 @@
 --   node_block s n  == the first word of node block n
 --   page_size s     == the words of a page block
 --   page_block s p  == the first word of page block p
---   block s kind n == the first word of block n of a kind: 1 the head, 2 a node, any other a page
+--   block_kind n    == the kind of block with a number: 1 the head, 2 a node, any other a page
+--   block s kind n == the first word of block n of a kind
 use Rattle.std.specs.Prelude.{true, false, List, ℕ, ◌+◌, ◌-◌, ◌*◌, ◌%◌, ◌^◌, min, eqb}
 use Rattle.store.specs.Head.{largest_capacity, word}
+use Rattle.raw.specs.declared.blocks.Block.{Block}
+use Rattle.raw.specs.declared.blocks.Block.TheVariants.{Head, Node, Page}
 
 unfoldable pub node_size : ℕ → ℕ
 node_size θ = 4 + 2 * 2 ^ min θ 6
@@ -19,9 +22,10 @@ page_size s = 1 + 4 * (word s 1 % (largest_capacity + 1))
 unfoldable pub page_block : List ℕ → ℕ → ℕ
 page_block s p = 16 + word s 2 * node_size (word s 0) % 2 ^ 32 + (p - 1) * page_size s % 2 ^ 32
 
-unfoldable pub block : List ℕ → ℕ → ℕ → ℕ
-block s kind n =
-    elim (eqb kind 1) [
-      | true ↦ 0
-      | false ↦ elim (eqb kind 2) [ true ↦ node_block s n | false ↦ page_block s n ]
-    ]
+abbrev pub block_kind : ℕ → Block
+block_kind n = elim (eqb n 1) [ true ↦ Head | false ↦ elim (eqb n 2) [ true ↦ Node | false ↦ Page ] ]
+
+abbrev pub block : List ℕ → Block → ℕ → ℕ
+block s Head n = 0
+block s Node n = node_block s n
+block s Page n = page_block s n

@@ -1,16 +1,32 @@
 // Where the blocks of a store stand, from its head.
 ghost use Rattle.std.specs.Prelude.{◌≡◌, ◌+◌, ◌*◌, ◌%◌, ◌^◌, ◌≤◌, ◌<◌};
 ghost use Rattle.store.specs.Head.{largest_capacity};
-ghost use Rattle.raw.specs.Blocks.{node_size, node_block, page_size, page_block, block};
+ghost use Rattle.raw.specs.Blocks.{node_size, node_block, page_size, page_block, block_kind, block};
 
 use crate::words;
 use plot::wide_product;
 use store::{to_index, word};
 
-// The kinds of blocks; any other is a page.
-const HEAD: u32 = 1;
+// The kinds of blocks.
+#[derive(Clone, Copy)]
+pub enum Block {
+    Head,
+    Node,
+    Page,
+}
 
-const NODE: u32 = 2;
+impl From<u32> for Block {
+    ghost from_gives = { λ n k. k ≡ block_kind n };
+
+    // The kind with a number of a table: 1 the head, 2 a node, any other a page.
+    fn from(number: u32) -> Block {
+        match number {
+            1 => Block::Head,
+            2 => Block::Node,
+            _ => Block::Page,
+        }
+    }
+}
 
 // The words of a node block: 4 + 2 × 2^θ.
 fn node_words(theta: u32) -> u32
@@ -33,7 +49,7 @@ fn words_of(count: u32, words: u32) -> usize
 pub fn node_at(store: &[u32], n: u32) -> usize
     ensures { (result ≡ node_block store.now n) × (result < 2 ^ 34) }
 {
-    16 + words_of(words::difference(n, 1), node_words(word(store, 0)))
+    16 + words_of(n.saturating_sub(1), node_words(word(store, 0)))
 }
 
 // The words of a page block.
@@ -48,18 +64,16 @@ pub fn page_at(store: &[u32], p: u32) -> usize
     ensures { (result ≡ page_block store.now p) × (result < 2 ^ 34) }
 {
     let nodes = words_of(word(store, 2), node_words(word(store, 0)));
-    16 + nodes + words_of(words::difference(p, 1), page_words(store))
+    16 + nodes + words_of(p.saturating_sub(1), page_words(store))
 }
 
 // The first word of a block of a kind.
-pub fn start_of(store: &[u32], kind: u32, n: u32) -> usize
+pub fn start_of(store: &[u32], kind: Block, n: u32) -> usize
     ensures { (result ≡ block store.now kind n) × (result < 2 ^ 34) }
 {
-    if kind == HEAD {
-        return 0;
+    match kind {
+        Block::Head => 0,
+        Block::Node => node_at(store, n),
+        Block::Page => page_at(store, n),
     }
-    if kind == NODE {
-        return node_at(store, n);
-    }
-    page_at(store, n)
 }

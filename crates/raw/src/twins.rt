@@ -19,18 +19,17 @@ const BACK: usize = 2;
 
 const FORWARD: usize = 3;
 
-fn local_depth(store: &[u32], at: usize, j: usize) -> u32
-    requires { (at < 2 ^ 34) × (j < 64) }
-    ensures { result ≡ word store.now (at + 4 + 2 * j) }
-{
-    word(store, at + 4 + 2 * j)
-}
+// The words of a node's first entry.
+const LOCAL_DEPTH: usize = 4;
 
-fn pointer(store: &[u32], at: usize, j: usize) -> u32
-    requires { (at < 2 ^ 34) × (j < 64) }
-    ensures { result ≡ word store.now (at + 5 + 2 * j) }
+const POINTER: usize = 5;
+
+// A word of entry j of the node at a place.
+fn entry_word(store: &[u32], at: usize, which: usize, j: usize) -> u32
+    requires { (at < 2 ^ 34) × (which < 6) × (j < 64) }
+    ensures { result ≡ word store.now (at + which + 2 * j) }
 {
-    word(store, at + 5 + 2 * j)
+    word(store, at + which + 2 * j)
 }
 
 // A word of a node, by its place in the block.
@@ -56,7 +55,7 @@ fn pair(twins: &mut [u32], queue: &mut [u32], a: u32, b: u32)
     if word(twins, to_index(a)) != 0 {
         return;
     }
-    let n = words::sum(word(queue, 0), 1);
+    let n = word(queue, 0).saturating_add(1);
     put(twins, to_index(a), b);
     put(queue, to_index(n), a);
     put(queue, 0, n);
@@ -70,11 +69,13 @@ fn pair_children(x: &[u32], y: &[u32], twins: &mut [u32], queue: &mut [u32], a: 
 {
     let ax = blocks::node_at(x, a);
     let ay = blocks::node_at(y, word(twins, to_index(a)));
-    let n = entries(x, a);
-    let mut j: usize = 0;
-    while j < n {
-        pair(twins, queue, pointer(x, ax, j), pointer(y, ay, j));
-        j += 1;
+    for j in 0..entries(x, a) {
+        pair(
+            twins,
+            queue,
+            entry_word(x, ax, POINTER, j),
+            entry_word(y, ay, POINTER, j),
+        );
     }
 }
 
@@ -93,11 +94,8 @@ fn pair_all(x: &[u32], y: &[u32], twins: &mut [u32], queue: &mut [u32])
         (twins.new ≡ q.twins) × (queue.new ≡ q.queue) }
 {
     pair(twins, queue, word(x, 6), word(y, 6));
-    let nodes = to_index(word(x, 4));
-    let mut i: usize = 0;
-    while i < nodes {
+    for i in 0..to_index(word(x, 4)) {
         pair_below(x, y, twins, queue, word(queue, i + 1));
-        i += 1;
     }
 }
 
@@ -137,18 +135,12 @@ fn same_entries(x: &[u32], y: &[u32], twins: &[u32], a: u32, b: u32) -> bool
     let ax = blocks::node_at(x, a);
     let ay = blocks::node_at(y, b);
     let level = node_word(x, a, LEVEL);
-    let n = entries(x, a);
-    let mut j: usize = 0;
-    while j < n {
-        if local_depth(x, ax, j) != local_depth(y, ay, j) {
-            return false;
-        }
-        if !same_pointer(x, y, twins, level, pointer(x, ax, j), pointer(y, ay, j)) {
-            return false;
-        }
-        j += 1;
-    }
-    true
+    (0..entries(x, a)).all(|j| {
+        let p = entry_word(x, ax, POINTER, j);
+        let q = entry_word(y, ay, POINTER, j);
+        entry_word(x, ax, LOCAL_DEPTH, j) == entry_word(y, ay, LOCAL_DEPTH, j)
+            && same_pointer(x, y, twins, level, p, q)
+    })
 }
 
 // Whether a link of two nodes, back or forward, leads to paired nodes, or neither leads anywhere.
@@ -186,15 +178,7 @@ fn same_node(x: &[u32], y: &[u32], twins: &[u32], a: u32) -> bool
 fn same_nodes(x: &[u32], y: &[u32], twins: &[u32]) -> bool
     ensures { let x = x.now in result ≡ every (word x 4) (λ a. same_node x y.now twins.now (a + 1)) }
 {
-    let nodes = word(x, 4);
-    let mut a: u32 = 0;
-    while a < nodes {
-        if !same_node(x, y, twins, a + 1) {
-            return false;
-        }
-        a += 1;
-    }
-    true
+    (0..word(x, 4)).all(|a| same_node(x, y, twins, a + 1))
 }
 
 // Whether no node of the second store is the twin of two.
@@ -202,14 +186,12 @@ fn apart(twins: &[u32], nodes: u32) -> bool
     ensures { result ≡ apart_from twins.now (replicate 4097 0) 0 nodes }
 {
     let mut seen = [0u32; 4097];
-    let mut a: u32 = 0;
-    while a < nodes {
+    for a in 0..nodes {
         let b = to_index(word(twins, to_index(a + 1)));
         if word(&seen, b) != 0 {
             return false;
         }
         put(&mut seen, b, 1);
-        a += 1;
     }
     true
 }

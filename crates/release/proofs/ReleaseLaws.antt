@@ -1,5 +1,5 @@
 -- The words that a release leaves: a part given back is the block put, and the head of the same sizes places it where the store's own does.
-use mathlib.Core.Path.{◌≡◌, refl, ap, ap₂, ◌∙◌}
+use mathlib.Core.Path.{◌≡◌, ap, ap₂, ◌∙◌}
 use mathlib.Core.List.{List, ◌∷◌, ◌++◌}
 use Prim.Native.Nat.{ℕ, suc, ◌+◌, ◌-◌, ◌*◌, ◌≤◌}
 use native.Mathlib.Numerals.{add-one}
@@ -72,28 +72,22 @@ module _ (s : List ℕ) (h : Head) (z : SameSizes (head_of s) h) where
   page_put f p next = rw (page_place f p, z.capacity)
 
   -- what the code leaves
-  pub node_released : (n a w : ℕ) (ws t : List ℕ) → a ≡ node_start h n → w ≡ node_words h.theta → a + w ≤ length s
-      → ws ≡ set (replicate (length (take (a + w - a) (drop a s))) 0) 2 (word s 8)
-      → t ≡ set (set (take a s ++ (ws ++ drop (a + w - a) (drop a s))) 8 n) 10 (word s 10 + 1)
+  pub node_released : (n a w : ℕ) (t : List ℕ) → a ≡ node_start h n → w ≡ node_words h.theta
+      → t ≡ set (set (replaced a w (set (replicate w 0) 2 (word s 8)) s) 8 n) 10 (word s 10 + 1)
       → t ≡ release_node s n
   unfolding release_node released_of
-  node_released n a w ws t start size room e is =
-      let form : ws ≡ released_node h.theta (word s 8) =
-      e ∙ ap (λ k. set (replicate k 0) 2 (word s 8)) (part_long_lem s a w (a + w) refl room ∙ size) ∙ node_form_lem h.theta (word s 8) in
-      let put : take a s ++ (ws ++ drop (a + w - a) (drop a s)) ≡ put_node s n (released_node (head_of s).theta (word s 8)) =
-      given_back s ws a w (a + w) refl ∙ ap (λ l. replaced a w l s) form
-      ∙ ap₂ (λ x y. replaced x y (released_node h.theta (word s 8)) s) start size ∙ node_put_lem n (word s 8) in
+  node_released n a w t start size is =
+      let put : replaced a w (set (replicate w 0) 2 (word s 8)) s ≡ put_node s n (released_node (head_of s).theta (word s 8)) =
+      ap₂ (λ x y. replaced x y (set (replicate y 0) 2 (word s 8)) s) start size
+      ∙ ap (λ l. replaced (node_start h n) (node_words h.theta) l s) (node_form_lem h.theta (word s 8)) ∙ node_put_lem n (word s 8) in
       is ∙ ap₂ (λ l c. set (set l 8 n) 10 c) put (add-one (word s 10))
 
-  pub page_released : (f : Format) (p a w : ℕ) (ws t : List ℕ) → 1 ≤ h.capacity → a ≡ page_start f h p → w ≡ page_words f h.capacity
-      → a + w ≤ length s → ws ≡ set (replicate (length (take (a + w - a) (drop a s))) 0) 1 (word s 9)
-      → t ≡ set (set (take a s ++ (ws ++ drop (a + w - a) (drop a s))) 9 p) 11 (word s 11 + 1)
+  pub page_released : (f : Format) (p a w : ℕ) (t : List ℕ) → 1 ≤ h.capacity → a ≡ page_start f h p → w ≡ page_words f h.capacity
+      → t ≡ set (set (replaced a w (set (replicate w 0) 1 (word s 9)) s) 9 p) 11 (word s 11 + 1)
       → t ≡ release_page f s p
   unfolding release_page released_of
-  page_released f p a w ws t low start size room e is =
-      let form : ws ≡ released_page f h.capacity (word s 9) =
-      e ∙ ap (λ k. set (replicate k 0) 1 (word s 9)) (part_long_lem s a w (a + w) refl room ∙ size) ∙ page_form_lem f h.capacity (word s 9) low in
-      let put : take a s ++ (ws ++ drop (a + w - a) (drop a s)) ≡ put_page f s p (released_page f (head_of s).capacity (word s 9)) =
-      given_back s ws a w (a + w) refl ∙ ap (λ l. replaced a w l s) form
-      ∙ ap₂ (λ x y. replaced x y (released_page f h.capacity (word s 9)) s) start size ∙ page_put f p (word s 9) in
+  page_released f p a w t low start size is =
+      let put : replaced a w (set (replicate w 0) 1 (word s 9)) s ≡ put_page f s p (released_page f (head_of s).capacity (word s 9)) =
+      ap₂ (λ x y. replaced x y (set (replicate y 0) 1 (word s 9)) s) start size
+      ∙ ap (λ l. replaced (page_start f h p) (page_words f h.capacity) l s) (page_form_lem f h.capacity (word s 9) low) ∙ page_put f p (word s 9) in
       is ∙ ap₂ (λ l c. set (set l 9 p) 11 c) put (add-one (word s 11))

@@ -3,55 +3,48 @@
 #![tactic(auto)]
 
 ghost use Rattle.std.specs.Prelude.{◌≡◌, ◌+◌, ◌^◌, ◌≤◌, ◌<◌, length, set, replicate};
+ghost use Rattle.lists.specs.Lists.{replaced};
 ghost use Rattle.store.specs.Head.{largest_capacity, word, head_of, node_words, node_start, page_words, page_start};
 ghost use Rattle.split.specs.Insertion.{SameSizes};
 ghost use Rattle.release.specs.Release.{release_node, release_page};
 
 use store::{Format, Head};
 
-// Clears a block, and puts the number of the next one into a word of it.
-fn blank_block(part: &mut [u32], at: usize, next: u32)
-    requires { at < length part.old }
-    ensures { part.new ≡ set (replicate (length part.old) 0) at next }
+// Releases the block of so many words from `at` on: it is cleared, its word number `link` gets the last released block's number, which word
+// `last` of the head has, and the head names block n there and counts it two words on.
+fn release_block(store: &mut [u32], at: usize, size: usize, link: usize, last: usize, n: u32)
+    requires { (at + size ≤ length store.old) × (link < size) × (last + 2 < length store.old) × (word store.old (last + 2) + 1 < 2 ^ 32) }
+    ensures { store.new ≡ set (set (replaced at size (set (replicate size 0) link (word store.old last)) store.old) last n)
+        (last + 2) (word store.old (last + 2) + 1) }
 {
-    store::clear(part);
-    part[at] = next;
+    let next = store[last];
+    let count = store[last + 2];
+    let block = &mut store[at..at + size];
+    block.fill(0);
+    block[link] = next;
+    store[last] = n;
+    store[last + 2] = count + 1;
 }
 
-// Names the last released block in the head, and counts it: word 8 and word 10, or word 9 and word 11.
-fn name_released(store: &mut [u32], at: usize, n: u32, count: u32)
-    requires { at + 2 < length store.old }
-    ensures { store.new ≡ set (set store.old at n) (at + 2) count }
-{
-    store[at] = n;
-    store[at + 2] = count;
-}
-
-// Releases a node block.
+// Releases a node block: words 8 and 10 of the head.
 pub fn release_node(store: &mut [u32], head: Head, n: u32)
     requires { SameSizes (head_of store.old) head × (head.theta ≤ 6) × (16 ≤ length store.old)
         × (node_start head n + node_words head.theta ≤ length store.old) × (word store.old 10 + 1 < 2 ^ 32) }
     ensures { store.new ≡ release_node store.old n }
 {
-    let next = store[8];
-    let count = store[10];
     let at = store::node_start(head, n);
-    let end = at + store::node_words(head.theta);
-    blank_block(&mut store[at..end], 2, next);
-    name_released(store, 8, n, count + 1);
+    let size = store::node_words(head.theta);
+    release_block(store, at, size, 2, 8, n);
 }
 
-// Releases a page block.
+// Releases a page block: words 9 and 11 of the head.
 pub fn release_page(store: &mut [u32], f: Format, head: Head, p: u32)
     requires { SameSizes (head_of store.old) head × (head.theta ≤ 6) × (1 ≤ head.capacity) × (head.capacity ≤ largest_capacity)
         × (16 ≤ length store.old) × (page_start f head p + page_words f head.capacity ≤ length store.old)
         × (word store.old 11 + 1 < 2 ^ 32) }
     ensures { store.new ≡ release_page f store.old p }
 {
-    let next = store[9];
-    let count = store[11];
     let at = store::page_start(f, head, p);
-    let end = at + store::page_words(f, head.capacity);
-    blank_block(&mut store[at..end], 1, next);
-    name_released(store, 9, p, count + 1);
+    let size = store::page_words(f, head.capacity);
+    release_block(store, at, size, 1, 9, p);
 }

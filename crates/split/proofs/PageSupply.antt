@@ -1,6 +1,6 @@
 -- The page blocks that may be taken: what stays where other blocks are written, and what is left where the next one is taken.
 --   PageSupply f s == the page blocks that may be taken are in order
-use mathlib.Core.Path.{◌≡◌, refl, sym, ap, ◌∙◌, subst}
+use mathlib.Core.Path.{◌≡◌, sym, ap, ◌∙◌, subst}
 use mathlib.Core.List.{List, ◌∷◌}
 use Prim.Native.Nat.{ℕ, suc, ◌-◌, ◌≤◌, ◌<◌}
 use native.Mathlib.Decide.{ℕ_discrete}

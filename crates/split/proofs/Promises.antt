@@ -1,5 +1,5 @@
 -- The promises of specs/Promises.antt.
-use mathlib.Core.Path.{refl, sym}
+use mathlib.Core.Path.{refl}
 use mathlib.Core.List.{List}
 use Prim.Native.Nat.{ℕ, zero, suc, ◌≤◌}
 use native.Mathlib.Decide.{dec_le}
@@ -8,7 +8,7 @@ use Rattle.lists.specs.Lists.{greatest}
 use Rattle.lists.proofs.Tests.{greatest_at}
 use Rattle.split.specs.Value.{new_depth, running}
 use Rattle.split.specs.Promises.{NodeOpsAre, OneOf, RunsAsLargest}
-use Rattle.split.proofs.ValueLaws.{greatest_more}
+use Rattle.split.proofs.ValueLaws.{greatest_next}
 use Rattle.split.proofs.BlockLaws.{node_ops_are}
 
 pub node_operations : NodeOpsAre
@@ -31,4 +31,4 @@ some_of ws start (suc j) h = one_of ws start j
 pub runs_as_largest : RunsAsLargest
 unfolding running greatest
 runs_as_largest ws start j =
-    (refl, sym (greatest_more j (new_depth ws start) refl refl), greatest_at j (new_depth ws start), some_of ws start j)
+    (refl, greatest_next j (new_depth ws start), greatest_at j (new_depth ws start), some_of ws start j)

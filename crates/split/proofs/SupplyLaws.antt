@@ -7,8 +7,7 @@ use native.Mathlib.Omega.{arith}
 use lib.ListN.{length, length-append}
 use Rattle.lists.specs.Lists.{All}
 use Rattle.store.specs.Released.{chain_of, after_all, up_from}
-use Rattle.represent.specs.Labelled.{ind, count, OneForOne}
-use Rattle.represent.specs.Rep.{Chained}
+use Rattle.represent.specs.Labelled.{count, OneForOne}
 use Rattle.represent.proofs.LabelLaws.{ind_eq, ind_self, ind_other}
 use Rattle.represent.proofs.Chain.{count_append}
 use Rattle.represent.proofs.Counting.{length_chain}

@@ -3,7 +3,7 @@
 use mathlib.Core.Path.{◌≡◌, refl, sym, ap, ap₂, ◌∙◌}
 use mathlib.Core.List.{List, [], ◌∷◌, ◌++◌, append-nil}
 use Prim.Native.Nat.{ℕ, zero, suc, ◌+◌, ◌-◌, ◌*◌, ◌/◌, ◌^◌, ◌≤◌, ◌<◌, max}
-use native.Mathlib.Nat.{add-zero, zero-add, mul-le-mul_left, mul-le-mul_right}
+use native.Mathlib.Nat.{add-zero, mul-le-mul_left, mul-le-mul_right}
 use native.Mathlib.Decide.{dec_lt}
 use native.Mathlib.Numerals.{add-one}
 use native.Mathlib.Omega.{arith}
@@ -30,10 +30,17 @@ use Rattle.split.proofs.EntryLaws.{kept_in, kept_out, block_entries}
 pub steps_within : (i n k : ℕ) → i < n → 1 ≤ k → (i * k < n * k) × (i ≤ i * k)
 steps_within i n k h p = (omega (arith, mul-le-mul_right k h), omega (arith, mul-le-mul_left i p))
 
--- the largest of one number more
-pub greatest_more : (n : ℕ) (f : ℕ → ℕ) {m x : ℕ} → m ≡ greatest n f → x ≡ f n → max m x ≡ greatest (n + 1) f
+-- the largest of no numbers, and of one more
+pub greatest_none : (f : ℕ → ℕ) → greatest 0 f ≡ 0
 unfolding greatest
-greatest_more n f e l = ap₂ max e l ∙ ap (λ k. greatest k f) (sym (add-one n))
+greatest_none f = refl
+
+pub greatest_next : (n : ℕ) (f : ℕ → ℕ) → greatest (n + 1) f ≡ max (greatest n f) (f n)
+unfolding greatest
+greatest_next n f = ap (λ k. greatest k f) (add-one n)
+
+-- for a loop that keeps the largest so far
+pub ruleset greatest_steps = (greatest_none, greatest_next)
 
 -- an entry that is set, and the others
 pub length_with : (ws : List ℕ) (j : ℕ) (e : Entry ℕ) → length (with_entry ws j e) ≡ length ws
@@ -69,6 +76,10 @@ module _ (ws : List ℕ) (start : ℕ) (e : ℕ → Entry ℕ) where
   unfolding with_entries
   entries_none = refl
 
+  pub entries_next : (n : ℕ) → with_entries ws start (n + 1) e ≡ with_entry (with_entries ws start n e) (start + n) (e n)
+  unfolding with_entries
+  entries_next n = ap (λ m. with_entries ws start m e) (add-one n)
+
   pub entries_more : (n : ℕ) {vs : List ℕ} {i : ℕ} {x : Entry ℕ} → vs ≡ with_entries ws start n e → i ≡ start + n → x ≡ e n
       → with_entry vs i x ≡ with_entries ws start (n + 1) e
   unfolding with_entries
@@ -97,6 +108,9 @@ module _ (ws : List ℕ) (start : ℕ) (e : ℕ → Entry ℕ) where
             ap (entry_of (with_entries ws start (suc n) e) 0) at
             ∙ with_same (with_entries ws start n e) (start + n) (e n) (omega (arith, length_entries n)) ∙ ap e back
       ]
+
+-- for a loop that sets entry after entry
+pub ruleset entry_steps = (entries_none, entries_next)
 
 pub entries_at : (ws : List ℕ) (n : ℕ) (e : ℕ → Entry ℕ) {vs : List ℕ} → vs ≡ with_entries ws 0 n e → 4 + 2 * n ≤ length ws
     → (j : ℕ) → j < n → entry_of vs 0 j ≡ e j
@@ -194,19 +208,6 @@ spread_turn ws vs n j one two some l s first second =
         (λ i. let h : j + i / 2 ≡ m + suc (suc i) / 2 = omega arith in ap (entry_of ws 0) h)
         ∙ ap (λ a. with_entries ws a k (λ i. e (suc (suc i)))) from
 
-pub spread_all : (ws : List ℕ) (n : ℕ) {vs : List ℕ} → vs ≡ spread_from ws n 0 → vs ≡ with_entries ws 0 (2 * n) (λ j. entry_of ws 0 (j / 2))
-spread_all ws n s =
-    s
-    ∙ entries_ext ws (2 * 0) (2 * (n - 0)) (λ i. entry_of ws 0 (0 + i / 2)) (λ j. entry_of ws 0 (j / 2))
-    (λ j. ap (entry_of ws 0) (zero-add (j / 2)))
-    ∙ ap₂ (λ a c. with_entries ws a c (λ j. entry_of ws 0 (j / 2))) none all
-  where
-    none : 2 * 0 ≡ 0
-    none = omega arith
-
-    all : 2 * (n - 0) ≡ 2 * n
-    all = omega arith
-
 -- a block asks its entries only below 2^H, and below 2^θ
 pub block_ext : (θ H level back forward : ℕ) (e e' : ℕ → Entry ℕ) → ((j : ℕ) → j < 2 ^ H → j < 2 ^ θ → e j ≡ e' j)
     → block θ H level back forward e ≡ block θ H level back forward e'
@@ -278,9 +279,6 @@ entries_are n (a ∷ b ∷ c ∷ d ∷ ws) h =
 -- words with another front of four
 abbrev pub headed : ℕ → ℕ → ℕ → ℕ → List ℕ → List ℕ
 headed H level back forward ws = set (set (set (set ws 0 H) 1 level) 2 back) 3 forward
-
-pub length_headed : (H level back forward : ℕ) (ws : List ℕ) → length (headed H level back forward ws) ≡ length ws
-length_headed H level back forward ws = simp length-set
 
 -- a block whose first four words are written, and whose words behind the entries in use are cleared
 module _ (θ H level back forward : ℕ) (ws : List ℕ) where

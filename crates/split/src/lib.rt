@@ -3,7 +3,7 @@
 
 #![tactic(auto)]
 
-ghost use Rattle.std.specs.Prelude.{◌≡◌, true, false, pred, ◌+◌, ◌-◌, ◌*◌, ◌/◌, ◌%◌, ◌^◌, ◌≤◌, ◌<◌, length};
+ghost use Rattle.std.specs.Prelude.{◌≡◌, ◌+◌, ◌-◌, ◌*◌, ◌/◌, ◌%◌, ◌^◌, ◌≤◌, ◌<◌, length};
 ghost use Rattle.lists.specs.Bits.{bits, index};
 ghost use Rattle.lists.specs.Lists.{replaced};
 ghost use Rattle.tree.specs.Trie.{Key};
@@ -18,6 +18,7 @@ ghost use Rattle.split.specs.Value.{with_entry, with_entries, parted, running, S
 use store::{Format, Head};
 
 // Sets entry j of a node block.
+#[tactic(auto, unfolding(crate::specs::Value::with_entry))]
 pub fn set_entry(part: &mut [u32], j: usize, h: u32, p: u32)
     requires { 5 + 2 * j < length part.old }
     ensures { part.new ≡ with_entry part.old j (h, p) }
@@ -27,14 +28,13 @@ pub fn set_entry(part: &mut [u32], j: usize, h: u32, p: u32)
 }
 
 // Sets n entries of a node block from `start` on.
+#[tactic(auto, using(crate::proofs::ValueLaws::entry_steps))]
 pub fn fill(part: &mut [u32], start: usize, n: usize, h: u32, p: u32)
     requires { 4 + 2 * (start + n) ≤ length part.old }
     ensures { part.new ≡ with_entries part.old start n (λ j. (h, p)) }
 {
-    let mut j: usize = 0;
-    while j < n {
+    for j in 0..n {
         set_entry(part, start + j, h, p);
-        j += 1;
     }
 }
 
@@ -43,9 +43,7 @@ fn spread(part: &mut [u32], n: usize)
     requires { 4 + 4 * n ≤ length part.old }
     ensures { part.new ≡ with_entries part.old 0 (2 * n) (λ j. entry_of part.old 0 (j / 2)) }
 {
-    let mut j: usize = n;
-    while 0 < j {
-        j -= 1;
+    for j in (0..n).rev() {
         let h = part[4 + 2 * j];
         let p = part[5 + 2 * j];
         set_entry(part, 2 * j, h, p);
@@ -54,49 +52,38 @@ fn spread(part: &mut [u32], n: usize)
 }
 
 // Of the first entries every step-th: n of them.
+#[tactic(auto, using(crate::proofs::ValueLaws::entry_steps))]
 pub fn thin(part: &mut [u32], step: usize, n: usize)
     requires { (1 ≤ step) × (4 + 2 * (n * step) ≤ length part.old) }
     ensures { part.new ≡ with_entries part.old 0 n (λ j. entry_of part.old 0 (j * step)) }
 {
-    let mut j: usize = 0;
-    while j < n {
+    for j in 0..n {
         let k = j * step;
         let h = part[4 + 2 * k];
         let p = part[5 + 2 * k];
         set_entry(part, j, h, p);
-        j += 1;
     }
-}
-
-// x - 1, and 0 for 0.
-fn one_less(x: u32) -> u32
-    ensures { result ≡ pred x }
-{
-    if x == 0 {
-        return 0;
-    }
-    x - 1
 }
 
 // n entries of a node from `start` on, lowered, written as the first ones of another block. The largest new depth is kept as a running
 // value while they are copied; no half is walked again for it.
+#[tactic(auto, using(crate::proofs::ValueLaws::entry_steps, crate::proofs::ValueLaws::greatest_steps), unfolding(crate::specs::Value::running))]
 fn lower_entries(node: &[u32], start: usize, n: usize, to: &mut [u32]) -> u32
     requires { (4 + 2 * (start + n) ≤ length node.now) × (4 + 2 * n ≤ length to.old) }
     ensures { (to.new ≡ with_entries to.old 0 n (λ j. lowered (entry_of node.now 0 (start + j))))
         × (result ≡ running node.now start n) }
 {
     let mut largest: u32 = 0;
-    let mut j: usize = 0;
-    while j < n {
-        let x = one_less(node[4 + 2 * (start + j)]);
-        set_entry(to, j, x, node[5 + 2 * (start + j)]);
-        largest = node::larger(largest, x);
-        j += 1;
+    for j in 0..n {
+        let h = node[4 + 2 * (start + j)].saturating_sub(1);
+        set_entry(to, j, h, node[5 + 2 * (start + j)]);
+        largest = largest.max(h);
     }
     largest
 }
 
 // Writes a block's first four words and clears the words behind its entries in use.
+#[tactic(auto, using(crate::proofs::ValueLaws::four_words))]
 pub fn settle(part: &mut [u32], theta: u32, depth: u32, level: u32, back: u32, forward: u32)
     requires { (theta ≤ 6) × (depth ≤ theta) × (length part.old ≡ node_words theta) }
     ensures { part.new ≡ block theta depth level back forward (entry_of part.old 0) }
@@ -106,7 +93,7 @@ pub fn settle(part: &mut [u32], theta: u32, depth: u32, level: u32, back: u32, f
     part[2] = back;
     part[3] = forward;
     let end = 4 + 2 * store::pow2(depth);
-    store::clear(&mut part[end..]);
+    part[end..].fill(0);
 }
 
 // A run of entries: where it begins, and how many they are.
@@ -121,10 +108,7 @@ pub fn run_of(depth: u32, local: u32, i: usize) -> Run
     requires { (depth ≤ 6) × (i < 2 ^ depth) }
     ensures { (result.n ≡ 2 ^ (depth - local)) × (result.start ≡ i - i % result.n) × (result.start + result.n ≤ 2 ^ depth) }
 {
-    let mut n: usize = 1;
-    if local < depth {
-        n = store::pow2(depth - local);
-    }
+    let n = store::pow2(depth.saturating_sub(local));
     Run {
         start: i - i % n,
         n,
@@ -132,6 +116,7 @@ pub fn run_of(depth: u32, local: u32, i: usize) -> Run
 }
 
 // The run of entry i gets a local depth more by `more`, and its first half the pointer a, its second half c.
+#[tactic(auto, using(crate::proofs::ValueLaws::four_words))]
 fn write_run(part: &mut [u32], theta: u32, i: usize, more: u32, a: u32, c: u32)
     requires { (theta ≤ 6) × (length part.old ≡ node_words theta) × (depth_word part.old 0 ≤ theta) × (i < 2 ^ depth_word part.old 0)
         × (entry_depth part.old 0 i + more ≤ theta) }
@@ -172,6 +157,7 @@ fn aim_run(part: &mut [u32], theta: u32, i: usize, q: u32)
 }
 
 // Each entry twice.
+#[tactic(auto, using(crate::proofs::ValueLaws::four_words))]
 fn double_part(part: &mut [u32], theta: u32)
     requires { (theta ≤ 6) × (length part.old ≡ node_words theta) × (depth_word part.old 0 < theta) }
     ensures { part.new ≡ double theta part.old }
@@ -185,6 +171,7 @@ fn double_part(part: &mut [u32], theta: u32)
 }
 
 // The run of entry i halved; after a doubling if its local depth is the node's depth.
+#[tactic(auto, using(crate::proofs::ValueLaws::four_words))]
 fn grow_part(part: &mut [u32], theta: u32, i: usize, a: u32, c: u32)
     requires { (theta ≤ 6) × (length part.old ≡ node_words theta) × (depth_word part.old 0 ≤ theta) × (i < 2 ^ depth_word part.old 0)
         × (entry_depth part.old 0 i < theta) × (entry_depth part.old 0 i ≤ depth_word part.old 0) }
@@ -201,16 +188,14 @@ fn grow_part(part: &mut [u32], theta: u32, i: usize, a: u32, c: u32)
 
 // The half of a node whose first bit is clear, or set, written into a block of the same size: every local depth less by one, shrunk to the
 // largest of them.
+#[tactic(auto, using(crate::proofs::ValueLaws::four_words))]
 fn half_into(node: &[u32], theta: u32, upper: bool, to: &mut [u32])
     requires { (theta ≤ 6) × (length node.now ≡ node_words theta) × (length to.old ≡ node_words theta)
         × (1 ≤ depth_word node.now 0) × Shallow theta node.now }
     ensures { to.new ≡ half theta node.now upper }
 {
     let n = store::pow2(node[0] - 1);
-    let mut start: usize = 0;
-    if upper {
-        start = n;
-    }
+    let start = if upper { n } else { 0 };
     let largest = lower_entries(node, start, n, to);
     let m = store::pow2(largest);
     thin(to, n / m, m);
@@ -251,12 +236,7 @@ pub fn copy(part: &mut [u32], words: &[u32])
     requires { length words.now ≡ length part.old }
     ensures { part.new ≡ words.now }
 {
-    let n = part.len();
-    let mut j: usize = 0;
-    while j < n {
-        part[j] = words[j];
-        j += 1;
-    }
+    part.copy_from_slice(words);
 }
 
 // Writes words into block n, which is lent as a part of the store.
@@ -268,10 +248,11 @@ pub fn put_block(store: &mut [u32], head: Head, n: u32, words: &[u32])
 {
     let at = store::node_start(head, n);
     let end = at + store::node_words(head.theta);
-    copy(&mut store[at..end], words);
+    store[at..end].copy_from_slice(words);
 }
 
 // The entry of node n that a key takes.
+#[tactic(auto, using(crate::proofs::ValueLaws::four_words))]
 fn entry_in(store: &[u32], f: Format, head: Head, n: u32, key: u64, used: u32) -> usize
     requires { (head.theta ≤ 6) × (node_start head n + node_words head.theta ≤ length store.now) × (key < 2 ^ width f)
         × Reached f head.theta (node_at store.now head n) key used }
@@ -435,6 +416,7 @@ pub fn split_linked(
 }
 
 // Links node q, if there is one, back to m.
+#[tactic(auto, using(crate::proofs::ValueLaws::four_words))]
 pub fn relink(store: &mut [u32], head: Head, q: u32, m: u32)
     requires { (head.theta ≤ 6) × (node_start head q + node_words head.theta ≤ length store.old) }
     ensures { ((q ≡ 0) → store.new ≡ store.old)

@@ -56,7 +56,7 @@ fn element(row: &[u32], words: u32, i: u32, j: usize) -> u32
 pub fn width(depth: u32) -> u64
     ensures { (result ≡ 2 ^ (32 - depth)) × (result ≤ 2 ^ 32) }
 {
-    1u64 << words::difference(32, depth)
+    1u64 << 32u32.saturating_sub(depth)
 }
 
 fn end_of(start: u32, depth: u32) -> u64
@@ -69,14 +69,14 @@ fn end_of(start: u32, depth: u32) -> u64
 fn shortest(start: u32) -> u32
     ensures { result ≡ shortest_of start }
 {
-    words::difference(32, u32::trailing_zeros(start))
+    32 - start.trailing_zeros()
 }
 
 // Whether a level-0 stretch holds more records than a page.
 fn crowded(list: &[u32], most: u32, from: u32, start: u32, depth: u32) -> bool
     ensures { result ≡ crowded_at list.now most from start depth }
 {
-    let i = words::sum(from, most);
+    let i = from.saturating_add(most);
     if i >= word(list, 0) {
         return false;
     }
@@ -88,17 +88,14 @@ fn deep(below: &[u32], most: u32, from: u32, start: u32, depth: u32) -> bool
     ensures { result ≡ deep_at below.now most from start depth }
 {
     let end = end_of(start, depth);
-    let most = words::sum(depth, most);
-    let n = word(below, 0);
-    let mut i: u32 = from;
-    while i < n {
+    let most = depth.saturating_add(most);
+    for i in from..word(below, 0) {
         if widen(element(below, 2, i, 0)) >= end {
             return false;
         }
         if element(below, 2, i, 1) > most {
             return true;
         }
-        i += 1;
     }
     false
 }
@@ -116,12 +113,10 @@ fn halved(row: &[u32], rule: Rule, from: u32, start: u32, depth: u32) -> bool
 fn depth_at(row: &[u32], rule: Rule, from: u32, start: u32) -> u32
     ensures { result ≡ depth_of row.now rule from start }
 {
-    let mut depth: u32 = shortest(start);
-    while depth < 32 {
+    for depth in shortest(start)..32 {
         if !halved(row, rule, from, start, depth) {
             return depth;
         }
-        depth += 1;
     }
     32
 }
@@ -131,14 +126,12 @@ fn from_on(row: &[u32], words: u32, from: u32, key: u64) -> u32
     ensures { result ≡ from_on row.now words from key }
 {
     let n = word(row, 0);
-    let mut i: u32 = from;
-    while i < n {
+    for i in from..n {
         if widen(element(row, words, i, 0)) >= key {
             return i;
         }
-        i += 1;
     }
-    i
+    from.max(n)
 }
 
 fn append(row: &mut [u32], start: u32, depth: u32)
@@ -148,7 +141,7 @@ fn append(row: &mut [u32], start: u32, depth: u32)
     let at = 1 + 2 * to_index(n);
     put(row, at, start);
     put(row, at + 1, depth);
-    put(row, 0, words::sum(n, 1));
+    put(row, 0, n.saturating_add(1));
 }
 
 // Takes the next stretch.
@@ -165,7 +158,7 @@ fn step(below: &[u32], rule: Rule, sweep: Sweep, above: &mut [u32]) -> Sweep
         start: end,
         from,
         filled: if from > sweep.from {
-            words::sum(sweep.filled, 1)
+            sweep.filled.saturating_add(1)
         } else {
             sweep.filled
         },
@@ -183,13 +176,11 @@ fn sweep_over(below: &[u32], rule: Rule, above: &mut [u32]) -> u32
         from: 0,
         filled: 0,
     };
-    let mut turn: usize = 0;
-    while turn < ROOM {
+    for _turn in 0..ROOM {
         if sweep.start >= KEYS {
             return sweep.filled;
         }
         sweep = step(below, rule, sweep, above);
-        turn += 1;
     }
     sweep.filled
 }
@@ -199,8 +190,8 @@ fn taller(counts: Counts, nodes: u32) -> Counts
     ensures { result ≡ taller_by counts nodes }
 {
     Counts {
-        levels: words::sum(counts.levels, 1),
-        nodes: words::sum(counts.nodes, nodes),
+        levels: counts.levels.saturating_add(1),
+        nodes: counts.nodes.saturating_add(nodes),
         pages: counts.pages,
     }
 }
@@ -219,8 +210,7 @@ fn climb(row: &mut [u32], above: &mut [u32], theta: u32, pages: u32) -> Counts
         nodes: 0,
         pages,
     };
-    let mut level: u32 = 0;
-    while level < 33 {
+    for _level in 0..33u32 {
         sweep_over(
             row,
             Rule {
@@ -235,7 +225,6 @@ fn climb(row: &mut [u32], above: &mut [u32], theta: u32, pages: u32) -> Counts
             return counts;
         }
         words::copy(above, row, 1 + 2 * to_index(n));
-        level += 1;
     }
     counts
 }

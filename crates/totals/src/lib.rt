@@ -7,8 +7,9 @@ ghost use Rattle.totals.specs.Totals.{Room, no_totals, worth, ahead, earlier, up
 
 use store::Item;
 
-// How many records, their balances together, and of the leased one that ends first the key (0: none), the day and the price.
-#[derive(Clone, Copy)]
+// How many records, their balances together, and of the leased one that ends first the key (0: none, as the reply to a
+// summary has it), the day and the price.
+#[derive(Clone, Copy, Default)]
 pub struct Totals {
     pub count: u64,
     pub total: u64,
@@ -17,19 +18,16 @@ pub struct Totals {
     pub price: u32,
 }
 
+// The totals of no record.
+#[tactic(auto, unfolding(crate::specs::Totals::no_totals))]
 pub fn no_totals() -> Totals
     ensures { result ≡ no_totals }
 {
-    Totals {
-        count: 0,
-        total: 0,
-        key: 0,
-        last: 0,
-        price: 0,
-    }
+    Totals::default()
 }
 
 // The balance of a record.
+#[tactic(auto, using(crate::proofs::Laws::worth_lawful))]
 fn worth_of(item: Item, today: u32) -> u64
     requires { (lawful_term item.lease item.last ≡ true) × (lawful_day today ≡ true) }
     ensures { (result ≡ worth item today) × (result < 2 ^ 32) }
@@ -38,6 +36,7 @@ fn worth_of(item: Item, today: u32) -> u64
 }
 
 // Whether a record ends before a day, or on it at a higher price, without a branch.
+#[tactic(auto, unfolding(crate::specs::Totals::ahead))]
 fn is_ahead(item: Item, day: u32, price: u32) -> bool
     ensures { result ≡ ahead item day price }
 {
@@ -45,6 +44,7 @@ fn is_ahead(item: Item, day: u32, price: u32) -> bool
 }
 
 // Whether a record is leased, and the first to end so far, without a branch.
+#[tactic(auto, unfolding(crate::specs::Totals::earlier))]
 fn is_earlier(totals: Totals, item: Item) -> bool
     ensures { result ≡ earlier totals item }
 {
@@ -52,27 +52,25 @@ fn is_earlier(totals: Totals, item: Item) -> bool
 }
 
 // The work: the totals with a record added.
+#[tactic(auto, using(crate::proofs::Laws::updated_taken, crate::proofs::Laws::updated_kept))]
 fn updated(totals: Totals, item: Item, today: u32) -> Totals
     requires { Room totals item today }
     ensures { result ≡ updated_of totals item today }
 {
-    let count = totals.count + 1;
-    let total = totals.total + worth_of(item, today);
+    let counted = Totals {
+        count: totals.count + 1,
+        total: totals.total + worth_of(item, today),
+        ..totals
+    };
     if is_earlier(totals, item) {
-        return Totals {
-            count,
-            total,
+        Totals {
             key: item.key,
             last: item.last,
             price: item.price,
-        };
-    }
-    Totals {
-        count,
-        total,
-        key: totals.key,
-        last: totals.last,
-        price: totals.price,
+            ..counted
+        }
+    } else {
+        counted
     }
 }
 

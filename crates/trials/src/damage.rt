@@ -1,7 +1,8 @@
 // Group 6: sound stores with one to three words changed at random, and what holds of every call all the same.
+use groups::orders::Order;
 use groups::sets::Setting;
 use groups::{orders, sets};
-use harness::calls::{Call, Reply};
+use harness::calls::{Call, Kind, Reply};
 use harness::{calls, random, report};
 use raw::words;
 use store::{to_index, widen, word};
@@ -27,10 +28,10 @@ const TIMES: u32 = 3000;
 fn damaged(store: &[u32], value: u32, seed: u32, i: u32) -> u32 {
     let x = random::draw(seed, i);
     match x % 6 {
-        0 => random::draw(seed, words::sum(i, 1)),
+        0 => random::draw(seed, i.saturating_add(1)),
         1 | 2 => x / 6 % 9,
         3 => value ^ (1u32 << (x / 6 % 32)),
-        4 => words::sum(value, 1),
+        4 => value.saturating_add(1),
         _ => word(store, to_index(x / 6 % 256)),
     }
 }
@@ -38,45 +39,42 @@ fn damaged(store: &[u32], value: u32, seed: u32, i: u32) -> u32 {
 // The place of a word: of the head, or of the whole store.
 fn place(size: u32, seed: u32, i: u32) -> usize {
     if random::below(seed, i, 5) == 0 {
-        return to_index(random::below(seed, words::sum(i, 1), 16));
+        return to_index(random::below(seed, i.saturating_add(1), 16));
     }
-    to_index(random::below(seed, words::sum(i, 1), size))
+    to_index(random::below(seed, i.saturating_add(1), size))
 }
 
 fn damage(store: &mut [u32], size: u32, seed: u32, i: u32) {
-    let at = place(size, seed, words::sum(i, 100));
-    let value = damaged(store, word(store, at), seed, words::sum(i, 200));
+    let at = place(size, seed, i.saturating_add(100));
+    let value = damaged(store, word(store, at), seed, i.saturating_add(200));
     words::put(store, at, value);
 }
 
 // Changes one to three words.
 fn damage_some(store: &mut [u32], size: u32, seed: u32) {
     let n = 1 + random::below(seed, 1, 3) % 3;
-    let mut i: u32 = 0;
-    while i < n {
+    for i in 0..n {
         damage(store, size, seed, 2 * (i % 3));
-        i += 1;
     }
 }
 
 // A key at, beside or far from one that is held.
 fn key_near(list: &[u32], seed: u32, j: u32) -> u32 {
-    let x = random::draw(seed, words::sum(j, 300));
+    let x = random::draw(seed, j.saturating_add(300));
     let record = model::record_at(list, words::remainder(widen(x), model::size(list)));
     match x / 65536 % 4 {
         0 => x,
-        1 => words::sum(record.key, 1),
+        1 => record.key.saturating_add(1),
         _ => record.key,
     }
 }
 
 // What holds of a done reply on any words: find gives the key that was sought, next and range's first key not written are not below.
 fn sensible(call: Call, reply: Reply) -> bool {
-    let kind = call.kind;
-    match kind {
-        calls::FIND => reply.a == widen(call.a),
-        calls::NEXT => reply.a > widen(call.a),
-        calls::RANGE => reply.a <= 16 && (reply.b == 0 || reply.b >= widen(call.a)),
+    match call.kind {
+        Kind::Find => reply.a == widen(call.a),
+        Kind::Next => reply.a > widen(call.a),
+        Kind::Range => reply.a <= 16 && (reply.b == 0 || reply.b >= widen(call.a)),
         _ => true,
     }
 }
@@ -91,8 +89,8 @@ fn found_again(rt: &impl Print, store: &mut [u32], call: Call, tally: &mut [u64]
 
 // What holds after a call that was done.
 fn judge_done(rt: &impl Print, store: &mut [u32], call: Call, reply: Reply, tally: &mut [u64]) {
-    report::hold(rt, tally, sensible(call, reply), b"the reply fits the key");
-    if call.kind == calls::ENTER {
+    report::hold(rt, tally, sensible(call, reply), "the reply fits the key");
+    if call.kind == Kind::Enter {
         found_again(rt, store, call, tally);
     }
 }
@@ -109,15 +107,13 @@ fn call_damaged(rt: &impl Print, store: &mut [u32], call: Call, tally: &mut [u64
 
 // Every operation on a store damaged anew; enter comes last.
 fn calls_damaged(rt: &impl Print, store: &mut [u32], list: &[u32], seed: u32, tally: &mut [u64]) {
-    let mut j: u32 = 0;
-    while j < 5 {
+    for j in 0..5u32 {
         call_damaged(
             rt,
             store,
             faults::call_at(key_near(list, seed, j), to_index(j)),
             tally,
         );
-        j += 1;
     }
 }
 
@@ -144,10 +140,8 @@ fn damage_often(
     tally: &mut [u64],
 ) {
     let size = words::low(store.len() as u64);
-    let mut i: u32 = 0;
-    while i < TIMES {
-        damage_once(rt, sound, size, store, list, words::sum(seed, i), tally);
-        i += 1;
+    for i in 0..TIMES {
+        damage_once(rt, sound, size, store, list, seed.saturating_add(i), tally);
     }
 }
 
@@ -177,8 +171,8 @@ fn damage_setting(
     tally: &mut [u64],
 ) {
     orders::draw_set(list, drawn, setting);
-    let size = orders::fill_store(rt, sound, list, drawn, setting, 2, tally);
-    let seed = words::low(widen(setting.seed) * 100 + 5000000);
+    let size = orders::fill_store(rt, sound, list, drawn, setting, Order::Drawn, tally);
+    let seed = setting.seed.wrapping_mul(100).wrapping_add(5000000);
     damage_in(rt, sound, store, to_index(size), list, seed, tally);
 }
 
@@ -195,10 +189,8 @@ fn damage_settings(
     drawn: &mut [u32],
     tally: &mut [u64],
 ) {
-    let mut i: usize = 0;
-    while i < 10 {
+    for i in 0..SETTINGS.len() {
         damage_setting(rt, sound, store, list, drawn, setting_at(i), tally);
-        i += 1;
     }
 }
 
@@ -212,5 +204,5 @@ pub fn run(
 ) {
     report::start(tally, 6);
     damage_settings(rt, sound, store, list, drawn, tally);
-    report::finish(rt, tally, b"damaged stores");
+    report::finish(rt, tally, "damaged stores");
 }

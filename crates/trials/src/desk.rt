@@ -1,7 +1,6 @@
 // Group 1: the desk checks that are not proved.
 use harness::calls::{Call, Reply};
 use harness::{calls, report, script};
-use raw::words;
 use store::to_index;
 
 // On a store of 68 words: limits of set-up, a lease of 36,526 days, key 0, low = high, outputs of 0, 3, 4, 11 and 12 words.
@@ -74,14 +73,19 @@ fn size_row(rt: &impl Print, i: usize, store: &mut [u32], tally: &mut [u64]) {
     let call = script::call_at(&rows, i);
     let n = to_index(script::cell(&rows, i, 6));
     call_in(rt, store, n, call, script::reply_at(&rows, i), tally);
-    call_in(rt, store, words::less(n, 1), call, calls::refusal(5), tally);
+    call_in(
+        rt,
+        store,
+        n.saturating_sub(1),
+        call,
+        calls::refusal(5),
+        tally,
+    );
 }
 
 fn sizes(rt: &impl Print, store: &mut [u32], tally: &mut [u64]) {
-    let mut i: usize = 0;
-    while i < 5 {
+    for i in 0..SIZES.len() {
         size_row(rt, i, store, tally);
-        i += 1;
     }
 }
 
@@ -94,5 +98,5 @@ pub fn run(rt: &impl Print, store: &mut [u32], tally: &mut [u64]) {
     report::start(tally, 1);
     sizes(rt, store, tally);
     sample(rt, store, tally);
-    report::finish(rt, tally, b"desk checks");
+    report::finish(rt, tally, "desk checks");
 }

@@ -1,6 +1,5 @@
 // Group 4: every number of the operations, with all words compared, and of two breaches the earlier one.
 use harness::{report, script};
-use raw::words;
 
 // On 68 words: without a head, and a store set up.
 const FRESH: [[u32; 10]; 18] = [
@@ -102,7 +101,7 @@ const SHORTER: [[u32; 10]; 5] = [
 
 fn fresh(rt: &impl Print, store: &mut [u32], tally: &mut [u64]) {
     let rows = FRESH;
-    words::fill(store, 0);
+    store.fill(0);
     script::play_in(rt, &rows, store, 68, tally);
 }
 
@@ -127,5 +126,5 @@ pub fn run(rt: &impl Print, store: &mut [u32], tally: &mut [u64]) {
     sound(rt, store, tally);
     broken(rt, store, tally);
     shorter(rt, store, tally);
-    report::finish(rt, tally, b"refusals");
+    report::finish(rt, tally, "refusals");
 }

@@ -1,20 +1,17 @@
 -- The calls from call j on, made after those so far, are the five calls of the row.
-use borrow.Author.Rules.{rules}
+use native.Mathlib.Omega.{arith}
 use mathlib.Core.Path.{refl}
 use Prim.Native.Nat.{◌-◌}
 use Rattle.faults.proofs.Laws.{answers_turn, answers_out}
 use Rattle.faults.proofs.answers.Goals as goal
 
 pub loop-j-init : goal.loop-j-init
-loop-j-init g c = (search rules, search rules, refl)
+loop-j-init g c = refl
 
 pub loop-j-preserved : goal.loop-j-preserved
-loop-j-preserved g c = (
-  search rules,
-  search rules,
-  answers_turn _ _ _ _ c.loop-j.j c.loop-j.invariant.2 c.loop-j-test.true c.cell-key.ensures c.call_at.ensures
-      c.cell.ensures c.answer.ensures,
-)
+loop-j-preserved g c =
+    answers_turn _ _ _ _ c.loop-j.j c.loop-j.invariant (omega arith) c.cell-key.ensures c.call_at.ensures
+    c.cell.ensures c.answer.ensures
 
 pub returns : goal.returns
-returns g c = let l = c.loop-j in answers_out _ _ _ _ l.j l.invariant.2 c.loop-j-test.false
+returns g c = let l = c.loop-j in answers_out _ _ _ _ l.j l.invariant (omega arith)

@@ -7,10 +7,5 @@ use Rattle.faults.proofs.answers.Given as goal
 
 abbrev pub invariant-loop-j : goal.invariant-loop-j
 invariant-loop-j g l =
-    (length l.store ≡ length l.initial.store)
-    × (length l.tally ≡ length l.initial.tally)
-    × (answers_from l.rows l.i (both l.store l.tally) l.j (5 - l.j)
-    ≡ answers_from l.rows l.i (both l.initial.store l.initial.tally) 0 5)
-
-abbrev pub decreases-loop-j : goal.decreases-loop-j
-decreases-loop-j g l = 5 - l.j
+    answers_from l.rows l.i (both l.store l.tally) l.j (5 - l.j)
+    ≡ answers_from l.rows l.i (both l.initial.store l.initial.tally) 0 5

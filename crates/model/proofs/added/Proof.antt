@@ -8,13 +8,13 @@ returns : tie.Need-returns-then-earlier
 returns c =
     let p = c.before in
     let q = p.before.before in
-    added_first _ _ _ q.sum64-count.ensures p.balance.ensures p.sum64-total.ensures q.ahead.ensures c.if-earlier.true
+    added_first _ _ _ q.saturating_add-count.ensures p.balance.ensures p.saturating_add-total.ensures q.ahead.ensures c.if-earlier.true
 
 returns_2 : tie.Need-returns
 returns_2 c =
     let p = c.before in
     let q = p.before.before in
-    added_later _ _ _ q.sum64-count.ensures p.balance.ensures p.sum64-total.ensures q.ahead.ensures c.if-earlier.false
+    added_later _ _ _ q.saturating_add-count.ensures p.balance.ensures p.saturating_add-total.ensures q.ahead.ensures c.if-earlier.false
 
 pub added_spec : {M : Type 1} → statement M
 added_spec =

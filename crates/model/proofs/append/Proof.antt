@@ -9,7 +9,7 @@ unfolding appended
 returns c =
     let p = c.before.before in
     let q = p.before.before.before.before.before in
-    rw (p.put.ensures, p.sum.ensures, q.put_record.ensures, q.size-n.ensures)
+    rw (p.put.ensures, p.saturating_add.ensures, q.put_record.ensures, q.size-n.ensures)
 
 pub append_spec : {M : Type 1} → statement M
 append_spec =

@@ -18,7 +18,7 @@ returns_3 c =
     let p = c.before in
     let r = p.before.before in
     let q = r.before.before in
-    range_part _ _ _ _ q.if-low-high.false q.between-n.ensures r.if-n-fit.false r.rank.ensures p.sum.ensures
+    range_part _ _ _ _ q.if-low-high.false q.between-n.ensures r.if-n-fit.false r.rank.ensures p.saturating_add.ensures
     p.record_at-more.ensures c.listing-2.ensures
 
 pub range_spec : {M : Type 1} → statement M

@@ -11,7 +11,7 @@ returns c =
     let p2 = s.before.before.before.before in
     let p1 = p2.before.before.before.before in
     let i = p1.before.before in
-    stretch_put _ _ _ i.word-n.ensures i.to_index.ensures.0 p1.put.ensures p2.put-2.ensures s.sum.ensures
+    stretch_put _ _ _ i.word-n.ensures i.to_index.ensures.0 p1.put.ensures p2.put-2.ensures s.saturating_add.ensures
     p3.put-3.ensures
 
 pub append_spec : {M : Type 1} → statement M

@@ -7,14 +7,14 @@ use Rattle.stretches.proofs.crowded.Tie as tie
 returns : tie.Need-returns-then-i-word
 returns c =
     let w = c.before in
-    crowded_past _ _ _ _ _ w.sum-i.ensures w.word.ensures c.if-i-word.true
+    crowded_past _ _ _ _ _ w.saturating_add-i.ensures w.word.ensures c.if-i-word.true
 
 returns_2 : tie.Need-returns
 returns_2 c =
     let k = c.before.before in
     let t = k.before in
     let w = t.before in
-    crowded_test _ _ _ _ _ w.sum-i.ensures w.word.ensures t.if-i-word.false k.element.ensures
+    crowded_test _ _ _ _ _ w.saturating_add-i.ensures w.word.ensures t.if-i-word.false k.element.ensures
     c.widen.ensures.0 c.end_of.ensures
 
 pub crowded_spec : {M : Type 1} → statement M

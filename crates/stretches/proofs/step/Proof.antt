@@ -12,7 +12,7 @@ returns c =
     let a = e.before.before.before in
     let d = a.before.before in
     step_filled _ _ _ _ d.low-start.ensures d.depth_at-depth.ensures a.append.ensures e.end_of-end.ensures f.from_on-from.ensures
-    t.if-from-sweep.true c.sum.ensures
+    t.if-from-sweep.true c.saturating_add.ensures
 
 returns_2 : tie.Need-returns-else-from-sweep
 returns_2 c =

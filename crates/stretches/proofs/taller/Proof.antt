@@ -5,7 +5,7 @@ use Rattle.stretches.proofs.taller.Statement.{statement}
 use Rattle.stretches.proofs.taller.Tie as tie
 
 returns : tie.Need-returns
-returns c = taller_by_lem _ _ c.sum.ensures c.sum-2.ensures
+returns c = taller_by_lem _ _ c.saturating_add.ensures c.saturating_add-2.ensures
 
 pub taller_spec : {M : Type 1} → statement M
 taller_spec = tie.close (tie.spec (λ c κs. search rules) (λ c κs. search rules) returns)

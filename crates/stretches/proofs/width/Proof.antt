@@ -9,7 +9,7 @@ use Rattle.stretches.proofs.width.Tie as tie
 
 returns : tie.Need-returns
 returns c =
-    let d = c.difference in
+    let d = c.saturating_sub in
     let e = shl_one d.result 64 (omega (arith, d.ensures)) in
     (e ∙ ap (λ k. 2 ^ k) d.ensures, (pow_within _ d.result 32 e (omega (arith, d.ensures))).1)
 

@@ -8,10 +8,5 @@ use Rattle.groups.proofs.orders.enter_all.Given as goal
 
 abbrev pub invariant-loop-i : goal.invariant-loop-i
 invariant-loop-i g l =
-    (length l.store ≡ length l.initial.store)
-    × (length l.tally ≡ length l.initial.tally)
-    × (entered_from l.list l.drawn l.order (both l.store l.tally) l.i (l.n - l.i)
-    ≡ entered_from l.list l.drawn l.order (both l.initial.store l.initial.tally) 0 (word l.list 0))
-
-abbrev pub decreases-loop-i : goal.decreases-loop-i
-decreases-loop-i g l = l.n - l.i
+    entered_from l.list l.drawn l.order (both l.store l.tally) l.i (l.i-end - l.i)
+    ≡ entered_from l.list l.drawn l.order (both l.initial.store l.initial.tally) 0 (word l.list 0)

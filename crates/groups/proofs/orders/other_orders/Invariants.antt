@@ -7,10 +7,5 @@ use Rattle.groups.proofs.orders.other_orders.Given as goal
 
 abbrev pub invariant-loop-order : goal.invariant-loop-order
 invariant-loop-order g l =
-    (length l.store ≡ length l.initial.store)
-    × (length l.tally ≡ length l.initial.tally)
-    × (ordered_from l.first l.list l.drawn l.setting (both l.store l.tally) l.order (4 - l.order)
-    ≡ ordered_from l.first l.list l.drawn l.setting (both l.initial.store l.initial.tally) 1 3)
-
-abbrev pub decreases-loop-order : goal.decreases-loop-order
-decreases-loop-order g l = 4 - l.order
+    ordered_from l.first l.list l.drawn l.setting (both l.store l.tally) l.order (4 - l.order)
+    ≡ ordered_from l.first l.list l.drawn l.setting (both l.initial.store l.initial.tally) 1 3

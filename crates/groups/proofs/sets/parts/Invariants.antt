@@ -7,9 +7,4 @@ use Rattle.groups.proofs.sets.parts.Given as goal
 
 abbrev pub invariant-loop-turn : goal.invariant-loop-turn
 invariant-loop-turn g l =
-    (length l.store ≡ length l.initial.store)
-    × (length l.tally ≡ length l.initial.tally)
-    × (parts_from l.list l.room (both l.store l.tally) l.low (1024 - l.turn) ≡ parts_of l.list l.room (both l.initial.store l.initial.tally))
-
-abbrev pub decreases-loop-turn : goal.decreases-loop-turn
-decreases-loop-turn g l = 1024 - l.turn
+    parts_from l.list l.room (both l.store l.tally) l.low (1024 - l._turn) ≡ parts_of l.list l.room (both l.initial.store l.initial.tally)

@@ -13,7 +13,7 @@ returns_2 c =
     let e = l.before.before in
     let p = e.before in
     stays_store _ _ _ _ _ _ p.written.ensures p.all_from.ensures e.if-not-all_from.false-raw l.open_words-from.ensures
-    l.less.ensures c.same.ensures
+    l.saturating_sub.ensures c.same.ensures
 
 pub stayed_spec : {M : Type 1} → statement M
 stayed_spec =

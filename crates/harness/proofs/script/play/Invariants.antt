@@ -6,9 +6,5 @@ use Rattle.harness.proofs.script.play.Given as goal
 
 abbrev pub invariant-loop-i : goal.invariant-loop-i
 invariant-loop-i g l =
-    (length l.store ≡ length l.initial.store)
-    × (length l.tally ≡ length l.initial.tally)
-    × (played l.rows (both l.store l.tally) l.i (length l.rows - l.i) ≡ played l.rows (both l.initial.store l.initial.tally) 0 (length l.rows))
-
-abbrev pub decreases-loop-i : goal.decreases-loop-i
-decreases-loop-i g l = length l.rows - l.i
+    played l.rows (both l.store l.tally) l.i (length l.rows - l.i)
+    ≡ played l.rows (both l.initial.store l.initial.tally) 0 (length l.rows)

@@ -12,7 +12,7 @@ unfolding node_block
 returns c =
     let p = c.before in
     let k = p.node_words.ensures ∙ ap node_size p.word.ensures in
-    (ap (λ x. 16 + x) (words_cut c.words_of.ensures.0 p.difference.ensures k), search rules)
+    (ap (λ x. 16 + x) (words_cut c.words_of.ensures.0 p.saturating_sub.ensures k), search rules)
 
 pub node_at_spec : {M : Type 1} → statement M
 node_at_spec =

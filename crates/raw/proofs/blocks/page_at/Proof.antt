@@ -15,7 +15,7 @@ returns c =
     let w = q.before.before in
     let k = q.node_words.ensures ∙ ap node_size w.word-2.ensures in
     let nodes = words_cut q.words_of-nodes.ensures.0 w.word.ensures k in
-    let pages = words_cut c.words_of.ensures.0 p.difference.ensures p.page_words.ensures.0 in
+    let pages = words_cut c.words_of.ensures.0 p.saturating_sub.ensures p.page_words.ensures.0 in
     (ap₂ (λ x y. 16 + x + y) nodes pages, search rules)
 
 pub page_at_spec : {M : Type 1} → statement M

@@ -9,7 +9,7 @@ returns c = let p = c.before in pair_kept _ _ _ _ p.to_index.ensures.0 p.word.en
 
 returns_2 : tie.Need-returns
 returns_2 c =
-    pair_made _ _ _ _ c.to_index.ensures.0 c.word.ensures c.if-word-ne0.false c.word-2.ensures c.sum-n.ensures
+    pair_made _ _ _ _ c.to_index.ensures.0 c.word.ensures c.if-word-ne0.false c.word-2.ensures c.saturating_add-n.ensures
     c.to_index-2.ensures.0 c.put.ensures c.to_index-3.ensures.0 c.put-2.ensures c.put-3.ensures
 
 pub pair_spec : {M : Type 1} → statement M

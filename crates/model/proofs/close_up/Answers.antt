@@ -1,0 +1,15 @@
+use mathlib.Core.Path.{refl}
+use native.Mathlib.Omega.{arith}
+use Rattle.model.proofs.Laws.{down_more, down_done}
+use Rattle.model.proofs.close_up.Goals as goal
+
+pub loop-i-init : goal.loop-i-init
+loop-i-init c = refl
+
+pub loop-i-preserved : goal.loop-i-preserved
+loop-i-preserved c =
+    let l = c.loop-i in
+    down_more _ _ _ l.i _ l.invariant (omega arith) c.record_at-record.ensures c.put_record.ensures
+
+pub returns : goal.returns
+returns c = let l = c.loop-i in down_done _ _ _ l.i _ l.invariant (omega arith) c.size-i-end.ensures

@@ -1,0 +1,7 @@
+-- A root is written into the part that is lent.
+use Rattle.split.proofs.ValueLaws.{node_back}
+use Rattle.split.proofs.root_block.Goals as goal
+
+pub returns : goal.returns
+returns c =
+    node_back c.args.store.now c.args.head c.args.n c.node_start-at.ensures.0 c.node_words.ensures.0 c.write_root.ensures
