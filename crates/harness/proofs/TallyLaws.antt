@@ -2,13 +2,12 @@
 use mathlib.Core.Path.{◌≡◌, sym, ap, ◌∙◌}
 use mathlib.Core.Bool.{Bool, true, false, not}
 use mathlib.Core.List.{List}
-use Prim.Native.Nat.{ℕ, ◌+◌, ◌-◌, ◌^◌, ◌≤◌, ◌<◌, min}
+use Prim.Native.Nat.{ℕ, ◌+◌, ◌-◌, ◌^◌, ◌<◌, min}
 use native.Mathlib.Decide.{dec_lt}
 use native.Mathlib.Omega.{arith}
-use lib.Dec.{leb}
 use lib.ListN.{set}
 use Rattle.std.proofs.lemmas.List.{set-get_or}
-use borrow.Author.Tests.{lt-ltb, le-ltb, le-leb, lt-leb, not-true, not-false}
+use borrow.Author.Tests.{lt-ltb, le-ltb, not-true, not-false}
 use Rattle.store.specs.Head.{word}
 use Rattle.harness.specs.declared.calls.Reply.{Reply}
 use Rattle.harness.specs.declared.calls.Outcome.{Outcome}
@@ -28,17 +27,6 @@ counted_set t i {n} {m} e r h w =
           let same : m ≡ word t i = omega arith in
           w ∙ ap (set t i) same ∙ set-get_or t i 0 ∙ rw (le-ltb (word t i) (2 ^ 64 - 1) (omega (arith, e)), counted)
     ]
-
--- whether a failure is printed, by the count of the failures
-module _ (t : List ℕ) {u : List ℕ} {n : ℕ} (w : u ≡ counted t 2) (e : n ≡ word u 2) where
-  count : n ≡ word (counted t 2) 2
-  count = e ∙ ap (λ l. word l 2) w
-
-  pub failure_hid : 10 < n → (false ≡ leb (word (counted t 2) 2) 10) × (u ≡ counted t 2)
-  failure_hid h = (sym (lt-leb (word (counted t 2) 2) 10 (omega (arith, count))), w)
-
-  pub failure_shown : n ≤ 10 → (true ≡ leb (word (counted t 2) 2) 10) × (u ≡ counted t 2)
-  failure_shown h = (sym (le-leb (word (counted t 2) 2) 10 (omega (arith, count))), w)
 
 -- a trial that holds, and one that fails
 pub tried_held : (t : List ℕ) (holds : Bool) {u : List ℕ} → holds ≡ true → u ≡ counted t 1 → u ≡ tried t holds

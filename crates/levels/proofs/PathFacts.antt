@@ -9,7 +9,7 @@ use native.Mathlib.Omega.{arith}
 use native.Mathlib.Numerals.{add-one}
 use lib.Dec.{ltb}
 use lib.ListN.{length, get_or, take, drop, set, replicate, length-set, length-replicate, length-take}
-use lib.Seq.{get_or-set_same, get_or-set_other, get_or-take, drop-cons, length-take-le}
+use lib.Seq.{get_or-set_same, get_or-set_other, drop-cons}
 use borrow.Author.Tests.{le-leb, ltb-true}
 use Rattle.lists.specs.Lists.{All, Pairwise}
 use Rattle.lists.proofs.Cases.{bool_cases}
@@ -272,21 +272,15 @@ noted_passed f s h k marks u ok e clear long g = rw (g, e) (at u ok long)
         (sym u.head) (λ ok long. path_sound f s u.rule k ok marks clear long)
 
 -- the loops over steps
-pub marks_turn : (steps : List Step) (levels i : ℕ) (marks X : List ℕ) → i < levels → levels ≤ length steps
-    → path_marks (drop i (take levels steps)) marks ≡ X
-    → path_marks (drop (i + 1) (take levels steps)) (set marks (get_or steps i no_step).node (2 * (get_or steps i no_step).used + 1)) ≡ X
+pub marks_turn : (ts : List Step) (i : ℕ) (marks X : List ℕ) → i < length ts → path_marks (drop i ts) marks ≡ X
+    → path_marks (drop (i + 1) ts) (set marks (get_or ts i no_step).node (2 * (get_or ts i no_step).used + 1)) ≡ X
 unfolding mark
-marks_turn steps levels i marks X l long e =
-    let next : drop i (take levels steps) ≡ get_or steps i no_step ∷ drop (suc i) (take levels steps) =
-    drop-cons (take levels steps) i no_step (omega (arith, length-take-le levels steps long))
-    ∙ ap (λ t. t ∷ drop (suc i) (take levels steps)) (get_or-take levels steps i no_step l) in
-    ap (λ j. path_marks (drop j (take levels steps)) (set marks (get_or steps i no_step).node (2 * (get_or steps i no_step).used + 1))) (add-one i)
-    ∙ sym (ap (λ ts. path_marks ts marks) next) ∙ e
+marks_turn ts i marks X l e =
+    ap (λ j. path_marks (drop j ts) (set marks (get_or ts i no_step).node (2 * (get_or ts i no_step).used + 1))) (add-one i)
+    ∙ sym (ap (λ us. path_marks us marks) (drop-cons ts i no_step l)) ∙ e
 
-pub marks_out : (steps : List Step) (levels i : ℕ) (marks X : List ℕ) → levels ≤ i → path_marks (drop i (take levels steps)) marks ≡ X → marks ≡ X
-marks_out steps levels i marks X l e =
-    sym (ap (λ ts. path_marks ts marks)
-    (lib.ListN.drop_of_length-le (take levels steps) {i = i} (omega (arith, lib.ListN.length-take levels steps)))) ∙ e
+pub marks_out : (ts : List Step) (i : ℕ) (marks X : List ℕ) → length ts ≤ i → path_marks (drop i ts) marks ≡ X → marks ≡ X
+marks_out ts i marks X l e = sym (ap (λ us. path_marks us marks) (lib.ListN.drop_of_length-le ts {i = i} l)) ∙ e
 
 pub numbers_turn : (steps : List Step) (i : ℕ) (numbers : List ℕ) → i < length numbers
     → ((l : ℕ) → l < i → word numbers l ≡ (get_or steps l no_step).node)

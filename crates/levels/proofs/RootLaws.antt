@@ -1,19 +1,18 @@
 -- The levels that stay, from the top down, and the roots that do not.
-use mathlib.Core.Path.{◌≡◌, refl, sym, ap, ◌∙◌, subst}
-use mathlib.Core.List.{List, [], ◌∷◌, ◌++◌, map, append_assoc, append-nil}
+use mathlib.Core.Path.{◌≡◌, refl, sym, ap, ap₂, ◌∙◌, subst}
+use mathlib.Core.List.{List, [], ◌∷◌, ◌++◌, map, reverse, reverse_aux}
 use Prim.Native.Nat.{ℕ, zero, suc, ◌+◌, ◌-◌, ◌*◌, ◌≤◌, ◌<◌, min}
 use native.Mathlib.Decide.{ℕ_discrete}
 use native.Mathlib.Omega.{arith}
-use native.Mathlib.Numerals.{add-one}
-use lib.ListN.{length, get_or, take, drop, set}
-use lib.Seq.{take-suc, take_all, drop-cons, take-suc-set, length-take-le, get_or-take}
+use lib.ListN.{length, get_or, take, drop, length-drop}
+use lib.Seq.{take-suc, take_all, length-take-le, get_or-take, get_or-drop}
 use borrow.Author.Tests.{eq-eqb, ne_eqb}
 use Rattle.store.specs.declared.Head.{Head}
 use Rattle.store.specs.Head.{word, head_of, node_words, node_start, node_at}
 use Rattle.store.proofs.Places.{part_word}
 use Rattle.node.specs.Node.{depth_word}
 use Rattle.split.specs.Frame.{node_of}
-use Rattle.remove.specs.Remove.{Spot, no_spot, kept_over, kept_upper, kept_levels, backwards}
+use Rattle.remove.specs.Remove.{Spot, no_spot, kept_over, kept_upper, kept_levels, backwards, gone_roots}
 use Rattle.apply.specs.Carried.{block_in, LevelIs}
 use Rattle.apply.proofs.LoopLaws.{node_small}
 use Rattle.levels.specs.Levels.{NumbersAre, LevelsAre}
@@ -137,33 +136,25 @@ pub numbers_of_lem : (s : List ℕ) (θ changed : ℕ) (numbers blocks : List �
 numbers_of_lem s θ changed numbers blocks levels xs y = record { long = y.long; each = λ l p. (y.each l p).number }
 
 -- the roots that do not stay, from the top down
-backwards_onto : (ns ys : List ℕ) → backwards ns ys ≡ backwards [] ys ++ ns
-backwards_onto ns [] = refl
-backwards_onto ns (y ∷ ys) =
-    backwards_onto (y ∷ ns) ys ∙ sym (append_assoc (backwards [] ys) (y ∷ []) ns) ∙ ap (λ l. l ++ ns) (sym (backwards_onto (y ∷ []) ys))
+backwards_is : (ns ys : List ℕ) → backwards ns ys ≡ reverse_aux ys ns
+backwards_is ns [] = refl
+backwards_is ns (y ∷ ys) = backwards_is (y ∷ ns) ys
 
-abbrev pub roots_from : ℕ → List Spot → List ℕ
-roots_from n xs = backwards [] (map (λ x. x.number) (drop n xs))
+listed : (xs : List Spot) (ns : List ℕ) → length xs ≤ length ns → ((i : ℕ) → i < length xs → (get_or xs i no_spot).number ≡ word ns i)
+    → map (λ x. x.number) xs ≡ take (length xs) ns
+listed [] ns l a = refl
+listed (x ∷ xs) [] l a = absurd (omega (arith, l))
+listed (x ∷ xs) (n ∷ ns) l a = ap₂ (λ m ms. m ∷ ms) (a 0 (omega arith)) (listed xs ns (omega (arith, l)) (λ i p. a (suc i) (omega (arith, p))))
 
-roots_more : (xs : List Spot) (n : ℕ) → n < length xs → roots_from n xs ≡ roots_from (suc n) xs ++ ((get_or xs n no_spot).number ∷ [])
-roots_more xs n l =
-    ap (λ ys. backwards [] (map (λ (x : Spot). x.number) ys)) (drop-cons xs n no_spot l)
-    ∙ backwards_onto ((get_or xs n no_spot).number ∷ []) (map (λ (x : Spot). x.number) (drop (suc n) xs))
-
-pub roots_start : (xs : List Spot) (levels : ℕ) (ys : List ℕ) → length xs ≡ levels → ys ≡ ys ++ roots_from levels xs
-roots_start xs levels ys e =
-    sym (append-nil ys)
-    ∙ ap (λ (zs : List Spot). ys ++ backwards [] (map (λ (x : Spot). x.number) zs)) (sym (lib.ListN.drop_of_length-le xs {i = levels} (omega arith)))
-
-pub roots_turn : (xs : List Spot) (levels n end at : ℕ) (numbers gone gone₀ : List ℕ) → NumbersAre levels numbers xs → 1 ≤ n → n ≤ levels
-    → end < length gone → take end gone ≡ take at gone₀ ++ roots_from n xs
-    → take (end + 1) (set gone end (word numbers (n - 1))) ≡ take at gone₀ ++ roots_from (n - 1) xs
-roots_turn xs levels n end at numbers gone gone₀ y some in_xs room e =
-    let up : suc (n - 1) ≡ n = omega arith in
-    let v : ℕ = word numbers (n - 1) in
-    ap (λ i. take i (set gone end v)) (add-one end) ∙ take-suc-set gone end v room
-    ∙ ap (λ l. l ++ (v ∷ [])) e
-    ∙ append_assoc (take at gone₀) (roots_from n xs) (v ∷ [])
-    ∙ ap (λ i. take at gone₀ ++ (roots_from i xs ++ (v ∷ []))) (sym up)
-    ∙ ap (λ w. take at gone₀ ++ (roots_from (suc (n - 1)) xs ++ (w ∷ []))) (sym (y.each (n - 1) (omega arith)))
-    ∙ ap (λ l. take at gone₀ ++ l) (sym (roots_more xs (n - 1) (omega (arith, y.long))))
+pub roots_are : (xs : List Spot) (levels : ℕ) (numbers : List ℕ) {kept : ℕ} → NumbersAre levels numbers xs → levels ≤ length numbers
+    → kept ≡ length (kept_levels xs) → reverse (take (levels - kept) (drop kept numbers)) ≡ gone_roots xs
+roots_are xs levels numbers {kept} y fits e =
+    let long : length (drop kept xs) ≡ levels - kept = length-drop kept xs ∙ ap (λ n. n - kept) y.long in
+    let same =
+    listed (drop kept xs) (drop kept numbers) (omega (arith, long, length-drop kept numbers, fits))
+    (λ i p.
+    ap (λ (x : Spot). x.number) (get_or-drop kept xs i no_spot) ∙ y.each (kept + i) (omega (arith, long, p))
+    ∙ sym (get_or-drop kept numbers i 0)) in
+    ap (λ n. reverse (take n (drop kept numbers))) (sym long) ∙ ap reverse (sym same)
+    ∙ sym (backwards_is [] (map (λ (x : Spot). x.number) (drop kept xs)))
+    ∙ ap (λ n. backwards [] (map (λ (x : Spot). x.number) (drop n xs))) e

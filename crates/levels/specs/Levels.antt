@@ -15,8 +15,8 @@ use Rattle.remove.specs.Remove.{Reach, Spot, no_spot, spot_over, node_joins, Lev
 use Rattle.siblings.specs.Marks.{Tracks}
 use Rattle.siblings.specs.Nodes.{NodesR}
 use Rattle.apply.specs.Carried.{block_in, LevelIs}
-use Rattle.levels.specs.declared.Rise.{Rise}
-use Rattle.levels.specs.declared.LevelJoins.{LevelJoins}
+use Rattle.levels.specs.Outcome.{Rise}
+use Rattle.levels.specs.Outcome.{LevelJoins}
 
 pub record NumbersAre (levels : ℕ) (numbers : List ℕ) (xs : List Spot) : Type 0 where
   pub long : length xs ≡ levels

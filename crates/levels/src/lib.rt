@@ -2,36 +2,38 @@
 
 #![tactic(auto)]
 
-ghost use Rattle.std.specs.Prelude.{◌≡◌, true, false, List, ◌++◌, ℕ, suc, ◌+◌, ◌-◌, ◌*◌, ◌^◌, ◌≤◌, ◌<◌, ltb, length, get_or, set, take};
+ghost use Rattle.std.specs.Prelude.{◌≡◌, true, false, List, ◌++◌, ℕ, suc, ◌+◌, ◌-◌, ◌*◌, ◌^◌, ◌≤◌, ◌<◌, ltb, length, get_or, set, take, IfOk, IfErr};
+ghost use Rattle.answers.specs.declared.Refusal.TheVariants.{DamageMet};
 ghost use Rattle.store.specs.Format.{width};
 ghost use Rattle.store.specs.Head.{word, head_of, node_words, node_at, InUse, Under};
 ghost use Rattle.node.specs.Node.{depth_word};
 ghost use Rattle.search.specs.Descent.{no_step, descent};
 ghost use Rattle.remove.specs.Remove.{Reach, Spot, covered, levels_from, kept_levels, gone_roots};
+ghost use Rattle.siblings.specs.Outcome.{nodes_of};
 ghost use Rattle.siblings.specs.Marks.{Tracks, Passed};
 ghost use Rattle.siblings.specs.Nodes.{HandFine, Noded};
 ghost use Rattle.siblings.specs.Paths.{path_marks};
 ghost use Rattle.apply.specs.Carried.{block_in, LevelIs};
+ghost use Rattle.levels.specs.Outcome.{sound_rise, rise_of, levels_of};
 ghost use Rattle.levels.specs.Levels.{NumbersAre, LevelsAre, StaysIn, level_nodes, Turned, Levelled};
 
+use answers::Refusal;
 use search::Step;
 use siblings::NodeJoins;
 use store::{Format, Head};
 
-// Damage (not ok), or the way up: whether the level below joined, the bits of its stretch and the pointer to it, and the end of the released nodes.
+// The way up: whether the level below joined, the bits of its stretch and the pointer to it, and the end of the released nodes.
 #[derive(Clone, Copy)]
 pub struct Rise {
-    pub ok: bool,
     pub joins: bool,
     pub bits: u32,
     pub pointer: u32,
     pub end: usize,
 }
 
-// Damage (not ok), or the levels after their joins: so many of them change, from the lowest on; whether level-1 nodes joined; and the end of the released nodes.
+// The levels after their joins: so many of them change, from the lowest on; whether level-1 nodes joined; and the end of the released nodes.
 #[derive(Clone, Copy)]
 pub struct LevelJoins {
-    pub ok: bool,
     pub changed: u32,
     pub linked: bool,
     pub end: usize,
@@ -43,13 +45,8 @@ pub fn note_path(steps: [Step; 32], levels: u32, marks: &mut [u8])
         × ((i : ℕ) → i < levels → ((get_or steps i no_step).node < length marks.old) × ((get_or steps i no_step).used ≤ 64)) }
     ensures { marks.new ≡ path_marks (take levels steps) marks.old }
 {
-    let n = store::to_index(levels);
-    let mut i: usize = 0;
-    while i < n {
-        let t = steps[i];
-        let at = store::to_index(t.node);
-        marks[at] = (2 * t.used + 1) as u8;
-        i += 1;
+    for step in &steps[..levels as usize] {
+        marks[step.node as usize] = (2 * step.used + 1) as u8;
     }
 }
 
@@ -83,14 +80,12 @@ pub fn kept_levels(
         → result ≡ length (kept_levels xs))
         × (result ≤ levels) × (1 ≤ levels → 1 ≤ result) }
 {
-    let mut n = levels;
-    while n > 1 {
-        if depth_of(store, head, numbers, blocks, changed, n - 1) != 0 {
-            return n;
+    for l in (1..levels).rev() {
+        if depth_of(store, head, numbers, blocks, changed, l) != 0 {
+            return l + 1;
         }
-        n -= 1;
     }
-    n
+    levels.min(1)
 }
 
 // Numbers the roots that do not stay among the released nodes, from the top down.
@@ -101,14 +96,10 @@ pub fn release_roots(numbers: &[u32], kept: u32, levels: u32, gone: &mut [u32], 
         × ((xs : List Spot) → NumbersAre levels numbers.now xs → kept ≡ length (kept_levels xs)
         → take result gone.new ≡ take at gone.old ++ gone_roots xs) }
 {
-    let low = store::to_index(kept);
-    let mut n = store::to_index(levels);
-    let mut end = at;
-    while n > low {
-        n -= 1;
-        gone[end] = numbers[n];
-        end += 1;
-    }
+    let end = at + (levels - kept) as usize;
+    let roots = &mut gone[at..end];
+    roots.copy_from_slice(&numbers[kept as usize..levels as usize]);
+    roots.reverse();
     end
 }
 
@@ -117,12 +108,8 @@ fn path_numbers(steps: [Step; 32], levels: u32, numbers: &mut [u32])
     requires { (levels ≤ length steps) × (length steps ≡ 32) × (levels ≤ length numbers.old) }
     ensures { (l : ℕ) → l < levels → word numbers.new l ≡ (get_or steps l no_step).node }
 {
-    let n = store::to_index(levels);
-    let mut i: usize = 0;
-    while i < n {
-        let t = steps[i];
-        numbers[i] = t.node;
-        i += 1;
+    for (i, step) in steps[..levels as usize].iter().enumerate() {
+        numbers[i] = step.node;
     }
 }
 
@@ -164,52 +151,28 @@ fn join_level(
     marks: &mut [u8],
     gone: &mut [u32],
     at: usize,
-) -> NodeJoins
+) -> Result<NodeJoins, Refusal>
     requires { (Under f store.now head) × (InUse head t.node) × (t.used ≤ width f) × (key < 2 ^ width f) × (1 ≤ level)
         × (level ≤ head.levels) × (head.nodes_taken < length marks.old) × (length hand.old ≡ node_words head.theta)
         × (length spare.old ≡ node_words head.theta) × HandFine f head.theta m t.used (node_at store.now head t.node)
         × (at + t.used ≤ length gone.old) × (length gone.old < 2 ^ 32) × Passed f store.now head marks.old }
     ensures { ((rs : List Reach) → Tracks (width f) key rs marks.old
-        → Noded f key (level_nodes f store.now head key level t m q joins rs) result hand.new gone.old at
-        gone.new marks.new) × (result.ok ≡ true → result.end + result.used ≡ at + t.used)
-        × Passed f store.now head marks.new }
+        → Noded f key (level_nodes f store.now head key level t m q joins rs) (nodes_of result) hand.new gone.old at
+        gone.new marks.new) × ((nodes_of result).ok ≡ true → (nodes_of result).end + (nodes_of result).used ≡ at + t.used)
+        × Passed f store.now head marks.new × IfErr result (λ e. e ≡ DamageMet) }
 {
     take_node(store, f, head, key, t, m, q, hand);
     if !joins {
-        return NodeJoins {
-            ok: true,
+        return Ok(NodeJoins {
             number: t.node,
             used: t.used,
             last: t.node,
             end: at,
-        };
+        });
     }
     siblings::join_nodes(
         store, f, head, key, level, m, q, t.node, t.used, hand, spare, marks, gone, at,
     )
-}
-
-// Whether a level joined.
-fn joined(r: NodeJoins, used: u32) -> bool
-    ensures { (r.ok ≡ false → result ≡ false) × (r.ok ≡ true → result ≡ ltb r.used used) }
-{
-    if !r.ok {
-        return false;
-    }
-    r.used < used
-}
-
-// The way up before its first level, over a page stretch of m bits with the pointer q. It had `used` bits: if these are more, pages joined.
-fn lowest(used: u32, m: u32, q: u32) -> Rise
-    ensures { result ≡ record { ok = true; joins = ltb m used; bits = m; pointer = q; end = 0 } }
-{
-    Rise {
-        ok: true,
-        joins: m < used,
-        bits: m,
-        pointer: q,
-        end: 0,
-    }
 }
 
 // One level, counted from 0, of the way up.
@@ -226,19 +189,18 @@ fn level_turn(
     spare: &mut [u32],
     marks: &mut [u8],
     gone: &mut [u32],
-) -> Rise
+) -> Result<Rise, Refusal>
     requires { (Under f store.now head) × (InUse head t.node) × (t.used ≤ width f) × (key < 2 ^ width f) × (l < head.levels)
         × (l < length numbers.old) × (132 * l + 132 ≤ length blocks.old) × (length spare.old ≡ node_words head.theta)
         × (head.nodes_taken < length marks.old) × HandFine f head.theta w.bits t.used (node_at store.now head t.node)
         × (w.end + t.used ≤ length gone.old) × (length gone.old < 2 ^ 32) × Passed f store.now head marks.old }
     ensures { ((rs : List Reach) → Tracks (width f) key rs marks.old
-        → Turned f key head.theta l (level_nodes f store.now head key (l + 1) t w.bits w.pointer w.joins rs) w result
-        blocks.new gone.old gone.new marks.new)
-        × (result.ok ≡ false → result.joins ≡ false) × (result.ok ≡ true → result.joins ≡ ltb result.bits t.used)
-        × (result.ok ≡ true → result.end + result.bits ≡ w.end + t.used)
-        × (numbers.new ≡ set numbers.old l result.pointer)
+        → Turned f key head.theta l (level_nodes f store.now head key (l + 1) t w.bits w.pointer w.joins rs) (sound_rise w)
+        (rise_of result) blocks.new gone.old gone.new marks.new)
+        × IfOk result (λ r. (r.joins ≡ ltb r.bits t.used) × (r.end + r.bits ≡ w.end + t.used)
+        × (numbers.new ≡ set numbers.old l r.pointer))
         × ((j : ℕ) → (j ≡ l → ⊥) → block_in head.theta blocks.new j ≡ block_in head.theta blocks.old j)
-        × Passed f store.now head marks.new }
+        × Passed f store.now head marks.new × IfErr result (λ e. e ≡ DamageMet) }
 {
     let from = 132 * l;
     let to = from + store::node_words(head.theta);
@@ -258,15 +220,14 @@ fn level_turn(
         marks,
         gone,
         w.end,
-    );
+    )?;
     numbers[l] = r.number;
-    Rise {
-        ok: r.ok,
-        joins: joined(r, t.used),
+    Ok(Rise {
+        joins: r.used < t.used,
         bits: r.used,
         pointer: r.number,
         end: r.end,
-    }
+    })
 }
 
 // The levels of a removal joined upward, over a page stretch of m bits with the pointer q, from the path of the key. The nodes of all levels
@@ -286,7 +247,7 @@ pub fn join_levels(
     spare: &mut [u32],
     marks: &mut [u8],
     gone: &mut [u32],
-) -> LevelJoins
+) -> Result<LevelJoins, Refusal>
     requires { (Under f store.now head) × (key < 2 ^ width f) × ((descent f store.now head key).ok ≡ true)
         × (steps ≡ (descent f store.now head key).steps) × (used ≡ (descent f store.now head key).used) × (m ≤ used)
         × (head.levels ≤ length numbers.old) × (132 * head.levels ≤ length blocks.old)
@@ -294,35 +255,34 @@ pub fn join_levels(
         × (length gone.old < 2 ^ 32) × Passed f store.now head marks.old }
     ensures { ((rs : List Reach) → Tracks (width f) key rs marks.old
         → Levelled store.now head (take head.levels steps)
-        (levels_from f store.now head key 1 (take head.levels steps) m q (ltb m used) rs) result numbers.new
-        blocks.new gone.new)
-        × (result.ok ≡ true → (1 ≤ result.changed) × (result.changed ≤ head.levels) × (result.end ≤ width f * head.levels)
-        × (result.end ≤ length gone.old)
-        × StaysIn store.now head result.changed head.levels numbers.new) }
+        (levels_from f store.now head key 1 (take head.levels steps) m q (ltb m used) rs) (levels_of result)
+        numbers.new blocks.new gone.new)
+        × IfOk result (λ r. (1 ≤ r.changed) × (r.changed ≤ head.levels) × (r.end ≤ width f * head.levels)
+        × (r.end ≤ length gone.old) × StaysIn store.now head r.changed head.levels numbers.new)
+        × IfErr result (λ e. e ≡ DamageMet) }
 {
     path_numbers(steps, head.levels, numbers);
-    let levels = store::to_index(head.levels);
-    let mut w = lowest(used, m, q);
-    let mut l: usize = 0;
-    while l < levels {
-        let t = steps[l];
+    let mut w = Rise {
+        joins: m < used,
+        bits: m,
+        pointer: q,
+        end: 0,
+    };
+    for l in 0..head.levels as usize {
         w = level_turn(
-            store, f, head, key, l, t, w, numbers, blocks, spare, marks, gone,
-        );
+            store, f, head, key, l, steps[l], w, numbers, blocks, spare, marks, gone,
+        )?;
         if !w.joins {
-            return LevelJoins {
-                ok: w.ok,
+            return Ok(LevelJoins {
                 changed: l as u32 + 1,
                 linked: l > 0,
                 end: w.end,
-            };
+            });
         }
-        l += 1;
     }
-    LevelJoins {
-        ok: true,
-        changed: l as u32,
+    Ok(LevelJoins {
+        changed: head.levels,
         linked: true,
         end: w.end,
-    }
+    })
 }

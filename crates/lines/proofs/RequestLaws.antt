@@ -1,6 +1,6 @@
 -- Request lines. A line is its five parts, each a number in columns, so the laws of columns carry over part by part.
-use mathlib.Core.Path.{◌≡◌, refl, sym, ap, ◌∙◌}
-use mathlib.Core.Bool.{Bool, true, false, ◌&&◌, false≢true}
+use mathlib.Core.Path.{◌≡◌, refl, sym, ap, ◌∙◌, subst}
+use mathlib.Core.Bool.{Bool, true, ◌&&◌, false≢true}
 use mathlib.Core.List.{List, [], ◌∷◌, ◌++◌}
 use Prim.Native.Nat.{ℕ, zero, suc, ◌+◌, ◌-◌, ◌*◌, ◌/◌, ◌^◌, ◌≤◌, ◌<◌}
 use native.Mathlib.Omega.{arith}
@@ -13,11 +13,20 @@ use Rattle.lists.proofs.AppendLaws.{all_append}
 use Rattle.lists.proofs.Tests.{and_true, and_three, untrue, all_tab}
 use Rattle.lists.proofs.Parts.{part_front, part_past, part_next, length_part}
 use Rattle.lines.specs.declared.Request.{Request}
-use Rattle.lines.specs.declared.Request.TheVariants.{SetUp, Enter, Find, Next, Range, Summary, Dump, Remove, Wrong}
+use Rattle.std.specs.Prelude.{Option, Some, None, option_and_then, ◌==◌}
+use Rattle.std.specs.List.{list_all}
+use Rattle.std.proofs.lemmas.Option.{same_Some, none-some, option_and_then_some}
+use Rattle.lines.specs.declared.Request.TheVariants.{SetUp, Enter, Find, Next, Range, Summary, Dump, Remove}
+use Rattle.lines.specs.declared.Kind.{Kind}
+use Rattle.lines.specs.declared.Kind.TheVariants as kinds
 use Rattle.lines.specs.Columns.{plain, skipped, number_of, is_number, byte_at, column}
-use Rattle.lines.specs.Request.{kind_of, fields_of, columns, request_line, field_of, unused, request_of, well_formed, parsed}
+use Rattle.lines.specs.Request.{kind_number, kind_numbered, kind_of, fields_of, columns, request_line, field_of, unused, request_of, well_formed, parsed}
 use Rattle.lines.specs.Reply.{line_feed}
 use Rattle.lines.proofs.ColumnLaws.{length_column, column_plain, column_read}
+
+-- the request that the numbers of a kind and four fields make
+abbrev pub made : ℕ → ℕ → ℕ → ℕ → ℕ → Option Request
+made k a b c d = option_and_then (λ (kind : Kind). request_of kind a b c d) (kind_numbered k)
 
 -- columns that hold a number
 abbrev pub Holds : List ℕ → ℕ → Type 0
@@ -55,7 +64,7 @@ formed_facts bs e =
       fourth = a.2;
     }
 
-pub parsed_wrong : (bs : List ℕ) → (Formed bs → ⊥) → parsed bs ≡ Wrong
+pub parsed_wrong : (bs : List ℕ) → (Formed bs → ⊥) → parsed bs ≡ None
 unfolding parsed
 parsed_wrong bs h = rw (sym (untrue (λ e. h (formed_facts bs e))), parsed)
 
@@ -64,7 +73,7 @@ unfolding well_formed
 formed_test bs f = rw (eq-eqb (length bs) 42 f.whole, f.kind, f.first, f.second, f.third, f.fourth)
 
 pub parsed_right : (bs : List ℕ) (k a b c d : ℕ) → length bs ≡ 42 → Holds (part bs 0 2) k → Holds (field_of bs 0) a
-    → Holds (field_of bs 1) b → Holds (field_of bs 2) c → Holds (field_of bs 3) d → parsed bs ≡ request_of k a b c d
+    → Holds (field_of bs 1) b → Holds (field_of bs 2) c → Holds (field_of bs 3) d → parsed bs ≡ made k a b c d
 unfolding parsed
 parsed_right bs k a b c d l hk ha hb hc hd =
     let f : Formed bs = record { whole = l; kind = hk.0; first = ha.0; second = hb.0; third = hc.0; fourth = hd.0 } in
@@ -87,7 +96,7 @@ field_at k ns j h =
     part_past (column 2 k) (columns ns) (2 + 10 * j) (10 * j) 10 (omega (arith, length_column 2 k)) ∙ part_columns ns j h
 
 parsed_line : (k a b c d : ℕ) → k < 100 → a < 2 ^ 32 → b < 2 ^ 32 → c < 2 ^ 32 → d < 2 ^ 32
-    → parsed (column 2 k ++ columns (a ∷ b ∷ c ∷ d ∷ [])) ≡ request_of k a b c d
+    → parsed (column 2 k ++ columns (a ∷ b ∷ c ∷ d ∷ [])) ≡ made k a b c d
 parsed_line k a b c d hk ha hb hc hd =
     let ns : List ℕ = a ∷ b ∷ c ∷ d ∷ [] in
     let line : List ℕ = column 2 k ++ columns ns in
@@ -127,84 +136,96 @@ line_of bs f =
     (next 22 10 32 _ refl (omega arith) f.third
     (next 32 10 42 [] refl (omega arith) f.fourth (drop_of_length-le bs {i = 42} (omega arith))))))
 
-pub wrong_kind :
-    (k a b c d : ℕ) → (k ≡ 0 → ⊥) → (k ≡ 1 → ⊥) → (k ≡ 2 → ⊥) → (k ≡ 3 → ⊥) → (k ≡ 4 → ⊥) → (k ≡ 5 → ⊥) → (k ≡ 6 → ⊥) → (k ≡ 7 → ⊥)
-    → request_of k a b c d ≡ Wrong
-unfolding request_of
-wrong_kind zero a b c d h₀ h₁ h₂ h₃ h₄ h₅ h₆ h₇ = absurd (h₀ refl)
-wrong_kind (suc zero) a b c d h₀ h₁ h₂ h₃ h₄ h₅ h₆ h₇ = absurd (h₁ refl)
-wrong_kind (suc (suc zero)) a b c d h₀ h₁ h₂ h₃ h₄ h₅ h₆ h₇ = absurd (h₂ refl)
-wrong_kind (suc (suc (suc zero))) a b c d h₀ h₁ h₂ h₃ h₄ h₅ h₆ h₇ = absurd (h₃ refl)
-wrong_kind (suc (suc (suc (suc zero)))) a b c d h₀ h₁ h₂ h₃ h₄ h₅ h₆ h₇ = absurd (h₄ refl)
-wrong_kind (suc (suc (suc (suc (suc zero))))) a b c d h₀ h₁ h₂ h₃ h₄ h₅ h₆ h₇ = absurd (h₅ refl)
-wrong_kind (suc (suc (suc (suc (suc (suc zero)))))) a b c d h₀ h₁ h₂ h₃ h₄ h₅ h₆ h₇ = absurd (h₆ refl)
-wrong_kind (suc (suc (suc (suc (suc (suc (suc zero))))))) a b c d h₀ h₁ h₂ h₃ h₄ h₅ h₆ h₇ = absurd (h₇ refl)
-wrong_kind (suc (suc (suc (suc (suc (suc (suc (suc k)))))))) a b c d h₀ h₁ h₂ h₃ h₄ h₅ h₆ h₇ = refl
+-- The kind of a number has that number.
+kind_kept : (k : ℕ) (kind : Kind) → kind_numbered k ≡ Some kind → kind_number kind ≡ k
+unfolding kind_numbered
+kind_kept zero kind e = ap kind_number (sym (same_Some kinds.SetUp kind e))
+kind_kept (suc zero) kind e = ap kind_number (sym (same_Some kinds.Enter kind e))
+kind_kept (suc (suc zero)) kind e = ap kind_number (sym (same_Some kinds.Find kind e))
+kind_kept (suc (suc (suc zero))) kind e = ap kind_number (sym (same_Some kinds.Next kind e))
+kind_kept (suc (suc (suc (suc zero)))) kind e = ap kind_number (sym (same_Some kinds.Range kind e))
+kind_kept (suc (suc (suc (suc (suc zero))))) kind e = ap kind_number (sym (same_Some kinds.Summary kind e))
+kind_kept (suc (suc (suc (suc (suc (suc zero)))))) kind e = ap kind_number (sym (same_Some kinds.Dump kind e))
+kind_kept (suc (suc (suc (suc (suc (suc (suc zero))))))) kind e = ap kind_number (sym (same_Some kinds.Remove kind e))
+kind_kept (suc (suc (suc (suc (suc (suc (suc (suc k)))))))) kind e = absurd (none-some kind e)
 
 -- What a request keeps of the kind and the fields that made it.
-unused_kept : (r : Request) (t : Bool) → (unused r t ≡ Wrong → ⊥) → (t ≡ true) × (unused r t ≡ r)
+unused_kept : (q r : Request) (ns : List ℕ) → unused q ns ≡ Some r → (list_all (λ n. n == 0) ns ≡ true) × (q ≡ r)
 unfolding unused
-unused_kept r true h = (refl, refl)
-unused_kept r false h = absurd (h refl)
+unused_kept q r ns e =
+    by_cases (list_all (λ n. n == 0) ns)
+    (λ t. (t, same_Some q r (rw (t, unused) at e)))
+    (λ t. absurd (none-some r (rw (t, unused) at e)))
 
-zero_fields : (b c d : ℕ) → (eqb b 0 && eqb c 0 && eqb d 0) ≡ true → (b ≡ 0) × (c ≡ 0) × (d ≡ 0)
-zero_fields b c d e =
-    let z = and_three (eqb b 0) (eqb c 0) (eqb d 0) e in
-    (eqb-true b 0 z.0, eqb-true c 0 z.1, eqb-true d 0 z.2)
+zero_first : (n : ℕ) (ns : List ℕ) → list_all (λ n. n == 0) (n ∷ ns) ≡ true → (0 ≡ n) × (list_all (λ n. n == 0) ns ≡ true)
+zero_first n ns e =
+    let a = and_true (eqb n 0) (list_all (λ n. n == 0) ns) e in
+    (sym (eqb-true n 0 a.0), a.1)
 
-abbrev Kept : Request → ℕ → ℕ → ℕ → ℕ → ℕ → Type 0
-Kept r k a b c d = (kind_of r ≡ k) × (fields_of r ≡ a ∷ b ∷ c ∷ d ∷ [])
+abbrev Kept : Request → Kind → ℕ → ℕ → ℕ → ℕ → Type 0
+Kept r kind a b c d = (kind_of r ≡ kind) × (fields_of r ≡ a ∷ b ∷ c ∷ d ∷ [])
 
-request_kept : (k a b c d : ℕ) → (request_of k a b c d ≡ Wrong → ⊥) → Kept (request_of k a b c d) k a b c d
+request_kept : (kind : Kind) (a b c d : ℕ) (r : Request) → request_of kind a b c d ≡ Some r → Kept r kind a b c d
 unfolding request_of
-request_kept zero a b c d h = (refl, refl)
-request_kept (suc zero) a b c d h = (refl, refl)
-request_kept (suc (suc zero)) a b c d h =
-    let u = unused_kept (Find a) (eqb b 0 && eqb c 0 && eqb d 0) h in
-    let z = zero_fields b c d u.0 in
-    rw u.1 (refl, rw (z.0, z.1, z.2))
-request_kept (suc (suc (suc zero))) a b c d h =
-    let u = unused_kept (Next a) (eqb b 0 && eqb c 0 && eqb d 0) h in
-    let z = zero_fields b c d u.0 in
-    rw u.1 (refl, rw (z.0, z.1, z.2))
-request_kept (suc (suc (suc (suc zero)))) a b c d h =
-    let u = unused_kept (Range a b) (eqb c 0 && eqb d 0) h in
-    let z = zero_fields 0 c d u.0 in
-    rw u.1 (refl, rw (z.1, z.2))
-request_kept (suc (suc (suc (suc (suc zero))))) a b c d h =
-    let u = unused_kept (Summary a b c) (eqb d 0) h in
-    let z = zero_fields 0 0 d u.0 in
-    rw u.1 (refl, rw z.2)
-request_kept (suc (suc (suc (suc (suc (suc zero)))))) a b c d h =
-    let u = unused_kept Dump (eqb a 0 && eqb b 0 && eqb c 0 && eqb d 0) h in
-    let t = and_true (eqb a 0 && eqb b 0 && eqb c 0) (eqb d 0) u.0 in
-    let z = zero_fields a b c t.0 in
-    rw u.1 (refl, rw (z.0, z.1, z.2, eqb-true d 0 t.1))
-request_kept (suc (suc (suc (suc (suc (suc (suc zero))))))) a b c d h =
-    let u = unused_kept (Remove a) (eqb b 0 && eqb c 0 && eqb d 0) h in
-    let z = zero_fields b c d u.0 in
-    rw u.1 (refl, rw (z.0, z.1, z.2))
-request_kept (suc (suc (suc (suc (suc (suc (suc (suc k)))))))) a b c d h = absurd (h refl)
+request_kept kinds.SetUp a b c d r e = subst (λ (q : Request). Kept q kinds.SetUp a b c d) (same_Some (SetUp a b c d) r e) (refl, refl)
+request_kept kinds.Enter a b c d r e = subst (λ (q : Request). Kept q kinds.Enter a b c d) (same_Some (Enter a b c d) r e) (refl, refl)
+request_kept kinds.Find a b c d r e =
+    let u = unused_kept (Find a) r (b ∷ c ∷ d ∷ []) e in
+    let b₀ = zero_first b (c ∷ d ∷ []) u.0 in
+    let c₀ = zero_first c (d ∷ []) b₀.1 in
+    let d₀ = zero_first d ([]) c₀.1 in
+    subst (λ (q : Request). Kept q kinds.Find a b c d) u.1 (refl, rw (sym b₀.0, sym c₀.0, sym d₀.0))
+request_kept kinds.Next a b c d r e =
+    let u = unused_kept (Next a) r (b ∷ c ∷ d ∷ []) e in
+    let b₀ = zero_first b (c ∷ d ∷ []) u.0 in
+    let c₀ = zero_first c (d ∷ []) b₀.1 in
+    let d₀ = zero_first d ([]) c₀.1 in
+    subst (λ (q : Request). Kept q kinds.Next a b c d) u.1 (refl, rw (sym b₀.0, sym c₀.0, sym d₀.0))
+request_kept kinds.Range a b c d r e =
+    let u = unused_kept (Range a b) r (c ∷ d ∷ []) e in
+    let c₀ = zero_first c (d ∷ []) u.0 in
+    let d₀ = zero_first d ([]) c₀.1 in
+    subst (λ (q : Request). Kept q kinds.Range a b c d) u.1 (refl, rw (sym c₀.0, sym d₀.0))
+request_kept kinds.Summary a b c d r e =
+    let u = unused_kept (Summary a b c) r (d ∷ []) e in
+    let d₀ = zero_first d ([]) u.0 in
+    subst (λ (q : Request). Kept q kinds.Summary a b c d) u.1 (refl, rw (sym d₀.0))
+request_kept kinds.Dump a b c d r e =
+    let u = unused_kept Dump r (a ∷ b ∷ c ∷ d ∷ []) e in
+    let a₀ = zero_first a (b ∷ c ∷ d ∷ []) u.0 in
+    let b₀ = zero_first b (c ∷ d ∷ []) a₀.1 in
+    let c₀ = zero_first c (d ∷ []) b₀.1 in
+    let d₀ = zero_first d ([]) c₀.1 in
+    subst (λ (q : Request). Kept q kinds.Dump a b c d) u.1 (refl, rw (sym a₀.0, sym b₀.0, sym c₀.0, sym d₀.0))
+request_kept kinds.Remove a b c d r e =
+    let u = unused_kept (Remove a) r (b ∷ c ∷ d ∷ []) e in
+    let b₀ = zero_first b (c ∷ d ∷ []) u.0 in
+    let c₀ = zero_first c (d ∷ []) b₀.1 in
+    let d₀ = zero_first d ([]) c₀.1 in
+    subst (λ (q : Request). Kept q kinds.Remove a b c d) u.1 (refl, rw (sym b₀.0, sym c₀.0, sym d₀.0))
 
-pub line_kept : (bs : List ℕ) → (parsed bs ≡ Wrong → ⊥) → request_line (parsed bs) ≡ bs
+pub line_kept : (bs : List ℕ) (r : Request) → parsed bs ≡ Some r → request_line r ≡ bs
 unfolding request_line
-line_kept bs h =
+line_kept bs r h =
     by_cases (well_formed bs)
     (λ e.
     let f = formed_facts bs e in
     let k : ℕ = number_of (part bs 0 2) in
     let n : ℕ → ℕ = λ j. number_of (field_of bs j) in
-    let p : parsed bs ≡ request_of k (n 0) (n 1) (n 2) (n 3) =
+    let p : parsed bs ≡ made k (n 0) (n 1) (n 2) (n 3) =
     parsed_right bs k (n 0) (n 1) (n 2) (n 3) f.whole (f.kind, refl) (f.first, refl) (f.second, refl) (f.third, refl)
     (f.fourth, refl)
     in
-    let q = request_kept k (n 0) (n 1) (n 2) (n 3) (λ w. h (p ∙ w)) in
-    ap request_line p ∙ ap (λ m. column 2 m ++ columns (fields_of (request_of k (n 0) (n 1) (n 2) (n 3)))) q.0
-    ∙ ap (λ l. column 2 k ++ columns l) q.1 ∙ sym (line_of bs f))
-    (λ e. absurd (h (parsed_wrong bs (λ f. false≢true (sym e ∙ formed_test bs f)))))
+    option_and_then_some (λ (kind : Kind). request_of kind (n 0) (n 1) (n 2) (n 3)) (kind_numbered k) r (sym p ∙ h)
+    (λ (kind : Kind) s q.
+    let g = request_kept kind (n 0) (n 1) (n 2) (n 3) r q in
+    ap (λ (i : Kind). column 2 (kind_number i) ++ columns (fields_of r)) g.0
+    ∙ ap (λ m. column 2 m ++ columns (fields_of r)) (kind_kept k kind s)
+    ∙ ap (λ l. column 2 k ++ columns l) g.1 ∙ sym (line_of bs f)))
+    (λ e. absurd (none-some r (sym (parsed_wrong bs (λ f. false≢true (sym e ∙ formed_test bs f))) ∙ h)))
 
-pub line_parsed : (r : Request) → All (λ n. n < 2 ^ 32) (fields_of r) → parsed (request_line r) ≡ r
-unfolding request_line request_of unused
+pub line_parsed : (r : Request) → All (λ n. n < 2 ^ 32) (fields_of r) → parsed (request_line r) ≡ Some r
+unfolding request_line request_of unused kind_numbered
 line_parsed (SetUp a b c d) h = parsed_line 0 a b c d (omega arith) h.0 h.1.0 h.1.1.0 h.1.1.1.0
 line_parsed (Enter a b c d) h = parsed_line 1 a b c d (omega arith) h.0 h.1.0 h.1.1.0 h.1.1.1.0
 line_parsed (Find a) h = parsed_line 2 a 0 0 0 (omega arith) h.0 h.1.0 h.1.1.0 h.1.1.1.0
@@ -213,7 +234,6 @@ line_parsed (Range a b) h = parsed_line 4 a b 0 0 (omega arith) h.0 h.1.0 h.1.1.
 line_parsed (Summary a b c) h = parsed_line 5 a b c 0 (omega arith) h.0 h.1.0 h.1.1.0 h.1.1.1.0
 line_parsed Dump h = parsed_line 6 0 0 0 0 (omega arith) h.0 h.1.0 h.1.1.0 h.1.1.1.0
 line_parsed (Remove a) h = parsed_line 7 a 0 0 0 (omega arith) h.0 h.1.0 h.1.1.0 h.1.1.1.0
-line_parsed Wrong h = parsed_line 99 0 0 0 0 (omega arith) h.0 h.1.0 h.1.1.0 h.1.1.1.0
 
 -- the fields are 32-bit numbers
 abbrev Small : Request → Type 0
@@ -223,35 +243,23 @@ number_small : (bs : List ℕ) → is_number bs ≡ true → number_of bs < 2 ^ 
 unfolding is_number
 number_small bs e = ltb-true (number_of bs) (2 ^ 32) (and_true (plain (skipped bs)) (ltb (number_of bs) (2 ^ 32)) e).1
 
-none : 0 < 2 ^ 32
-none = omega arith
-
-unused_small : (r : Request) (t : Bool) → Small r → Small (unused r t)
-unfolding unused
-unused_small r true s = s
-unused_small r false s = (none, (none, (none, (none, tt))))
-
-request_small : (k a b c d : ℕ) → a < 2 ^ 32 → b < 2 ^ 32 → c < 2 ^ 32 → d < 2 ^ 32 → Small (request_of k a b c d)
-unfolding request_of
-request_small zero a b c d p q r s = (p, (q, (r, (s, tt))))
-request_small (suc zero) a b c d p q r s = (p, (q, (r, (s, tt))))
-request_small (suc (suc zero)) a b c d p q r s = unused_small (Find a) _ (p, (none, (none, (none, tt))))
-request_small (suc (suc (suc zero))) a b c d p q r s = unused_small (Next a) _ (p, (none, (none, (none, tt))))
-request_small (suc (suc (suc (suc zero)))) a b c d p q r s = unused_small (Range a b) _ (p, (q, (none, (none, tt))))
-request_small (suc (suc (suc (suc (suc zero))))) a b c d p q r s = unused_small (Summary a b c) _ (p, (q, (r, (none, tt))))
-request_small (suc (suc (suc (suc (suc (suc zero)))))) a b c d p q r s = unused_small Dump _ (none, (none, (none, (none, tt))))
-request_small (suc (suc (suc (suc (suc (suc (suc zero))))))) a b c d p q r s = unused_small (Remove a) _ (p, (none, (none, (none, tt))))
-request_small (suc (suc (suc (suc (suc (suc (suc (suc k)))))))) a b c d p q r s = (none, (none, (none, (none, tt))))
-
-pub fields_small : (bs : List ℕ) → Small (parsed bs)
-unfolding parsed
-fields_small bs =
+pub fields_small : (bs : List ℕ) (r : Request) → parsed bs ≡ Some r → Small r
+fields_small bs r h =
     by_cases (well_formed bs)
     (λ e.
     let f = formed_facts bs e in
-    rw (e, parsed)
-    (request_small _ _ _ _ _ (number_small _ f.first) (number_small _ f.second) (number_small _ f.third) (number_small _ f.fourth)))
-    (λ e. rw (e, parsed) (none, (none, (none, (none, tt)))))
+    let k : ℕ = number_of (part bs 0 2) in
+    let n : ℕ → ℕ = λ j. number_of (field_of bs j) in
+    let p : parsed bs ≡ made k (n 0) (n 1) (n 2) (n 3) =
+    parsed_right bs k (n 0) (n 1) (n 2) (n 3) f.whole (f.kind, refl) (f.first, refl) (f.second, refl) (f.third, refl)
+    (f.fourth, refl)
+    in
+    option_and_then_some (λ (kind : Kind). request_of kind (n 0) (n 1) (n 2) (n 3)) (kind_numbered k) r (sym p ∙ h)
+    (λ (kind : Kind) s q.
+    let small : All (λ n. n < 2 ^ 32) (n 0 ∷ n 1 ∷ n 2 ∷ n 3 ∷ []) =
+    (number_small _ f.first, (number_small _ f.second, (number_small _ f.third, (number_small _ f.fourth, tt)))) in
+    subst (λ (ns : List ℕ). All (λ n. n < 2 ^ 32) ns) (sym (request_kept kind (n 0) (n 1) (n 2) (n 3) r q).1) small))
+    (λ e. absurd (none-some r (sym (parsed_wrong bs (λ f. false≢true (sym e ∙ formed_test bs f))) ∙ h)))
 
 -- no byte of a line is 0A: the columns have blanks and digits
 column_printed : (w n : ℕ) → All (λ b. line_feed < b) (column w n)
@@ -269,4 +277,4 @@ columns_printed (n ∷ ns) = all_append (λ b. line_feed < b) (column 10 n) (col
 pub line_printed : (r : Request) → All (λ b. line_feed < b) (request_line r)
 unfolding request_line
 line_printed r =
-    all_append (λ b. line_feed < b) (column 2 (kind_of r)) (columns (fields_of r)) (column_printed 2 (kind_of r)) (columns_printed (fields_of r))
+    all_append (λ b. line_feed < b) (column 2 (kind_number (kind_of r))) (columns (fields_of r)) (column_printed 2 (kind_number (kind_of r))) (columns_printed (fields_of r))

@@ -6,32 +6,35 @@ use Prim.Native.Nat.{ℕ, zero, suc, ◌+◌, ◌-◌, ◌/◌, ◌%◌, ◌≤�
 use native.Mathlib.Omega.{arith}
 use lib.ListN.{length, drop, set, length-append}
 use lib.Seq.{drop-cons, set_at}
-use borrow.Author.Tests.{le-leb, lt-leb}
 use Rattle.lists.specs.Lists.{replaced}
 use Rattle.lists.proofs.Parts.{replaced_none, replaced_set, replaced_after}
-use Rattle.lines.specs.declared.Reply.{Reply}
 use Rattle.lines.specs.Columns.{nought, column}
-use Rattle.lines.specs.Reply.{line_feed, four_fields, summary_fields, request_fields, reply_line, line_size, written}
+use Rattle.lines.specs.Reply.{line_feed, four_fields, summary_fields, request_fields}
 use Rattle.lines.specs.Steps.{digit_or}
 use Rattle.lines.proofs.ColumnLaws.{padded, column_padded, length_column}
 
 pub put_first : (a w n : ℕ) (xs : List ℕ) → 1 ≤ w → a + w ≤ length xs
-    → replaced a (w - 1) (padded (w - 1) (n / 10)) (set xs (a + (w - 1)) (nought + n % 10)) ≡ replaced a w (column w n) xs
+    → let k : ℕ = a + w - 1 - a in
+    replaced a k (padded k (n / 10)) (set xs (a + w - 1) (nought + n % 10)) ≡ replaced a w (column w n) xs
 put_first a zero n xs h l = absurd (omega arith)
 put_first a (suc w) n xs h l =
-    let e : suc w - 1 ≡ w = omega arith in
-    ap (λ k. replaced a k (padded k (n / 10)) (set xs (a + k) (nought + n % 10))) e
+    let e : a + suc w - 1 - a ≡ w = omega arith in
+    let f : a + suc w - 1 ≡ a + w = omega arith in
+    ap (λ k. replaced a k (padded k (n / 10)) (set xs (a + suc w - 1) (nought + n % 10))) e
+    ∙ ap (λ i. replaced a w (padded w (n / 10)) (set xs i (nought + n % 10))) f
     ∙ replaced_set a w (padded w (n / 10)) (nought + n % 10) xs (omega arith)
     ∙ ap (λ l. replaced a (suc w) l xs) (sym (column_padded w n))
 
-pub put_more : (a k n v : ℕ) (xs : List ℕ) → 0 < k → a + k ≤ length xs → v ≡ digit_or n
-    → replaced a (k - 1) (padded (k - 1) (n / 10)) (set xs (a + (k - 1)) v) ≡ replaced a k (padded k n) xs
-put_more a zero n v xs h l d = absurd (omega arith)
-put_more a (suc k) n v xs h l d =
-    let e : suc k - 1 ≡ k = omega arith in
-    ap (λ j. replaced a j (padded j (n / 10)) (set xs (a + j) v)) e
+pub put_more : (a i n v : ℕ) (xs : List ℕ) → a < i → i ≤ length xs → v ≡ digit_or n
+    → replaced a (i - 1 - a) (padded (i - 1 - a) (n / 10)) (set xs (i - 1) v) ≡ replaced a (i - a) (padded (i - a) n) xs
+put_more a i n v xs h l d =
+    let k : ℕ = i - 1 - a in
+    let e : suc k ≡ i - a = omega arith in
+    let f : i - 1 ≡ a + k = omega arith in
+    ap (λ j. replaced a k (padded k (n / 10)) (set xs j v)) f
     ∙ replaced_set a k (padded k (n / 10)) v xs (omega arith)
     ∙ ap (λ b. replaced a (suc k) (padded k (n / 10) ++ b ∷ []) xs) d
+    ∙ ap (λ j. replaced a j (padded j n) xs) e
 
 pub put_done : (a n : ℕ) (xs : List ℕ) → replaced a 0 (padded 0 n) xs ≡ xs
 put_done a n xs = replaced_none a xs
@@ -111,13 +114,3 @@ request_put s₀ s₁ s₂ s₃ kind a b c d h e₁ e₂ e₃ =
     let f₂ = fill_two s₀ 2 10 a b 22 _ s₁ s₂ f₁ refl e₂ in
     let f₃ = fill_two s₀ 22 10 c d 42 _ s₂ s₃ f₂ refl e₃ in
     fill_last s₀ 42 line_feed _ s₃ f₃ (omega arith) ∙ simp append_assoc
-
--- A reply is written where its bytes are there, or nothing is.
-pub written_fits : (r s : Reply) (out bs : List ℕ) (n : ℕ) → line_size r ≤ length out → r ≡ s
-    → (n ≡ line_size s) × (bs ≡ reply_line s ++ drop (line_size s) out) → (n ≡ (written r out).count) × (bs ≡ (written r out).bytes)
-unfolding written
-written_fits r s out bs n h e w = rw (le-leb (line_size r) (length out) h, written) (rw e w)
-
-pub written_short : (r : Reply) (out : List ℕ) → length out < line_size r → (0 ≡ (written r out).count) × (out ≡ (written r out).bytes)
-unfolding written
-written_short r out h = rw (lt-leb (line_size r) (length out) h, written) (refl, refl)

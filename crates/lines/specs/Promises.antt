@@ -6,10 +6,10 @@
 --   FieldsFit        == the fields of what a line parses to are 32-bit numbers
 --   ReplyFits        == a reply line has the bytes of its size
 --   DumpParses       == a line of a register written out, without its byte 0A, is the line of its request
-use Rattle.std.specs.Prelude.{◌≡◌, true, List, [], ◌∷◌, ◌++◌, ℕ, ◌^◌, ◌≤◌, ◌<◌, length}
+use Rattle.std.specs.Prelude.{◌≡◌, true, Some, List, [], ◌∷◌, ◌++◌, ℕ, ◌^◌, ◌≤◌, ◌<◌, length}
 use Rattle.lists.specs.Lists.{All}
 use Rattle.lines.specs.declared.Request.{Request}
-use Rattle.lines.specs.declared.Request.TheVariants.{SetUp, Enter, Wrong}
+use Rattle.lines.specs.declared.Request.TheVariants.{SetUp, Enter}
 use Rattle.lines.specs.declared.Reply.{Reply}
 use Rattle.lines.specs.declared.Reply.TheVariants.{SetUpLine, EnterLine}
 use Rattle.lines.specs.Columns.{skipped, plain, number_of, column}
@@ -23,13 +23,13 @@ abbrev pub ColumnPlain : Type 0
 ColumnPlain = (w n : ℕ) → 1 ≤ w → n < 10 ^ w → (plain (skipped (column w n)) ≡ true) × (number_of (column w n) ≡ n)
 
 abbrev pub FormatThenParse : Type 0
-FormatThenParse = (r : Request) → All (λ n. n < 2 ^ 32) (fields_of r) → parsed (request_line r) ≡ r
+FormatThenParse = (r : Request) → All (λ n. n < 2 ^ 32) (fields_of r) → parsed (request_line r) ≡ Some r
 
 abbrev pub ParseThenFormat : Type 0
-ParseThenFormat = (bs : List ℕ) → (parsed bs ≡ Wrong → ⊥) → request_line (parsed bs) ≡ bs
+ParseThenFormat = (bs : List ℕ) (r : Request) → parsed bs ≡ Some r → request_line r ≡ bs
 
 abbrev pub FieldsFit : Type 0
-FieldsFit = (bs : List ℕ) → All (λ n. n < 2 ^ 32) (fields_of (parsed bs))
+FieldsFit = (bs : List ℕ) (r : Request) → parsed bs ≡ Some r → All (λ n. n < 2 ^ 32) (fields_of r)
 
 abbrev pub ReplyFits : Type 0
 ReplyFits = (r : Reply) → length (reply_line r) ≡ line_size r

@@ -7,6 +7,8 @@ use native.Mathlib.Omega.{arith}
 use lib.Dec.{eqb, ltb}
 use lib.ListN.{length, get_or}
 use borrow.Author.Tests.{lt-ltb, le-ltb, eq-eqb, ne_eqb}
+use Rattle.std.specs.Prelude.{Result}
+use Rattle.answers.specs.declared.Refusal.{Refusal}
 use Rattle.store.specs.declared.Format.{Format}
 use Rattle.store.specs.declared.Head.{Head}
 use Rattle.store.specs.Format.{width}
@@ -20,8 +22,7 @@ use Rattle.split.specs.Insertion.{put_items}
 use Rattle.insert.specs.Enter.{own_items}
 use Rattle.remove.specs.Remove.{sibling_key}
 use Rattle.siblings.proofs.PageLaws.{count_null, count_some, tested_rule}
-use Rattle.near.specs.declared.Near.{Near}
-use Rattle.near.specs.Near.{left_in, entry_beside, beside, root_stays, near_of, near_words}
+use Rattle.near.specs.Near.{Near, left_in, entry_beside, beside, root_stays, near_of, near_result, near_words}
 
 -- the arms of a test
 module _ {A : Type 0} (b : Bool) (x y : A) where
@@ -120,19 +121,47 @@ module _ (f : Format) (s : List ℕ) (h : Head) (k : ℕ) (e : End) (left : ℕ)
       near_told t q = q ∙ near_beside (rw (lt-ltb 0 left one, lt-ltb e.before e.used above, t))
 
 -- with as many left as there are
-pub near_left : (f : Format) (s : List ℕ) (h : Head) (k : ℕ) (e : End) {n left : ℕ} → n ≡ left → {r : Near} → r ≡ near_of f s h k e n
-    → r ≡ near_of f s h k e left
-near_left f s h k e l q = q ∙ ap (near_of f s h k e) l
+pub near_left : (f : Format) (s : List ℕ) (h : Head) (k : ℕ) (e : End) {n left : ℕ} → n ≡ left → {r : Result Bool Refusal}
+    → r ≡ near_result (near_of f s h k e n) → r ≡ near_result (near_of f s h k e left)
+near_left f s h k e l q = q ∙ ap (λ x. near_result (near_of f s h k e x)) l
+
+-- what is damage is not done
+undone : (a b c d : Bool) → let r : Near =
+    elim a [
+      | true ↦
+          elim b [
+            | true ↦ record { ok = true; done = true }
+            | false ↦ elim c [ true ↦ record { ok = true; done = d } | false ↦ record { ok = false; done = false } ]
+          ]
+      | false ↦ record { ok = true; done = false }
+    ] in
+    r.ok ≡ false → r.done ≡ false
+undone false b c d z = refl
+undone true true c d z = absurd (false≢true (sym z))
+undone true false true d z = absurd (false≢true (sym z))
+undone true false false d z = refl
 
 -- the words after it
-module _ (f : Format) (s : List ℕ) (h : Head) (k : ℕ) (e : End) {r : Near} (q : r ≡ near_of f s h k e (length (left_in f s h k e.page))) where
-  pub words_written : r.done ≡ true → put_items f h.capacity s e.page (left_in f s h k e.page) ≡ near_words f s h k e
-  unfolding near_words
-  words_written t = first_arm _ _ _ (sym (ap (λ (x : Near). x.done) q) ∙ t)
+module _ (f : Format) (s : List ℕ) (h : Head) (k : ℕ) (e : End) where
+  abbrev said : Near
+  said = near_of f s h k e (length (left_in f s h k e.page))
 
-  pub words_kept : r.done ≡ false → s ≡ near_words f s h k e
+  pub words_written : said.done ≡ true → put_items f h.capacity s e.page (left_in f s h k e.page) ≡ near_words f s h k e
   unfolding near_words
-  words_kept t = second_arm _ _ _ (sym (ap (λ (x : Near). x.done) q) ∙ t)
+  words_written t = first_arm _ _ _ t
+
+  pub words_kept : said.done ≡ false → s ≡ near_words f s h k e
+  unfolding near_words
+  words_kept t = second_arm _ _ _ t
+
+  pub words_lost : said.ok ≡ false → s ≡ near_words f s h k e
+  unfolding near_of beside
+  words_lost z =
+      let n : ℕ = length (left_in f s h k e.page) in
+      let v : Visit = entry_beside f s h k e in
+      words_kept
+      (undone (ltb 0 n && ltb e.before e.used && root_stays s h) (ltb e.used (e.before + v.depth)) (passes f s h k e n)
+      (ltb h.capacity (n + length (own_items f s h v.pointer))) z)
 
 -- the root's test
 module _ (s : List ℕ) (h : Head) where

@@ -4,8 +4,10 @@
 --   beside f s h k e left  == what that entry says of the page, with so many records left: damage, or whether the pair stays apart
 --   root_stays s h          == the root is not released: there is one level, or the root has several entries
 --   near_of f s h k e left  == what is said of the removal: damage, or that it is done by the page alone, or neither: it is not decided here
+--   Near                    == damage, where ok is false, and whether the removal is done; near_result == what the code returns for it
 --   near_words f s h k e    == the words after it: with the page alone written, or as they were
-use Rattle.std.specs.Prelude.{Bool, true, false, ◌&&◌, ◌||◌, not, List, ℕ, ◌+◌, eqb, ltb, length}
+use Rattle.std.specs.Prelude.{Result, Bool, true, false, ◌&&◌, ◌||◌, not, List, ℕ, ◌+◌, eqb, ltb, length}
+use Rattle.answers.specs.declared.Refusal.{Refusal}
 use Rattle.store.specs.declared.Format.{Format}
 use Rattle.store.specs.declared.Head.{Head}
 use Rattle.store.specs.declared.Item.{Item}
@@ -13,15 +15,20 @@ use Rattle.store.specs.Format.{width}
 use Rattle.store.specs.Head.{node_start, page_at}
 use Rattle.node.specs.Node.{depth_word}
 use Rattle.page.specs.Schema.{key_of}
-use Rattle.search.specs.Way.{End}
-use Rattle.search.specs.Way.{Visit}
+use Rattle.search.specs.Way.{Visit, End, answered}
 use Rattle.search.specs.Descent.{step_of}
 use Rattle.search.specs.Find.{sound_page}
 use Rattle.split.specs.Insertion.{put_items}
 use Rattle.insert.specs.Enter.{own_items}
 use Rattle.joins.specs.Joins.{without}
 use Rattle.remove.specs.Remove.{sibling_key}
-use Rattle.near.specs.declared.Near.{Near}
+
+pub record Near : Type 0 where
+  pub ok : Bool
+  pub done : Bool
+
+abbrev pub near_result : Near → Result Bool Refusal
+near_result r = answered r.ok r.done
 
 abbrev pub left_in : Format → List ℕ → Head → ℕ → ℕ → List Item
 left_in f s h k p = without key_of k (own_items f s h p)

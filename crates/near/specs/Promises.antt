@@ -16,8 +16,7 @@ use Rattle.search.specs.Descent.{descent, end_of}
 use Rattle.split.specs.Insertion.{put_items}
 use Rattle.gather.specs.Gather.{OwnPage}
 use Rattle.remove.specs.Remove.{Reach, Pages, path_reach, stuck_pages, no_pages, page_joins, emptied, plan_of, written_by}
-use Rattle.near.specs.declared.Near.{Near}
-use Rattle.near.specs.Near.{left_in, beside, near_of}
+use Rattle.near.specs.Near.{Near, left_in, beside, near_of}
 
 abbrev pub begun : Format → List ℕ → Head → ℕ → Descent → Pages
 begun f s h k d = emptied d.used d.page (left_in f s h k d.page) (path_reach (width f) k (take h.levels d.steps))

@@ -3,24 +3,19 @@
 
 #![tactic(auto)]
 
-ghost use Rattle.std.specs.Prelude.{◌≡◌, true, ◌^◌, ◌≤◌, ◌<◌, length};
+ghost use Rattle.std.specs.Prelude.{◌≡◌, ◌^◌, ◌≤◌, ◌<◌, length};
 ghost use Rattle.store.specs.Format.{width};
 ghost use Rattle.store.specs.Head.{page_at, Under};
 ghost use Rattle.page.specs.Page.{key_at};
+ghost use Rattle.search.specs.Way.{sound_end};
 ghost use Rattle.search.specs.Descent.{descent, end_of};
 ghost use Rattle.split.specs.Insertion.{put_items};
 ghost use Rattle.gather.specs.Gather.{OwnPage};
-ghost use Rattle.near.specs.Near.{left_in, root_stays, beside, near_of, near_words};
+ghost use Rattle.near.specs.Near.{left_in, root_stays, beside, near_of, near_result, near_words};
 
+use answers::Refusal;
 use search::End;
 use store::{Format, Head};
-
-// Damage (not ok), or whether the removal is done. If not, it is not decided here.
-#[derive(Clone, Copy)]
-pub struct Near {
-    pub ok: bool,
-    pub done: bool,
-}
 
 // Whether the root is not to be released: there is one level, or the root has several entries.
 fn root_stays(store: &[u32], head: Head) -> bool
@@ -33,61 +28,59 @@ fn root_stays(store: &[u32], head: Head) -> bool
     store::word(store, store::node_start(head, head.root)) != 0
 }
 
-// Damage, or whether the page at the end of a key's way, with so many records left in it, stays apart from its sibling. The sibling's entry is
-// in the same terminal node.
-fn stays_apart(store: &[u32], f: Format, head: Head, key: u64, e: End, left: usize) -> Near
-    requires { (Under f store.now head) × (key < 2 ^ width f) × (e ≡ end_of (descent f store.now head key)) × (e.ok ≡ true)
+// Whether the page at the end of a key's way, with so many records left in it, stays apart from its sibling. The sibling's entry is in the
+// same terminal node.
+fn stays_apart(
+    store: &[u32],
+    f: Format,
+    head: Head,
+    key: u64,
+    e: End,
+    left: usize,
+) -> Result<bool, Refusal>
+    requires { (Under f store.now head) × (key < 2 ^ width f) × (sound_end e ≡ end_of (descent f store.now head key))
         × (e.before < e.used) × (left ≤ head.capacity) }
-    ensures { result ≡ beside f store.now head key e left }
+    ensures { result ≡ near_result (beside f store.now head key (sound_end e) left) }
 {
     let m = e.used;
     let other = siblings::sibling_key(f, key, m);
-    let v = search::visit_node(store, f, head, other, 1, e.node, e.before, false);
+    let v = search::visit_node(store, f, head, other, 1, e.node, e.before, false)?;
     if e.before + v.depth > m {
-        return Near {
-            ok: true,
-            done: true,
-        };
+        return Ok(true);
     }
     let p = v.pointer;
     if p == 0 {
-        return Near {
-            ok: true,
-            done: false,
-        };
+        return Ok(false);
     }
     if !insert::own_ok(store, f, head, other, p, m) {
-        return Near {
-            ok: false,
-            done: false,
-        };
+        return Err(Refusal::DamageMet);
     }
     let held = page::count_of(store::page_at(store, f, head, p));
-    Near {
-        ok: true,
-        done: left + held > store::to_index(head.capacity),
-    }
+    Ok(left + held > store::to_index(head.capacity))
 }
 
 // Whether the removal of a key's record, which leaves so many in its page, joins nothing, as far as that is seen from the page's terminal
 // node.
-fn nothing_joins(store: &[u32], f: Format, head: Head, key: u64, e: End, left: usize) -> Near
-    requires { (Under f store.now head) × (key < 2 ^ width f) × (e ≡ end_of (descent f store.now head key)) × (1 ≤ e.page)
+fn nothing_joins(
+    store: &[u32],
+    f: Format,
+    head: Head,
+    key: u64,
+    e: End,
+    left: usize,
+) -> Result<bool, Refusal>
+    requires { (Under f store.now head) × (key < 2 ^ width f) × (sound_end e ≡ end_of (descent f store.now head key))
         × (left ≤ head.capacity) }
-    ensures { result ≡ near_of f store.now head key e left }
+    ensures { result ≡ near_result (near_of f store.now head key (sound_end e) left) }
 {
-    let none = Near {
-        ok: true,
-        done: false,
-    };
     if left == 0 {
-        return none;
+        return Ok(false);
     }
     if e.used <= e.before {
-        return none;
+        return Ok(false);
     }
     if !root_stays(store, head) {
-        return none;
+        return Ok(false);
     }
     stays_apart(store, f, head, key, e, left)
 }
@@ -105,18 +98,24 @@ fn take_record(store: &mut [u32], f: Format, head: Head, p: u32, i: usize)
 }
 
 // Takes record i, with the key, out of the page at the end of the key's way, if the removal joins nothing and that is seen from the page's
-// terminal node. Else nothing is written.
-pub fn take_near(store: &mut [u32], f: Format, head: Head, key: u64, e: End, i: usize) -> Near
-    requires { (Under f store.old head) × (key < 2 ^ width f) × (e ≡ end_of (descent f store.old head key))
+// terminal node, and tells whether the removal is done so. Else it is not decided here, and nothing is written.
+pub fn take_near(
+    store: &mut [u32],
+    f: Format,
+    head: Head,
+    key: u64,
+    e: End,
+    i: usize,
+) -> Result<bool, Refusal>
+    requires { (Under f store.old head) × (key < 2 ^ width f) × (sound_end e ≡ end_of (descent f store.old head key))
         × OwnPage f store.old head e.page i × (key_at f (page_at f store.old head e.page) i ≡ key) }
-    ensures { (result ≡ near_of f store.old head key e (length (left_in f store.old head key e.page)))
-        × (store.new ≡ near_words f store.old head key e) }
+    ensures { (result ≡ near_result (near_of f store.old head key (sound_end e) (length (left_in f store.old head key e.page))))
+        × (store.new ≡ near_words f store.old head key (sound_end e)) }
 {
     let count = page::count_of(store::page_at(store, f, head, e.page));
-    let r = nothing_joins(store, f, head, key, e, count - 1);
-    if !r.done {
-        return r;
+    let done = nothing_joins(store, f, head, key, e, count - 1)?;
+    if done {
+        take_record(store, f, head, e.page, i);
     }
-    take_record(store, f, head, e.page, i);
-    r
+    Ok(done)
 }

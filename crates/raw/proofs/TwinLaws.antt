@@ -13,7 +13,7 @@ use Rattle.lists.proofs.Tests.{or_holds, passed, failed}
 use Rattle.store.specs.Head.{word}
 use Rattle.raw.specs.Words.{alike}
 use Rattle.raw.specs.Blocks.{node_block, page_size, page_block}
-use Rattle.raw.specs.Twins.{node_word, entries_of, depth_at, pointer_at, Paired, both, paired, paired_from, paired_below}
+use Rattle.raw.specs.Twins.{node_word, entries_of, Paired, both, paired, paired_from, paired_below}
 use Rattle.raw.specs.Twins.{paired_next, paired_all}
 use Rattle.raw.specs.Twins.{same_page, twin, same_pointer, same_link, same_entries, same_node, apart_from, same_head, same_tree}
 use Rattle.raw.proofs.Steps.{steps_first, steps_turn, steps_out}

@@ -2,14 +2,15 @@
 use mathlib.Core.Path.{◌≡◌, refl, sym, ap, ap₂, ◌∙◌, subst}
 use mathlib.Core.Bool.{Bool, true, false, ◌&&◌, false≢true}
 use mathlib.Core.List.{List, [], ◌∷◌, ◌++◌}
-use mathlib.Core.Logic.{inl, inr}
 use Prim.Native.Nat.{ℕ, suc, ◌+◌, ◌-◌, ◌*◌, ◌≤◌, ◌<◌, min}
 use native.Mathlib.Nat.{mul-le-mul_right}
 use native.Mathlib.Omega.{arith}
 use lib.Dec.{ltb}
-use lib.ListN.{length, take, drop, replicate, length-append, length-drop, length-replicate}
+use lib.ListN.{length, take, drop, length-append, length-drop}
 use lib.Seq.{length-take-le}
-use Rattle.lists.proofs.Cases.{bool_cases}
+use Rattle.std.specs.Prelude.{Result, Ok, Err, IfOk}
+use Rattle.answers.specs.declared.Refusal.{Refusal}
+use Rattle.answers.specs.declared.Refusal.TheVariants.{DamageMet}
 use Rattle.store.specs.declared.Format.{Format}
 use Rattle.store.specs.declared.Head.{Head}
 use Rattle.store.specs.declared.Item.{Item}
@@ -20,8 +21,7 @@ use Rattle.page.specs.Schema.{key_of}
 use Rattle.represent.proofs.PageImage.{page_key}
 use Rattle.store.proofs.HeadLaws.{width_within, levels_within}
 use Rattle.search.specs.declared.Step.{Step}
-use Rattle.search.specs.Way.{Descent}
-use Rattle.search.specs.Way.{Record}
+use Rattle.search.specs.Way.{Descent, Record, answered}
 use Rattle.search.specs.Descent.{descent}
 use Rattle.search.specs.Find.{no_item, find_of}
 use Rattle.search.proofs.FindLaws.{sound_rule}
@@ -34,7 +34,7 @@ use Rattle.remove.specs.Doable.{Doable}
 use Rattle.remove.proofs.InsideRemove.{head_facts}
 use Rattle.remove.proofs.RemoveInside.{FoundIn, found_in_lem, doable}
 use Rattle.remove.proofs.Plans.{plan_is}
-use Rattle.siblings.specs.declared.PageJoins.{PageJoins}
+use Rattle.siblings.specs.Outcome.{PageJoins}
 use Rattle.siblings.specs.Marks.{Tracks}
 use Rattle.siblings.specs.Pages.{pages_by, Paged}
 use Rattle.siblings.proofs.PageJoinLaws.{both_used}
@@ -44,12 +44,11 @@ use Rattle.gather.proofs.GatherLaws.{own_image, own_lawful, own_sorted, own_coun
 use Rattle.apply.specs.declared.Outline.{Outline}
 use Rattle.apply.specs.Carried.{Carried, Ready}
 use Rattle.apply.proofs.ReadyLaws.{ready}
-use Rattle.levels.specs.declared.LevelJoins.{LevelJoins}
+use Rattle.levels.specs.Outcome.{LevelJoins}
 use Rattle.levels.specs.Levels.{NumbersAre, LevelsAre, Levelled}
 use Rattle.levels.proofs.RootLaws.{numbers_of_lem, kept_carried}
 use Rattle.removal.specs.declared.PagePart.{PagePart}
-use Rattle.removal.specs.declared.Draft.{Draft}
-use Rattle.removal.specs.Removal.{Located, PagesDone, LevelsDone, DraftFits, Executed}
+use Rattle.removal.specs.Removal.{Located, PartFits, PagesMade, LevelsMade, LevelsDone, DraftFits, Outlined, Drawn, Executed}
 
 -- where the record is found: the way is sound, and its page is
 module _ {f : Format} {s : List ℕ} {h : Head} {k i : ℕ} (y : Located f s h k i) where
@@ -89,21 +88,18 @@ module _ {f : Format} {s : List ℕ} {h : Head} {k i : ℕ} (y : Located f s h k
       subst (λ g. find_of f s g k ≡ Record y.item → (plan_of f s g k (descent f s g k)).ok ≡ true → Doable f s (plan_of f s g k (descent f s g k)))
       (sym y.under.head) (λ a b. doable f s y.under.rule k y.item a b) y.found ok
 
-  pub located_ready : (o : Outline) (items numbers blocks pages nodes : List ℕ)
-      → (plan_of f s h k (descent f s h k)).ok ≡ true
-      → Carried f s h o items numbers blocks pages nodes (plan_of f s h k (descent f s h k))
-      → (1 ≤ o.levels) × (o.levels ≤ h.levels) × (1 ≤ o.changed) × (o.changed ≤ o.levels) × (o.pages ≤ 65)
-      × (o.nodes ≤ width f * h.levels + h.levels)
+  pub located_ready : {o : Outline} {items numbers blocks pages nodes : List ℕ} → Outlined f s h k o items numbers blocks pages nodes
       → h.levels ≤ length numbers → 132 * h.levels ≤ length blocks → 65 ≤ length pages → width f * h.levels + h.levels ≤ length nodes
       → width f * h.levels + h.levels ≤ 4096
       → Ready f s h o items numbers blocks pages nodes
-  located_ready o items numbers blocks pages nodes ok is w a b c d e =
+  located_ready {o} {items} {numbers} {blocks} {pages} {nodes} w a b c d e =
       subst (λ g. find_of f s g k ≡ Record y.item → (plan_of f s g k (descent f s g k)).ok ≡ true
       → Carried f s g o items numbers blocks pages nodes (plan_of f s g k (descent f s g k)) → Ready f s g o items numbers blocks pages nodes)
       (sym y.under.head)
-      (λ p q r. ready f s y.under.rule k y.item p q o items numbers blocks pages nodes r w.3 w.0 (omega (arith, w.1, a))
-      (omega (arith, w.3, w.1, b)) (omega (arith, w.4, c)) (omega (arith, w.5, d)) (omega (arith, w.4)) (omega (arith, w.5, e)) (λ z. w.2))
-      y.found ok is
+      (λ p q r. ready f s y.under.rule k y.item p q o items numbers blocks pages nodes r w.changed_in w.some (omega (arith, w.few, a))
+      (omega (arith, w.changed_in, w.few, b)) (omega (arith, w.pages_in, c)) (omega (arith, w.nodes_in, d)) (omega (arith, w.pages_in))
+      (omega (arith, w.nodes_in, e)) (λ z. w.first))
+      y.found w.ok w.carried
 
 -- the records left in the key's page
 pub own_less : {f : Format} {s : List ℕ} {h : Head} (u : Under f s h) {page i : ℕ} → OwnPage f s h page i → (k : ℕ)
@@ -166,78 +162,53 @@ module _ (f : Format) (s : List ℕ) (h : Head) (k used page : ℕ) (rs : List R
     here : Paged f s h k g₀ (page_joins f s h k used g₀) j mates marks
     here = subst (λ n. Paged f s h k g₀ (page_joins f s h k n g₀) j mates marks) (start_used used page xs rs) y
 
-    pub pages_lost : j.ok ≡ false → (r : PagePart) → r.ok ≡ false → (items pages : List ℕ)
-        → PagesDone f h.capacity k (page_joins f s h k used g₀) r items pages marks
-    pages_lost o r e items pages =
-        record {
-          ok_is = e ∙ sym o ∙ here.ok_is;
-          bits_are = λ z. absurd (false≢true (sym e ∙ z));
-          page_is = λ z. absurd (false≢true (sym e ∙ z));
-          items_are = λ z. absurd (false≢true (sym e ∙ z));
-          pages_are = λ z. absurd (false≢true (sym e ∙ z));
-          tracked = λ z. absurd (false≢true (sym e ∙ z));
-        }
+    pub pages_lost : j.ok ≡ false → (page_joins f s h k used g₀).ok ≡ false
+    pages_lost o = sym here.ok_is ∙ o
 
     pub pages_done : j.ok ≡ true → j.n ≤ length mates → {g : Gathered} {items lost : List ℕ}
         → Holds f h.capacity (pages_by f s h k (start_of f s h k used page rs) (take j.n mates)) g items lost
-        → PagesDone f h.capacity k (page_joins f s h k used g₀)
-        (record { ok = true; bits = used - j.n; page = g.page; pages = g.lost }) items lost marks
+        → PagesMade f h.capacity k (page_joins f s h k used g₀) (record { bits = used - j.n; page = g.page; pages = g.lost }) items lost marks
     pages_done o l {g} w =
         let v = plan_holds f s h k used page rs here o w in
         record {
-          ok_is = sym o ∙ here.ok_is;
-          bits_are = λ z.
+          ok = sym here.ok_is ∙ o;
+          bits_are =
               ap (λ (x : Pages). x.used) (here.pages_are o) ∙ by_used f s h k (start_of f s h k used page rs) (take j.n mates)
               ∙ ap₂ ◌-◌ (start_used used page xs rs) (length-take-le j.n mates l);
-          page_is = λ z. sym v.page_is;
-          items_are = λ z. v.items_are;
-          pages_are = λ z. v.lost_are;
-          tracked = λ z. here.tracked o;
+          page_is = sym v.page_is;
+          items_are = v.items_are;
+          pages_are = v.lost_are;
+          tracked = here.tracked o;
         }
 
 -- the levels
 module _ (s : List ℕ) (h : Head) (ts : List Step) {z : Levels} {j : LevelJoins} {numbers blocks gone : List ℕ}
     (y : Levelled s h ts z j numbers blocks gone) where
-  pub levels_lost : j.ok ≡ false → (r : Draft) → r.ok ≡ false → (nodes : List ℕ) → LevelsDone s h ts z r numbers blocks nodes
-  levels_lost o r e nodes =
-      record {
-        ok_is = e ∙ sym o ∙ y.ok_is;
-        levels_are = λ q. absurd (false≢true (sym e ∙ q));
-        each = λ q. absurd (false≢true (sym e ∙ q));
-        linked_is = λ q. absurd (false≢true (sym e ∙ q));
-        nodes_are = λ q. absurd (false≢true (sym e ∙ q));
-      }
+  pub levels_lost : j.ok ≡ false → z.ok ≡ false
+  levels_lost o = sym y.ok_is ∙ o
 
   pub levels_done : j.ok ≡ true → {kept : ℕ}
       → ((xs : List Spot) → LevelsAre s h.theta j.changed numbers blocks h.levels xs → kept ≡ length (kept_levels xs)) → kept ≤ h.levels
       → {end : ℕ} {nodes : List ℕ}
       → ((xs : List Spot) → NumbersAre h.levels numbers xs → kept ≡ length (kept_levels xs) → take end nodes ≡ take j.end gone ++ gone_roots xs)
       → {changed : ℕ} → changed ≡ min j.changed kept → {p q : ℕ}
-      → LevelsDone s h ts z
-      (record {
-        ok = true;
-        outline = record { page = p; levels = kept; changed = changed; linked = j.linked; pages = q; nodes = end };
-      }) numbers blocks nodes
+      → LevelsMade s h ts z (record { page = p; levels = kept; changed = changed; linked = j.linked; pages = q; nodes = end }) numbers blocks nodes
   levels_done o {kept} a few b {changed} c =
       let w = y.levels_are o in
       let size = a z.spots w in
       record {
-        ok_is = sym o ∙ y.ok_is;
-        levels_are = λ q. size;
-        each = λ q. kept_carried s h.theta j.changed changed numbers blocks h.levels z.spots w (omega (arith, few, size)) (c ∙ ap (min j.changed) size);
-        linked_is = λ q. y.linked_is o;
-        nodes_are = λ q.
+        ok = sym y.ok_is ∙ o;
+        levels_are = size;
+        each = kept_carried s h.theta j.changed changed numbers blocks h.levels z.spots w (omega (arith, few, size)) (c ∙ ap (min j.changed) size);
+        linked_is = y.linked_is o;
+        nodes_are =
             ap (λ l. l ++ gone_roots z.spots) (y.gone_are o)
             ∙ sym (b z.spots (numbers_of_lem s h.theta j.changed numbers blocks h.levels z.spots w) size);
       }
 
 pub draft_fits : (f : Format) (h : Head) (p : PagePart) {kept changed was end at : ℕ} {linked : Bool} → kept ≤ h.levels → 1 ≤ kept → 1 ≤ was
     → changed ≡ min was kept → at ≤ width f * h.levels → end ≡ at + (h.levels - kept)
-    → DraftFits f h p
-    (record {
-      ok = true;
-      outline = record { page = p.page; levels = kept; changed = changed; linked = linked; pages = p.pages; nodes = end };
-    })
+    → DraftFits f h p (record { page = p.page; levels = kept; changed = changed; linked = linked; pages = p.pages; nodes = end })
 draft_fits f h p a b c d e g =
     record {
       page_is = refl;
@@ -264,16 +235,18 @@ module _ (f : Format) (s : List ℕ) (h : Head) (k : ℕ) (d : Descent) where
   unfolding plan_of plan_over
   plan_off e = rw (e, plan_over)
 
-  module _ {p : PagePart} {items pages marks : List ℕ} (y : PagesDone f h.capacity k joins p items pages marks) where
-    pub drawn_lost : p.ok ≡ false → {b : Bool} → b ≡ false → b ≡ (plan_of f s h k d).ok
-    drawn_lost o e = e ∙ sym (ap (λ (x : Plan). x.ok) (plan_off (ap (λ b. b && (rises joins.used joins.page).ok) (sym y.ok_is ∙ o))))
+  same_plan : d ≡ descent f s h k → plan_of f s h k d ≡ plan_of f s h k (descent f s h k)
+  same_plan e = ap (plan_of f s h k) e
 
-    module _ (o : p.ok ≡ true) {r : Draft} {numbers blocks nodes : List ℕ}
-        (w : LevelsDone s h ts (rises p.bits p.page) r numbers blocks nodes) where
-      same_levels : rises joins.used joins.page ≡ rises p.bits p.page
-      same_levels = ap₂ rises (y.bits_are o) (y.page_is o)
+  pub drawn_lost : d ≡ descent f s h k → joins.ok ≡ false → (plan_of f s h k (descent f s h k)).ok ≡ false
+  drawn_lost e o = ap (λ (x : Plan). x.ok) (sym (same_plan e) ∙ plan_off (ap (λ b. b && (rises joins.used joins.page).ok) o))
 
-      plan_on : r.ok ≡ true → plan_of f s h k d
+  module _ (e : d ≡ descent f s h k) {p : PagePart} {items pages marks : List ℕ} (y : PagesMade f h.capacity k joins p items pages marks) where
+    same_levels : rises joins.used joins.page ≡ rises p.bits p.page
+    same_levels = ap₂ rises y.bits_are y.page_is
+
+    module _ {o : Outline} {numbers blocks nodes : List ℕ} (w : LevelsMade s h ts (rises p.bits p.page) o numbers blocks nodes) where
+      plan_on : plan_of f s h k d
           ≡ record {
             ok = true;
             page = joins.page;
@@ -284,40 +257,43 @@ module _ (f : Format) (s : List ℕ) (h : Head) (k : ℕ) (d : Descent) where
             nodes = (rises p.bits p.page).released ++ gone_roots (rises p.bits p.page).spots;
           }
       unfolding plan_of
-      plan_on e =
-          plan_is f s h k d.used ts joins (rises p.bits p.page) (sym y.ok_is ∙ o) (sym w.ok_is ∙ e) (sym same_levels)
+      plan_on = plan_is f s h k d.used ts joins (rises p.bits p.page) y.ok w.ok (sym same_levels)
 
-      pub drawn_ok : r.ok ≡ (plan_of f s h k d).ok
-      drawn_ok =
-          elim (bool_cases r.ok) [
-            | inl e ↦ e ∙ sym (ap (λ (x : Plan). x.ok) (plan_on e))
-            | inr e ↦
-                e
-                ∙ sym (ap (λ (x : Plan). x.ok)
-                (plan_off (ap₂ ◌&&◌ (sym y.ok_is ∙ o) (ap (λ (l : Levels). l.ok) same_levels ∙ sym w.ok_is ∙ e))))
-          ]
-
-      pub drawn_carried : r.ok ≡ true → DraftFits f h p r → Carried f s h r.outline items numbers blocks pages nodes (plan_of f s h k d)
-      drawn_carried e v =
-          subst (Carried f s h r.outline items numbers blocks pages nodes) (sym (plan_on e))
+      drawn_carried : DraftFits f h p o → Carried f s h o items numbers blocks pages nodes (plan_of f s h k d)
+      drawn_carried v =
+          subst (Carried f s h o items numbers blocks pages nodes) (sym plan_on)
           (record {
-            page = v.page_is ∙ sym (y.page_is o);
-            image = λ n. y.items_are o;
-            levels = w.levels_are e;
-            each = w.each e;
-            linked = w.linked_is e;
-            pages_are = y.pages_are o ∙ ap (λ n. take n pages) (sym v.pages_is);
-            nodes_are = w.nodes_are e;
+            page = v.page_is ∙ sym y.page_is;
+            image = λ n. y.items_are;
+            levels = w.levels_are;
+            each = w.each;
+            linked = w.linked_is;
+            pages_are = y.pages_are ∙ ap (λ n. take n pages) (sym v.pages_is);
+            nodes_are = w.nodes_are;
           })
 
--- what the code says of the plan by its own way down, of the definition's
-pub drawn_same : (f : Format) (s : List ℕ) (h : Head) (k : ℕ) {d : Descent} → d ≡ descent f s h k
-    → plan_of f s h k d ≡ plan_of f s h k (descent f s h k)
-drawn_same f s h k e = ap (plan_of f s h k) e
+      drawn_done : PartFits d.used p → DraftFits f h p o → Outlined f s h k o items numbers blocks pages nodes
+      drawn_done x v =
+          record {
+            ok = ap (λ (x : Plan). x.ok) (sym (same_plan e) ∙ plan_on);
+            carried = subst (Carried f s h o items numbers blocks pages nodes) (same_plan e) (drawn_carried v);
+            some = v.some;
+            few = v.few;
+            first = v.first;
+            changed_in = v.changed_in;
+            pages_in = omega (arith, v.pages_is, x.pages_in);
+            nodes_in = v.nodes_in;
+          }
 
--- a local array before it is lent
-pub blank_long : (n : ℕ) → length (replicate {A = ℕ} n 0) ≡ n
-blank_long n = length-replicate n 0
+    -- what the levels say
+    pub drawn_by : PartFits d.used p → (r : Result Outline Refusal) → IfOk r (DraftFits f h p) → (numbers blocks nodes : List ℕ)
+        → LevelsDone s h ts (rises p.bits p.page) r numbers blocks nodes → Drawn f s h k r items numbers blocks pages nodes
+    drawn_by x (Ok o) v _ _ _ w = drawn_done w x v
+    drawn_by x (Err z) v _ _ _ w = (
+      ap (λ (x : Plan). x.ok)
+          (sym (same_plan e) ∙ plan_off (ap₂ ◌&&◌ y.ok (ap (λ (l : Levels). l.ok) same_levels ∙ w.0))),
+      w.1,
+    )
 
 -- the numbers of nodes that a removal of L levels may release
 pub slice_room : (f : Format) (L n : ℕ) → L ≤ n → width f * L + L ≤ 65 * n
@@ -325,9 +301,9 @@ slice_room f L n l = omega (arith, mul-le-mul_right L (width_within f), l)
 
 -- the ways out
 module _ {f : Format} {s : List ℕ} {h : Head} {k : ℕ} where
-  pub executed_lost : {b : Bool} → b ≡ (plan_of f s h k (descent f s h k)).ok → b ≡ false → Executed f s h k false s
-  executed_lost e z = record { ok_is = sym z ∙ e; done = λ q. absurd (false≢true q); stays = λ q. refl }
+  pub executed_lost : (plan_of f s h k (descent f s h k)).ok ≡ false → Executed f s h k (Err DamageMet) s
+  executed_lost z = record { answer_is = ap (λ b. answered b tt) (sym z); done = λ q. absurd (false≢true (sym z ∙ q)); stays = λ q. refl }
 
   pub executed_done : (plan_of f s h k (descent f s h k)).ok ≡ true → {t : List ℕ} → t ≡ written_by f s h (plan_of f s h k (descent f s h k))
-      → Executed f s h k true t
-  executed_done ok e = record { ok_is = sym ok; done = λ q. e; stays = λ q. absurd (false≢true (sym q)) }
+      → Executed f s h k (Ok tt) t
+  executed_done z e = record { answer_is = ap (λ b. answered b tt) (sym z); done = λ q. e; stays = λ q. absurd (false≢true (sym q ∙ z)) }

@@ -1,32 +1,34 @@
 -- The ways out of remove, one law each.
 use mathlib.Core.Path.{◌≡◌, refl, sym, ap, ◌∙◌, subst}
-use mathlib.Core.Bool.{Bool, true, false, false≢true}
+use mathlib.Core.Bool.{Bool, true, false}
 use mathlib.Core.List.{List}
 use Prim.Native.Nat.{ℕ, ◌^◌, ◌≤◌, ◌<◌}
 use lib.ListN.{length}
 use borrow.Author.Tests.{lt-ltb, le-ltb, eq-eqb, ne_eqb}
+use Rattle.std.specs.Prelude.{Option, Result, Ok, Err}
+use Rattle.answers.specs.declared.Refusal.{Refusal}
+use Rattle.answers.specs.declared.Refusal.TheVariants.{DamageMet}
+use Rattle.answers.specs.Answers.{number}
 use Rattle.store.specs.declared.Format.{Format}
 use Rattle.store.specs.declared.Head.{Head}
 use Rattle.store.specs.declared.Item.{Item}
 use Rattle.store.specs.Format.{width}
-use Rattle.store.specs.Head.{head_rule, page_at, Under}
+use Rattle.store.specs.Head.{head_of, head_rule, page_at, Under}
 use Rattle.page.specs.Page.{count, item_at, key_at, first_above}
 use Rattle.search.specs.Way.{Sought}
 use Rattle.search.specs.Way.{Record, Nothing, Damaged}
 use Rattle.search.specs.Way.{End}
 use Rattle.search.specs.Descent.{descent, end_of}
-use Rattle.search.specs.Find.{no_item, sound_page, find_of}
+use Rattle.search.specs.Find.{no_item, reply, sound_page, find_of}
 use Rattle.search.proofs.FindLaws.{Led, find_sound, in_page_is}
 use Rattle.remove.specs.Remove.{After, same, carried_out, found_of, remove_of, Plan, plan_of, written_by}
 use Rattle.gather.specs.Gather.{OwnPage}
-use Rattle.near.specs.declared.Near.{Near}
-use Rattle.near.specs.Near.{left_in, near_of, near_words}
+use Rattle.near.specs.Near.{Near, left_in, near_of, near_words}
 use Rattle.near.specs.Promises.{PageSaid}
-use Rattle.near.proofs.Told.{words_written, words_kept}
+use Rattle.near.proofs.Told.{words_written, words_kept, words_lost}
 use Rattle.near.proofs.Promises.{page_alone}
-use Rattle.removal.specs.declared.Seat.{Seat}
-use Rattle.removal.specs.Removal.{Located, Seated, Executed}
-use Rattle.removal.proofs.PlanLaws.{located_at}
+use Rattle.removal.specs.Removal.{Located, SeatIs, Executed}
+use Rattle.removal.proofs.PlanLaws.{located_at, executed_lost, executed_done}
 
 pub remove_3 : (f : Format) (s : List ℕ) (k : ℕ) → head_rule f s ≡ false → remove_of f s k ≡ same s 3
 unfolding remove_of
@@ -63,42 +65,34 @@ module _ {f : Format} {s : List ℕ} {h : Head} (u : Under f s h) (k : ℕ) wher
     pub remove_done : q.ok ≡ true → remove_of f s k ≡ record { reply = record { number = 0; item = it }; words = written_by f s h q }
     remove_done z = carried_is ∙ out true z
 
+-- a head that was tested
+pub under : {f : Format} {s : List ℕ} {h : Head} → head_rule f s ≡ true → h ≡ head_of s → Under f s h
+under r e = record { rule = r; head = e }
+
 -- a refusal: the words are as they were
-pub refuses : {a : After} {s t : List ℕ} {n : ℕ} → t ≡ s → a ≡ same s n → (record { number = n; item = no_item } ≡ a.reply) × (t ≡ a.words)
-refuses g e = (sym (ap (λ x. x.reply) e), g ∙ sym (ap (λ x. x.words) e))
+pub refuses : {a : After} {s t : List ℕ} {e : Refusal} {r : Result (Option Item) Refusal} → r ≡ Err e → t ≡ s → a ≡ same s (number e)
+    → (reply r ≡ a.reply) × (t ≡ a.words)
+refuses w g e = (ap reply w ∙ sym (ap (λ x. x.reply) e), g ∙ sym (ap (λ x. x.words) e))
+
+-- no record
+pub absent : {a : After} {s t : List ℕ} → t ≡ s → a ≡ same s 1 → (record { number = 1; item = no_item } ≡ a.reply) × (t ≡ a.words)
+absent g e = (sym (ap (λ x. x.reply) e), g ∙ sym (ap (λ x. x.words) e))
 
 -- the record was removed
 pub removes : {a : After} {t w : List ℕ} {it : Item} → t ≡ w → a ≡ record { reply = record { number = 0; item = it }; words = w }
     → (record { number = 0; item = it } ≡ a.reply) × (t ≡ a.words)
 removes g e = (sym (ap (λ x. x.reply) e), g ∙ sym (ap (λ x. x.words) e))
 
--- the seat of a record
-pub seat_located : {f : Format} {s : List ℕ} {h : Head} {k : ℕ} {r : Seat} → Under f s h → k < 2 ^ width f → Seated f s h k r → r.ok ≡ true
-    → r.held ≡ true → Located f s h k r.i
-seat_located {r = r} u l y o e =
-    record { under = u; low = l; item = r.item; found = sym (y.found o e); inside = y.inside o e; key_is = y.key_is o e }
+-- the way led to a page, by its end as the code has it
+pub led_page : {f : Format} {s : List ℕ} {h : Head} {k : ℕ} {e : End} → e ≡ end_of (descent f s h k) → e.ok ≡ true → (e.page ≡ 0 → ⊥)
+    → {pg : List ℕ} → pg ≡ page_at f s h e.page → Led f s h k (descent f s h k) pg
+led_page q o n p =
+    let same = ap (λ (x : End). x.page) q in
+    record { way = refl; ok = sym (ap (λ (x : End). x.ok) q) ∙ o; some = λ z. n (same ∙ z); page = p ∙ ap (page_at _ _ _) same }
 
--- none, after damage or without
-module _ {f : Format} {s : List ℕ} {h : Head} {k : ℕ} {r : Seat} where
-  pub seat_damaged : r.ok ≡ false → Damaged ≡ find_of f s h k → Seated f s h k r
-  seat_damaged o e =
-      record {
-        damaged = λ z. e;
-        absent = λ z. absurd (false≢true (sym o ∙ z));
-        found = λ z. absurd (false≢true (sym o ∙ z));
-        inside = λ z. absurd (false≢true (sym o ∙ z));
-        key_is = λ z. absurd (false≢true (sym o ∙ z));
-      }
-
-  pub seat_none : r.ok ≡ true → r.held ≡ false → Nothing ≡ find_of f s h k → Seated f s h k r
-  seat_none o n e =
-      record {
-        damaged = λ z. absurd (false≢true (sym z ∙ o));
-        absent = λ z q. e;
-        found = λ z q. absurd (false≢true (sym n ∙ q));
-        inside = λ z q. absurd (false≢true (sym n ∙ q));
-        key_is = λ z q. absurd (false≢true (sym n ∙ q));
-      }
+pub led_sound : (f : Format) (s : List ℕ) (h : Head) (k : ℕ) {e : End} → e ≡ end_of (descent f s h k) → (pg : List ℕ) {r b : Bool}
+    → r ≡ sound_page f h pg k e.used → r ≡ b → sound_page f h pg k (descent f s h k).used ≡ b
+led_sound f s h k q pg w t = sym (w ∙ ap (λ (x : End). sound_page f h pg k x.used) q) ∙ t
 
 -- the page that the way led to, which the code has as pg
 module _ {f : Format} {s : List ℕ} {h : Head} {k : ℕ} {pg : List ℕ} (l : Led f s h k (descent f s h k) pg)
@@ -113,15 +107,12 @@ module _ {f : Format} {s : List ℕ} {h : Head} {k : ℕ} {pg : List ℕ} (l : L
     seat_other n = find_sound l sound (in_page_is f pg k i it true false above is (sym (lt-ltb i (count pg) low)) (sym (ne_eqb it.key k n)))
 
     -- the record
-    pub seat_held : it.key ≡ k → Seated f s h k (record { ok = true; held = true; i = i; item = it })
+    pub seat_held : it.key ≡ k → SeatIs f s h k (record { i = i; item = it })
     seat_held e =
         record {
-          damaged = λ z. absurd (false≢true (sym z));
-          absent = λ z q. absurd (false≢true (sym q));
-          found = λ z q.
-              find_sound l sound (in_page_is f pg k i it true true above is (sym (lt-ltb i (count pg) low)) (sym (eq-eqb it.key k e)));
-          inside = λ z q. subst (λ (x : List ℕ). i < count x) l.page low;
-          key_is = λ z q. subst (λ (x : List ℕ). key_at f x i ≡ k) l.page (ap (λ (x : Item). x.key) (sym is) ∙ e);
+          found = find_sound l sound (in_page_is f pg k i it true true above is (sym (lt-ltb i (count pg) low)) (sym (eq-eqb it.key k e)));
+          inside = subst (λ (x : List ℕ). i < count x) l.page low;
+          key_is = subst (λ (x : List ℕ). key_at f x i ≡ k) l.page (ap (λ (x : Item). x.key) (sym is) ∙ e);
         }
 
 -- what is seen from the page's terminal node
@@ -133,23 +124,19 @@ module _ {f : Format} {s : List ℕ} {h : Head} {k : ℕ} where
       (y.under, y.low, g, at.0, at.1)
 
   -- where it is done, where damage is met, and where it is not decided
-  module _ {i : ℕ} {e : End} (y : Located f s h k i) (g : e ≡ end_of (descent f s h k)) {r : Near}
-      (q : r ≡ near_of f s h k e (length (left_in f s h k e.page))) {t : List ℕ} (w : t ≡ near_words f s h k e) where
-    alone : PageSaid f s h k e.page (near_of f s h k e (length (left_in f s h k e.page)))
+  module _ {i : ℕ} {e : End} (y : Located f s h k i) (g : e ≡ end_of (descent f s h k)) {t : List ℕ} (w : t ≡ near_words f s h k e) where
+    abbrev said : Near
+    said = near_of f s h k e (length (left_in f s h k e.page))
+
+    alone : PageSaid f s h k e.page said
     alone = let a = near_asks y g in page_alone f s h k e i a.0 a.1 a.2 a.3 a.4
 
-    pub near_done : r.done ≡ true → Executed f s h k true t
-    near_done d =
-        let a = alone.alone (sym (ap (λ (x : Near). x.done) q) ∙ d) in
-        record { ok_is = sym a.0; done = λ z. w ∙ sym (words_written f s h k e q d) ∙ a.1; stays = λ z. absurd (false≢true (sym z)) }
+    pub near_done : said.done ≡ true → Executed f s h k (Ok tt) t
+    near_done d = let a = alone.alone d in executed_done a.0 (w ∙ sym (words_written f s h k e d) ∙ a.1)
 
-    pub near_same : r.done ≡ false → t ≡ s
-    near_same d = w ∙ sym (words_kept f s h k e q d)
+    pub near_same : said.done ≡ false → t ≡ s
+    near_same d = w ∙ sym (words_kept f s h k e d)
 
-    pub near_lost : r.ok ≡ false → r.done ≡ false → Executed f s h k false t
-    near_lost o d =
-        record {
-          ok_is = sym (alone.lost (sym (ap (λ (x : Near). x.ok) q) ∙ o));
-          done = λ z. absurd (false≢true z);
-          stays = λ z. near_same d;
-        }
+    pub near_lost : said.ok ≡ false → Executed f s h k (Err DamageMet) t
+    near_lost o =
+        subst (Executed f s h k (Err DamageMet)) (words_lost f s h k e o ∙ sym w) (executed_lost (alone.lost o))

@@ -2,12 +2,12 @@
 use mathlib.Core.Path.{◌≡◌, refl, sym, ap, ◌∙◌, subst}
 use mathlib.Core.Bool.{Bool, true, false, ◌&&◌, ◌||◌, not, true≢false}
 use mathlib.Core.List.{List}
-use Prim.Native.Nat.{ℕ, suc, ◌+◌, ◌-◌, ◌*◌, ◌/◌, ◌%◌, ◌^◌, ◌≤◌, ◌<◌}
+use Prim.Native.Nat.{ℕ, ◌+◌, ◌-◌, ◌*◌, ◌/◌, ◌%◌, ◌^◌, ◌≤◌, ◌<◌}
 use native.Mathlib.Nat.{mod-eq_of_lt}
 use native.Mathlib.Omega.{arith}
 use lib.Dec.{eqb}
 use lib.ListN.{length, get_or, set}
-use lib.Pow.{pow_mono, shr_le}
+use lib.Pow.{pow_mono}
 use borrow.Author.Tests.{eq-eqb, ne_eqb, eqb-true}
 use Rattle.lists.proofs.Tests.{and_true}
 use Rattle.store.specs.declared.Format.{Format}
@@ -17,7 +17,7 @@ use Rattle.node.specs.Node.{level_word, back_word, forward_word}
 use Rattle.search.specs.Way.{Visit}
 use Rattle.search.specs.Descent.{sound_node, step_of, own_visit, entry_visit}
 use Rattle.search.proofs.DescentLaws.{step_entry}
-use Rattle.remove.specs.Remove.{prefix, on_left, sibling_key, beside_ok}
+use Rattle.remove.specs.Remove.{on_left, sibling_key, beside_ok}
 use Rattle.remove.proofs.SiblingKeys.{sibling_other, other_low}
 use Rattle.siblings.specs.Marks.{mark, mark_at}
 

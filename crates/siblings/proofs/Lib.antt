@@ -9,3 +9,4 @@ pub mod HandLaws
 pub mod TurnLaws
 pub mod NodeJoinLaws
 pub mod PathLaws
+pub mod OutcomeLaws

@@ -1,13 +1,13 @@
 -- The link tests, in order.
-use mathlib.Core.Path.{◌≡◌, refl, sym, ap, ◌∙◌}
+use mathlib.Core.Path.{◌≡◌, refl, ◌∙◌}
 use mathlib.Core.Bool.{Bool, true, false, ◌&&◌, not}
 use mathlib.Core.List.{List}
-use Prim.Native.Nat.{ℕ, ◌+◌}
+use Prim.Native.Nat.{ℕ}
 use lib.Dec.{eqb}
 use Rattle.store.specs.declared.Head.{Head}
 use Rattle.store.specs.Head.{node_start}
 use Rattle.node.specs.Node.{back_word, forward_word}
-use Rattle.remove.specs.Remove.{Spot, beside_ok, links_ok}
+use Rattle.remove.specs.Remove.{beside_ok, links_ok}
 use Rattle.siblings.specs.Pairs.{pair_ok, in_hand}
 
 pub pair_is : (s : List ℕ) (h : Head) (lb lf rb rf a b c d : ℕ) (t1 t2 t3 t4 t5 t6 : Bool) → t1 ≡ eqb lf c → t2 ≡ eqb rb b

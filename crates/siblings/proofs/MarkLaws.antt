@@ -22,7 +22,7 @@ use Rattle.node.proofs.NodeLaws.{node_facts}
 use Rattle.search.specs.Way.{Visit}
 use Rattle.search.specs.Descent.{sound_node, step_of}
 use Rattle.search.proofs.DescentLaws.{sound_facts, visited_sound}
-use Rattle.remove.specs.Remove.{Reach, once, prefix, sibling_key, reach_at}
+use Rattle.remove.specs.Remove.{Reach, once, prefix, sibling_key}
 use Rattle.remove.proofs.SiblingKeys.{other, sibling_other, other_shift, other_div}
 use Rattle.siblings.specs.Marks.{mark, mark_at, bits_under, Known, Tracks, Passed}
 

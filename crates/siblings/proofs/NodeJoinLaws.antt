@@ -1,8 +1,8 @@
 -- The joins of a level as a loop: what is left to join from the node in hand is the whole.
 use mathlib.Core.Path.{◌≡◌, refl, sym, ap, ap₂, ◌∙◌, subst}
-use mathlib.Core.Bool.{Bool, true, false, true≢false, false≢true}
+use mathlib.Core.Bool.{Bool, true, false, false≢true}
 use mathlib.Core.List.{List, [], ◌∷◌, ◌++◌}
-use Prim.Native.Nat.{ℕ, zero, suc, ◌+◌, ◌-◌, ◌≤◌, ◌<◌, max}
+use Prim.Native.Nat.{ℕ, suc, ◌+◌, ◌-◌, ◌≤◌, ◌<◌}
 use native.Mathlib.Omega.{arith}
 use lib.ListN.{length, take, set}
 use Rattle.store.specs.declared.Format.{Format}
@@ -14,13 +14,13 @@ use Rattle.search.specs.Descent.{step_of}
 use Rattle.split.specs.Frame.{node_of}
 use Rattle.split.specs.Value.{Shallow}
 use Rattle.fuse.specs.Join.{joined}
-use Rattle.remove.specs.Remove.{Reach, Spot, on_left, covered, no_nodes, both_nodes, node_joins}
+use Rattle.remove.specs.Remove.{Reach, Spot, on_left, covered, both_nodes, node_joins}
 use Rattle.remove.proofs.InsideRemove.{head_facts}
 use Rattle.remove.proofs.BlocksIn.{visited_block}
-use Rattle.siblings.specs.declared.Found.{Found}
-use Rattle.siblings.specs.declared.NodeJoins.{NodeJoins}
+use Rattle.siblings.specs.Outcome.{Found}
+use Rattle.siblings.specs.Outcome.{NodeJoins}
 use Rattle.siblings.specs.Marks.{Tracks}
-use Rattle.siblings.specs.Nodes.{NodesR, rests, spot_is, paired, Decided, Noded}
+use Rattle.siblings.specs.Nodes.{NodesR, spot_is, paired, Decided, Noded}
 use Rattle.siblings.proofs.PageJoinLaws.{take_next}
 
 -- the block of a sibling that was visited
@@ -87,16 +87,17 @@ module _ (f : Format) (s : List ℕ) (h : Head) (k level m q : ℕ) where
     pub gone_are : take end gone ≡ take at gone₀ ++ now_in.released
 
   pub noding_start : (g : NodesR) (first used at : ℕ) (hand gone marks : List ℕ) → g.ok ≡ true → g.spot ≡ spot_is first used first hand
-      → g.released ≡ [] → Tracks (width f) k g.reached marks
-      → Noding (node_joins f s h k level m q used g) first used first at at hand gone gone marks
-  noding_start g first used at hand gone marks o e r y =
+      → g.released ≡ [] → Tracks (width f) k g.reached marks → {left end : ℕ} → used ≡ left → at ≡ end
+      → Noding (node_joins f s h k level m q used g) first left first at end hand gone gone marks
+  noding_start g first used at hand gone marks o e r y d b =
       record {
         now_in = g;
         fine = o;
-        spot = e;
+        spot = e ∙ ap (λ x. spot_is first x first hand) d;
         tracked = y;
-        rest = refl;
-        gone_are = sym (append_none (take at gone)) ∙ ap (λ xs. take at gone ++ xs) (sym r);
+        rest = ap (λ n. node_joins f s h k level m q n g) (sym d);
+        gone_are =
+            ap (λ i. take i gone) (sym b) ∙ sym (append_none (take at gone)) ∙ ap (λ xs. take at gone ++ xs) (sym r);
       }
 
   module _ (whole : NodesR) (number left last at end : ℕ) (hand gone₀ gone marks : List ℕ)
@@ -104,11 +105,17 @@ module _ (f : Format) (s : List ℕ) (h : Head) (k level m q : ℕ) where
     abbrev ends : NodeJoins
     ends = record { ok = true; number = number; used = left; last = last; end = end }
 
-    pub noding_out : left ≡ 0 → Noded f k whole ends hand gone₀ at gone marks
+    pub noding_out : left ≡ 0 → {end' : ℕ} → end ≡ end'
+        → Noded f k whole (record { ok = true; number = number; used = 0; last = last; end = end' }) hand gone₀ at gone marks
     unfolding node_joins
-    noding_out z =
+    noding_out z b =
         let e : whole ≡ j.now_in = sym j.rest ∙ ap (λ n. node_joins f s h k level m q n j.now_in) z in
-        rw e record { ok_is = sym j.fine; spot_is = λ o. j.spot; gone_are = λ o. j.gone_are; tracked = λ o. j.tracked }
+        rw e record {
+          ok_is = sym j.fine;
+          spot_is = λ o. j.spot ∙ ap (λ x. spot_is number x last hand) z;
+          gone_are = λ o. ap (λ i. take i gone) (sym b) ∙ j.gone_are;
+          tracked = λ o. j.tracked;
+        }
 
     module _ (some : 1 ≤ left) {r : Found} {more : List ℕ} (y : Decided f s h k level j.now_in r more) where
       turn : whole ≡ node_joins f s h k level m q (suc (left - 1)) j.now_in
@@ -130,12 +137,12 @@ module _ (f : Format) (s : List ℕ) (h : Head) (k level m q : ℕ) where
             rw (turn ∙ y.none ok a m q (left - 1))
             record { ok_is = refl; spot_is = λ b. j.spot; gone_are = λ b. j.gone_are; tracked = λ b. y.tracked ok }
 
-        pub noding_on : r.found ≡ true → h ≡ head_of s → {b : Bool} → b ≡ on_left (width f) k left → {number' last' lost : ℕ} {hand' gone' : List ℕ}
+        noding_next : r.found ≡ true → h ≡ head_of s → {b : Bool} → b ≡ on_left (width f) k left → {number' last' lost : ℕ} {hand' gone' : List ℕ}
             → Picked b number' r.pointer number → Picked b last' last r.pointer → Picked b lost number r.pointer
             → hand' ≡ covered (width f) h.theta k (left - 1) m q (paired h.theta (node_at s h r.pointer) hand b)
             → end < length gone → gone' ≡ set gone end lost
             → Noding whole number' (left - 1) last' at (end + 1) hand' gone₀ gone' more
-        noding_on a at_head {b} eb {lost = lost} {gone' = gone'} yn yl yg eh room eg =
+        noding_next a at_head {b} eb {lost = lost} {gone' = gone'} yn yl yg eh room eg =
             let p : ℕ = r.pointer in
             let used_is : j.now_in.spot.used ≡ left = ap (λ (x : Spot). x.used) j.spot in
             let side : b ≡ on_left (width f) k j.now_in.spot.used = eb ∙ ap (on_left (width f) k) (sym used_is) in
@@ -156,3 +163,13 @@ module _ (f : Format) (s : List ℕ) (h : Head) (k level m q : ℕ) where
                   ∙ append_three (take at gone₀) j.now_in.released (lost ∷ [])
                   ∙ ap (λ xs. take at gone₀ ++ xs) (sym (nx_released j.now_in p y.reaches b (ap (λ (x : Spot). x.number) j.spot) yg));
             }
+
+        pub noding_on : r.found ≡ true → h ≡ head_of s → {b : Bool} → b ≡ on_left (width f) k left → {number' last' lost : ℕ} {hand' gone' : List ℕ}
+            → Picked b number' r.pointer number → Picked b last' last r.pointer → Picked b lost number r.pointer
+            → hand' ≡ covered (width f) h.theta k (left - 1) m q (paired h.theta (node_at s h r.pointer) hand b)
+            → end < length gone → gone' ≡ set gone end lost → {left' end' : ℕ} → left - 1 ≡ left' → end + 1 ≡ end'
+            → Noding whole number' left' last' at end' hand' gone₀ gone' more
+        noding_on a at_head {b} eb {number'} {last'} {lost} {hand'} {gone'} yn yl yg eh room eg {end' = end'} d c =
+            subst (λ x. Noding whole number' x last' at end' hand' gone₀ gone' more) d
+            (subst (λ x. Noding whole number' (left - 1) last' at x hand' gone₀ gone' more) c
+            (noding_next a at_head eb yn yl yg eh room eg))

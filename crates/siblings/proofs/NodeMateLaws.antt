@@ -1,22 +1,21 @@
 -- One turn of the joins of nodes, as the code makes it.
 use mathlib.Core.Path.{◌≡◌, refl, sym, ap, ap₂, ◌∙◌, subst}
-use mathlib.Core.Bool.{Bool, true, false, ◌&&◌, ◌||◌, not, true≢false, false≢true}
+use mathlib.Core.Bool.{Bool, true, false, ◌&&◌, ◌||◌, true≢false, false≢true}
 use mathlib.Core.List.{List, [], ◌∷◌}
-use Prim.Native.Nat.{ℕ, zero, suc, ◌+◌, ◌-◌, ◌≤◌, ◌<◌}
+use Prim.Native.Nat.{ℕ, suc, ◌≤◌, ◌<◌}
 use native.Mathlib.Omega.{arith}
-use lib.Dec.{eqb, leb}
+use lib.Dec.{eqb}
 use lib.ListN.{length, get_or, set}
 use Rattle.store.specs.declared.Format.{Format}
 use Rattle.store.specs.declared.Head.{Head}
 use Rattle.store.specs.Format.{width}
 use Rattle.search.specs.Way.{Visit}
 use Rattle.search.specs.Descent.{step_of}
-use Rattle.split.specs.Frame.{node_of}
 use Rattle.remove.specs.Remove.{Reach, Sought, once, sibling_key, reach_at, on_left, sibling, sibling_ok, no_nodes, both_nodes, node_joins}
 use Rattle.remove.proofs.LevelPhase.{node_lost, node_damaged, node_unlinked, turn_none, turn_tall, turn_on}
-use Rattle.siblings.specs.declared.Found.{Found}
-use Rattle.siblings.specs.Marks.{mark, mark_at, bits_under, Tracks, SoughtIs}
-use Rattle.siblings.specs.Nodes.{NodesR, rests, low_pair, may_join, NodeMated}
+use Rattle.siblings.specs.Outcome.{Found}
+use Rattle.siblings.specs.Marks.{mark_at, bits_under, SoughtIs}
+use Rattle.siblings.specs.Nodes.{NodesR, low_pair, may_join, NodeMated}
 use Rattle.siblings.proofs.MarkLaws.{once_is, tracks_on, way_bits}
 
 module _ (f : Format) (s : List ℕ) (h : Head) (k level : ℕ) (g : NodesR) {w : Found} {marks : List ℕ}

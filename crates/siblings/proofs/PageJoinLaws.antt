@@ -1,11 +1,11 @@
 -- The joins of pages as a loop: what is left to join from the stretch in hand is the whole.
 --   Joining == the stretch in hand after n joins, with the pages in mates
 use mathlib.Core.Path.{◌≡◌, refl, sym, ap, ap₂, ◌∙◌, subst}
-use mathlib.Core.Bool.{Bool, true, false, true≢false, false≢true}
+use mathlib.Core.Bool.{Bool, true, false, false≢true}
 use mathlib.Core.List.{List, [], ◌∷◌, ◌++◌}
 use Prim.Native.Nat.{ℕ, zero, suc, ◌+◌, ◌-◌, ◌≤◌, ◌<◌}
 use native.Mathlib.Omega.{arith}
-use lib.ListN.{length, get_or, take, set, length-append}
+use lib.ListN.{length, take, set, length-append}
 use Rattle.lists.specs.Lists.{All}
 use Rattle.lists.proofs.AppendLaws.{all_append}
 use Rattle.store.specs.declared.Format.{Format}
@@ -13,9 +13,9 @@ use Rattle.store.specs.declared.Head.{Head}
 use Rattle.store.specs.declared.Item.{Item}
 use Rattle.store.specs.Format.{width}
 use Rattle.insert.specs.Enter.{own_items}
-use Rattle.remove.specs.Remove.{Reach, Pages, on_left, stuck_pages, no_pages, both_pages, page_joins}
-use Rattle.siblings.specs.declared.Mate.{Mate}
-use Rattle.siblings.specs.declared.PageJoins.{PageJoins}
+use Rattle.remove.specs.Remove.{Reach, Pages, on_left, stuck_pages, both_pages, page_joins}
+use Rattle.siblings.specs.Outcome.{Mate}
+use Rattle.siblings.specs.Outcome.{PageJoins}
 use Rattle.siblings.specs.Marks.{Tracks}
 use Rattle.siblings.specs.Pages.{quiet, pages_by, Mated, Paged, Joinable, records_in}
 
@@ -83,15 +83,15 @@ module _ (f : Format) (s : List ℕ) (h : Head) (k : ℕ) where
     pub by : quiet hand ≡ pages_by f s h k (quiet g₀) (take n mates)
 
   pub joins_start : (g : Pages) (used count : ℕ) (mates marks : List ℕ) → g.ok ≡ true → g.used ≡ used → length g.items ≡ count
-      → Tracks (width f) k g.reached marks → Joining g used 0 count mates marks
-  joins_start g used count mates marks o u c y =
+      → Tracks (width f) k g.reached marks → {left : ℕ} → used ≡ left → Joining g left 0 count mates marks
+  joins_start g used count mates marks o u c y d =
       record {
         hand = g;
         fine = o;
-        used_is = u;
+        used_is = u ∙ d;
         held_is = c;
         tracked = y;
-        rest = ap (λ m. page_joins f s h k m g) (sym u);
+        rest = ap (λ m. page_joins f s h k m g) (sym (u ∙ d));
         by = refl;
       }
 
@@ -102,11 +102,12 @@ module _ (f : Format) (s : List ℕ) (h : Head) (k : ℕ) where
     abbrev ends : Bool → PageJoins
     ends b = record { ok = b; n = n }
 
-    pub joins_out : left ≡ 0 → Paged f s h k g₀ whole (ends true) mates marks
+    pub joins_out : left ≡ 0 → {i : ℕ} → n ≡ i → Paged f s h k g₀ whole (record { ok = true; n = i }) mates marks
     unfolding page_joins
-    joins_out z =
+    joins_out z i =
         let e : whole ≡ j.hand = sym j.rest ∙ ap (λ m. page_joins f s h k m j.hand) z in
-        rw e (record { ok_is = sym j.fine; pages_are = λ o. j.by; tracked = λ o. j.tracked })
+        subst (λ x. Paged f s h k g₀ whole (record { ok = true; n = x }) mates marks) i
+        (rw e (record { ok_is = sym j.fine; pages_are = λ o. j.by; tracked = λ o. j.tracked }))
 
     module _ (some : 1 ≤ left) {r : Mate} {more : List ℕ} (y : Mated f s h k j.hand r more) where
       turn : whole ≡ page_joins f s h k (suc (left - 1)) j.hand
@@ -128,9 +129,9 @@ module _ (f : Format) (s : List ℕ) (h : Head) (k : ℕ) where
           pub joins_full : h.capacity < held + r.count → Paged f s h k g₀ whole (ends true) mates more
           joins_full l = stuck (turn ∙ y.full ok a (omega (arith, l, j.held_is)) (left - 1))
 
-          pub joins_on : held + r.count ≤ h.capacity → n < length mates → {ps : List ℕ} → ps ≡ set mates n r.pointer
+          next_one : held + r.count ≤ h.capacity → n < length mates → {ps : List ℕ} → ps ≡ set mates n r.pointer
               → Joining g₀ (left - 1) (n + 1) (held + r.count) ps more
-          joins_on l room {ps = ps} ep =
+          next_one l room {ps = ps} ep =
               let b : Bool = on_left (width f) k j.hand.used in
               let p : ℕ = r.pointer in
               let its : List Item = own_items f s h p in
@@ -150,3 +151,8 @@ module _ (f : Format) (s : List ℕ) (h : Head) (k : ℕ) where
                     ∙ sym (by_append (quiet g₀) (take n mates) p)
                     ∙ ap (pages_by f s h k (quiet g₀)) (sym more_of);
               }
+
+          pub joins_on : held + r.count ≤ h.capacity → n < length mates → {ps : List ℕ} → ps ≡ set mates n r.pointer
+              → {left' : ℕ} → left - 1 ≡ left' → Joining g₀ left' (n + 1) (held + r.count) ps more
+          joins_on l room {ps = ps} ep d =
+              subst (λ x. Joining g₀ x (n + 1) (held + r.count) ps more) d (next_one l room ep)

@@ -1,28 +1,27 @@
 -- One turn of the joins of pages, as the code makes it.
 use mathlib.Core.Path.{◌≡◌, refl, sym, ap, ap₂, ◌∙◌, subst}
-use mathlib.Core.Bool.{Bool, true, false, ◌&&◌, ◌||◌, not, true≢false, false≢true}
-use mathlib.Core.List.{List, [], ◌∷◌, ◌++◌}
-use Prim.Native.Nat.{ℕ, zero, suc, ◌+◌, ◌-◌, ◌≤◌, ◌<◌}
+use mathlib.Core.Bool.{Bool, true, false, ◌||◌, true≢false, false≢true}
+use mathlib.Core.List.{List, []}
+use Prim.Native.Nat.{ℕ, ◌+◌, ◌≤◌}
 use native.Mathlib.Omega.{arith}
-use lib.Dec.{eqb, leb}
-use lib.ListN.{length, get_or, take, set}
+use lib.Dec.{eqb}
+use lib.ListN.{length, get_or}
 use borrow.Author.Tests.{eq-eqb, ne_eqb, le-leb, lt-leb}
 use Rattle.lists.proofs.Tests.{and_true, length_tab}
 use Rattle.store.specs.declared.Format.{Format}
 use Rattle.store.specs.declared.Head.{Head}
-use Rattle.store.specs.declared.Item.{Item}
 use Rattle.store.specs.Format.{width}
 use Rattle.store.specs.Head.{page_at}
 use Rattle.page.specs.Page.{count, item_at, page_rule}
 use Rattle.page.proofs.Laws.{rule_facts}
 use Rattle.search.specs.Find.{sound_page}
 use Rattle.insert.specs.Enter.{items_in, own_items}
-use Rattle.remove.specs.Remove.{Reach, Sought, Pages, sibling_key, on_left, sibling, stuck_pages, no_pages, both_pages, page_joins}
+use Rattle.remove.specs.Remove.{Sought, Pages, sibling_key, on_left, sibling, both_pages, page_joins}
 use Rattle.remove.proofs.PagePhase.{turn_lost, turn_damaged, turn_none, turn_full, turn_on}
-use Rattle.siblings.specs.declared.Found.{Found}
-use Rattle.siblings.specs.declared.Mate.{Mate}
-use Rattle.siblings.specs.Marks.{Tracks, SoughtIs}
-use Rattle.siblings.specs.Pages.{quiet, pages_by, no_mate, Mated}
+use Rattle.siblings.specs.Outcome.{Found}
+use Rattle.siblings.specs.Outcome.{Mate}
+use Rattle.siblings.specs.Marks.{SoughtIs}
+use Rattle.siblings.specs.Pages.{no_mate, Mated}
 
 -- records of a page that is read
 module _ (f : Format) (s : List ℕ) (h : Head) (p : ℕ) where

@@ -1,9 +1,8 @@
 -- A path of nodes that differ, marked on clear marks, is tracked.
-use mathlib.Core.Path.{◌≡◌, refl, sym, ap, ◌∙◌, subst}
-use mathlib.Core.Bool.{Bool, true, false}
-use mathlib.Core.List.{List, [], ◌∷◌, map}
+use mathlib.Core.Path.{◌≡◌, refl, sym, ◌∙◌, subst}
+use mathlib.Core.Bool.{true, false}
+use mathlib.Core.List.{List, [], ◌∷◌}
 use Prim.Native.Nat.{ℕ, ◌<◌}
-use native.Mathlib.Omega.{arith}
 use lib.ListN.{length, get_or, set, length-set}
 use lib.Seq.{get_or-set_same, get_or-set_other}
 use Rattle.lists.specs.Lists.{All, Pairwise}
@@ -13,7 +12,7 @@ use Rattle.store.specs.Head.{node_start}
 use Rattle.node.specs.Node.{level_word}
 use Rattle.search.specs.declared.Step.{Step}
 use Rattle.search.specs.Descent.{sound_node}
-use Rattle.remove.specs.Remove.{Reach, reach_at, path_reach}
+use Rattle.remove.specs.Remove.{path_reach}
 use Rattle.siblings.specs.Marks.{mark, bits_under, Known, Tracks, Passed}
 use Rattle.siblings.specs.Paths.{path_marks}
 use Rattle.siblings.proofs.MarkLaws.{mark_some, passed_on}

@@ -15,7 +15,7 @@ use Rattle.node.proofs.NodeLaws.{high_1}
 use Rattle.search.proofs.DescentLaws.{seen_pointer}
 use Rattle.remove.specs.Remove.{Reach, once, sibling_key, reach_at, damaged_way, seek, sibling}
 use Rattle.remove.proofs.SiblingLaws.{turn_near, turn_far}
-use Rattle.siblings.specs.declared.Found.{Found}
+use Rattle.siblings.specs.Outcome.{Found}
 use Rattle.siblings.specs.Marks.{mark_at, bits_under, Tracks, SoughtIs}
 use Rattle.siblings.proofs.MarkLaws.{once_is, tracks_on, way_bits}
 

@@ -2,9 +2,9 @@
 use mathlib.Core.Path.{◌≡◌, refl, sym, ap, ap₂, ◌∙◌, subst}
 use mathlib.Core.Bool.{Bool, true, false, ◌||◌, not, true≢false, false≢true}
 use mathlib.Core.List.{List, []}
-use Prim.Native.Nat.{ℕ, zero, suc, ◌+◌, ◌-◌, ◌≤◌, ◌<◌, max}
+use Prim.Native.Nat.{ℕ, suc, ◌≤◌, ◌<◌, max}
 use native.Mathlib.Omega.{arith}
-use lib.Dec.{eqb, leb}
+use lib.Dec.{eqb}
 use borrow.Author.Tests.{eq-eqb, ne_eqb, le-leb, lt-leb}
 use Rattle.store.specs.declared.Format.{Format}
 use Rattle.store.specs.declared.Head.{Head}
@@ -13,7 +13,7 @@ use Rattle.store.specs.Head.{node_at, head_of}
 use Rattle.node.specs.Node.{depth_word}
 use Rattle.split.specs.Frame.{node_of}
 use Rattle.remove.specs.Remove.{Spot, links_ok, on_left, no_nodes, node_joins}
-use Rattle.siblings.specs.declared.Found.{Found}
+use Rattle.siblings.specs.Outcome.{Found}
 use Rattle.siblings.specs.Pairs.{in_hand}
 use Rattle.siblings.specs.Nodes.{NodesR, rests, low_pair, may_join, NodeMated, Decided, spot_is, linked_pair}
 

@@ -1,3 +1,4 @@
+pub mod Outcome
 pub mod Marks
 pub mod Pages
 pub mod Pairs

@@ -15,7 +15,7 @@ use Rattle.store.specs.Head.{node_start}
 use Rattle.node.specs.Node.{level_word}
 use Rattle.search.specs.Descent.{sound_node}
 use Rattle.remove.specs.Remove.{Reach, Sought, prefix, sibling_key}
-use Rattle.siblings.specs.declared.Found.{Found}
+use Rattle.siblings.specs.Outcome.{Found}
 
 unfoldable pub mark : Bool → ℕ → ℕ
 mark false used = 2 * used + 1

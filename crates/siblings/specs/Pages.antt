@@ -14,8 +14,8 @@ use Rattle.store.specs.Head.{page_at}
 use Rattle.page.specs.Page.{page_rule}
 use Rattle.insert.specs.Enter.{own_items}
 use Rattle.remove.specs.Remove.{Reach, Pages, on_left, stuck_pages, no_pages, both_pages, page_joins}
-use Rattle.siblings.specs.declared.Mate.{Mate}
-use Rattle.siblings.specs.declared.PageJoins.{PageJoins}
+use Rattle.siblings.specs.Outcome.{Mate}
+use Rattle.siblings.specs.Outcome.{PageJoins}
 use Rattle.siblings.specs.Marks.{Tracks}
 
 abbrev pub quiet : Pages → Pages

@@ -2,31 +2,27 @@
 
 #![tactic(auto)]
 
-ghost use Rattle.std.specs.Prelude.{◌≡◌, true, false, ◌&&◌, ◌||◌, List, [], ℕ, suc, ◌+◌, ◌-◌, ◌*◌, ◌^◌, ◌≤◌, ◌<◌, max, eqb, length, get_or, set, take};
+ghost use Rattle.std.specs.Prelude.{◌≡◌, true, false, ◌&&◌, ◌||◌, List, [], ℕ, suc, ◌+◌, ◌-◌, ◌*◌, ◌^◌, ◌≤◌, ◌<◌, max, eqb, length, get_or, set, take, IfErr};
+ghost use Rattle.answers.specs.declared.Refusal.TheVariants.{DamageMet};
 ghost use Rattle.lists.specs.Lists.{All};
 ghost use Rattle.store.specs.Format.{width};
 ghost use Rattle.store.specs.Head.{largest_capacity, node_words, node_start, node_at, page_at, InUse, Under};
 ghost use Rattle.node.specs.Node.{depth_word, level_word};
 ghost use Rattle.page.specs.Page.{page_rule};
+ghost use Rattle.search.specs.Way.{visit_result};
 ghost use Rattle.search.specs.Descent.{sound_node, step_of};
 ghost use Rattle.split.specs.Value.{Shallow};
 ghost use Rattle.insert.specs.Enter.{own_items};
 ghost use Rattle.remove.specs.Remove.{Reach, Pages, on_left, sibling_key, sibling, beside_ok, links_ok, page_joins, covered, node_joins};
+ghost use Rattle.siblings.specs.Outcome.{found_of, mate_of, joins_of, nodes_of};
 ghost use Rattle.siblings.specs.Marks.{mark_at, Tracks, Passed, SoughtIs};
 ghost use Rattle.siblings.specs.Pairs.{pair_ok, in_hand};
 ghost use Rattle.siblings.specs.Nodes.{NodesR, NodeMated, paired, Decided, spot_is, linked_pair, HandFine, Noded};
-ghost use Rattle.siblings.specs.Pages.{no_mate, Mated, Paged, Joinable, records_in};
+ghost use Rattle.siblings.specs.Pages.{Mated, Paged, Joinable, records_in};
 
+use answers::Refusal;
 use search::Visit;
 use store::{Format, Head};
-
-// What the descent to a sibling gives: damage, or a longer prefix, or the pointer to the sibling.
-#[derive(Clone, Copy)]
-pub struct Found {
-    pub ok: bool,
-    pub found: bool,
-    pub pointer: u32,
-}
 
 // Whether the sibling of the key's first m bits is the left one of the pair.
 pub fn on_left(f: Format, key: u64, m: u32) -> bool
@@ -97,27 +93,17 @@ fn visit(
     used: u32,
     marks: &[u8],
     mark: u8,
-) -> Visit
+) -> Result<Visit, Refusal>
     requires { (Under f store.now head) × (InUse head n) × (used ≤ width f) × (head.nodes_taken < length marks.now)
         × (get_or marks.now n 0 ≡ mark → sound_node f store.now head (level_word store.now (node_start head n)) n used ≡ true) }
-    ensures { result ≡ step_of f store.now head key level n used }
+    ensures { result ≡ visit_result (step_of f store.now head key level n used) }
 {
     let known = seen(store, head, level, n, marks, mark);
     search::visit_node(store, f, head, key, level, n, used, !known)
 }
 
-// No sibling.
-fn not_found(ok: bool) -> Found
-    ensures { result ≡ record { ok = ok; found = false; pointer = 0 } }
-{
-    Found {
-        ok,
-        found: false,
-        pointer: 0,
-    }
-}
-
-// The descent with the key of a sibling of m bits, down to the level `target` (0: the pages).
+// The descent with the key of a sibling of m bits, down to the level `target` (0: the pages): the pointer to the sibling, or none where a longer
+// prefix is met.
 fn seek(
     store: &[u32],
     f: Format,
@@ -126,39 +112,31 @@ fn seek(
     m: u32,
     target: u32,
     marks: &mut [u8],
-) -> Found
+) -> Result<Option<u32>, Refusal>
     requires { (Under f store.now head) × (m ≤ width f) × (target ≤ head.levels) × (head.nodes_taken < length marks.old)
         × Passed f store.now head marks.old }
     ensures { (length marks.new ≡ length marks.old)
         × ((k : ℕ) (rs : List Reach) → key ≡ sibling_key (width f) k m → Tracks (width f) k rs marks.old
-        → SoughtIs (width f) k result (sibling f store.now head k m target rs) marks.new)
-        × (result.found ≡ true → 1 ≤ target → InUse head result.pointer) × (result.found ≡ true → target ≡ 0 → result.pointer ≤ head.pages_taken)
-        × Passed f store.now head marks.new }
+        → SoughtIs (width f) k (found_of result) (sibling f store.now head k m target rs) marks.new)
+        × ((found_of result).found ≡ true → 1 ≤ target → InUse head (found_of result).pointer)
+        × ((found_of result).found ≡ true → target ≡ 0 → (found_of result).pointer ≤ head.pages_taken)
+        × Passed f store.now head marks.new × IfErr result (λ e. e ≡ DamageMet) }
 {
     let mut node = head.root;
     let mut used: u32 = 0;
-    let mut level = head.levels;
-    while level > target {
+    for below in (target..head.levels).rev() {
         let mark = mark_of(used, m);
-        let v = visit(store, f, head, key, level, node, used, marks, mark);
-        if !v.ok {
-            return not_found(false);
-        }
+        let v = visit(store, f, head, key, below + 1, node, used, marks, mark)?;
         if !note_node(marks, node, mark) {
-            return not_found(false);
+            return Err(Refusal::DamageMet);
         }
         used += v.depth;
         if used > m {
-            return not_found(true);
+            return Ok(None);
         }
-        level -= 1;
         node = v.pointer;
     }
-    Found {
-        ok: true,
-        found: true,
-        pointer: node,
-    }
+    Ok(Some(node))
 }
 
 // Whether node m, the neighbour of node n at its back link (`back`) or at its forward link, if there is one, is another level-1 node that
@@ -264,32 +242,11 @@ fn links_ok(
     )
 }
 
-// The page beside a stretch: damage, or none, or the pointer to it (0: null) and the count of its records.
+// The page beside a stretch: the pointer to it (0: null) and the count of its records.
 #[derive(Clone, Copy)]
 pub struct Mate {
-    pub ok: bool,
-    pub found: bool,
     pub pointer: u32,
     pub count: usize,
-}
-
-// Damage (not ok), or how often the pages of a removal join.
-#[derive(Clone, Copy)]
-pub struct PageJoins {
-    pub ok: bool,
-    pub n: usize,
-}
-
-// No page beside.
-fn no_mate(ok: bool) -> Mate
-    ensures { result ≡ no_mate ok }
-{
-    Mate {
-        ok,
-        found: false,
-        pointer: 0,
-        count: 0,
-    }
 }
 
 // How many records a page has that keeps the page rule; null has none.
@@ -304,38 +261,37 @@ fn count_at(store: &[u32], f: Format, head: Head, p: u32) -> usize
     page::count_of(store::page_at(store, f, head, p))
 }
 
-// The page under the sibling of the key's first m bits, checked.
-fn page_mate(store: &[u32], f: Format, head: Head, key: u64, m: u32, marks: &mut [u8]) -> Mate
+// The page under the sibling of the key's first m bits, checked, or none.
+fn page_mate(
+    store: &[u32],
+    f: Format,
+    head: Head,
+    key: u64,
+    m: u32,
+    marks: &mut [u8],
+) -> Result<Option<Mate>, Refusal>
     requires { (Under f store.now head) × (1 ≤ m) × (m ≤ width f) × (key < 2 ^ width f) × (head.nodes_taken < length marks.old)
         × Passed f store.now head marks.old }
-    ensures { (length marks.new ≡ length marks.old) × (result.count ≤ head.capacity)
+    ensures { (length marks.new ≡ length marks.old) × ((mate_of result).count ≤ head.capacity)
         × ((g : Pages) → g.used ≡ m → Tracks (width f) key g.reached marks.old
-        → Mated f store.now head key g result marks.new)
-        × (result.found ≡ true → Joinable f store.now head result.pointer)
-        × (result.found ≡ true → result.count ≡ length (own_items f store.now head result.pointer))
-        × Passed f store.now head marks.new }
+        → Mated f store.now head key g (mate_of result) marks.new)
+        × ((mate_of result).found ≡ true → Joinable f store.now head (mate_of result).pointer)
+        × ((mate_of result).found ≡ true → (mate_of result).count ≡ length (own_items f store.now head (mate_of result).pointer))
+        × Passed f store.now head marks.new × IfErr result (λ e. e ≡ DamageMet) }
 {
     let other = sibling_key(f, key, m);
-    let z = seek(store, f, head, other, m, 0, marks);
-    if !z.ok {
-        return no_mate(false);
+    let Some(pointer) = seek(store, f, head, other, m, 0, marks)? else {
+        return Ok(None);
+    };
+    if !insert::own_ok(store, f, head, other, pointer, m) {
+        return Err(Refusal::DamageMet);
     }
-    if !z.found {
-        return no_mate(true);
-    }
-    if !insert::own_ok(store, f, head, other, z.pointer, m) {
-        return no_mate(false);
-    }
-    Mate {
-        ok: true,
-        found: true,
-        pointer: z.pointer,
-        count: count_at(store, f, head, z.pointer),
-    }
+    let count = count_at(store, f, head, pointer);
+    Ok(Some(Mate { pointer, count }))
 }
 
-// The pages of a removal joined, the longest prefix first, until a pair stays apart. The stretch has so many bits and records; nothing is
-// moved: the pages that are joined with it are named in `mates`.
+// The pages of a removal joined, the longest prefix first, until a pair stays apart, and how often. The stretch has so many bits and records;
+// nothing is moved: the pages that are joined with it are named in `mates`.
 pub fn join_pages(
     store: &[u32],
     f: Format,
@@ -345,41 +301,33 @@ pub fn join_pages(
     count: usize,
     marks: &mut [u8],
     mates: &mut [u32],
-) -> PageJoins
+) -> Result<usize, Refusal>
     requires { (Under f store.now head) × (used ≤ width f) × (key < 2 ^ width f) × (count ≤ head.capacity)
         × (head.nodes_taken < length marks.old) × (64 ≤ length mates.old) × Passed f store.now head marks.old }
     ensures { (length marks.new ≡ length marks.old) × (length mates.new ≡ length mates.old)
-        × (result.n ≤ used)
+        × ((joins_of result).n ≤ used)
         × ((g : Pages) → g.ok ≡ true → g.used ≡ used → length g.items ≡ count → Tracks (width f) key g.reached marks.old
-        → Paged f store.now head key g (page_joins f store.now head key g.used g) result mates.new marks.new)
-        × All (Joinable f store.now head) (take result.n mates.new)
-        × (count + records_in f store.now head (take result.n mates.new) ≤ head.capacity)
-        × Passed f store.now head marks.new }
+        → Paged f store.now head key g (page_joins f store.now head key g.used g) (joins_of result) mates.new marks.new)
+        × All (Joinable f store.now head) (take (joins_of result).n mates.new)
+        × (count + records_in f store.now head (take (joins_of result).n mates.new) ≤ head.capacity)
+        × Passed f store.now head marks.new × IfErr result (λ e. e ≡ DamageMet) }
 {
     let capacity = store::to_index(head.capacity);
-    let mut left = used;
     let mut held = count;
-    let mut n: usize = 0;
-    while left > 0 {
-        let mate = page_mate(store, f, head, key, left, marks);
-        if !mate.ok {
-            return PageJoins { ok: false, n: 0 };
-        }
-        if !mate.found {
-            return PageJoins { ok: true, n };
-        }
+    for n in 0..used {
+        let Some(mate) = page_mate(store, f, head, key, used - n, marks)? else {
+            return Ok(n as usize);
+        };
         held += mate.count;
         if held > capacity {
-            return PageJoins { ok: true, n };
+            return Ok(n as usize);
         }
-        mates[n] = mate.pointer;
-        n += 1;
-        left -= 1;
+        mates[n as usize] = mate.pointer;
     }
-    PageJoins { ok: true, n }
+    Ok(used as usize)
 }
 
-// The node beside the node in hand on a level, under the sibling of the key's first `used` bits, checked.
+// The node beside the node in hand on a level, under the sibling of the key's first `used` bits, checked, or none.
 fn node_mate(
     store: &[u32],
     f: Format,
@@ -388,33 +336,26 @@ fn node_mate(
     used: u32,
     level: u32,
     marks: &mut [u8],
-) -> Found
+) -> Result<Option<u32>, Refusal>
     requires { (Under f store.now head) × (1 ≤ used) × (used ≤ width f) × (key < 2 ^ width f) × (1 ≤ level) × (level ≤ head.levels)
         × (head.nodes_taken < length marks.old) × Passed f store.now head marks.old }
     ensures { (length marks.new ≡ length marks.old)
         × ((g : NodesR) → g.spot.used ≡ used → Tracks (width f) key g.reached marks.old
-        → NodeMated f store.now head key level g result marks.new)
-        × (result.found ≡ true → InUse head result.pointer
-        × ((step_of f store.now head (sibling_key (width f) key used) level result.pointer used).ok ≡ true))
-        × Passed f store.now head marks.new }
+        → NodeMated f store.now head key level g (found_of result) marks.new)
+        × ((found_of result).found ≡ true → InUse head (found_of result).pointer
+        × ((step_of f store.now head (sibling_key (width f) key used) level (found_of result).pointer used).ok ≡ true))
+        × Passed f store.now head marks.new × IfErr result (λ e. e ≡ DamageMet) }
 {
     let other = sibling_key(f, key, used);
-    let z = seek(store, f, head, other, used, level, marks);
-    if !z.ok {
-        return not_found(false);
-    }
-    if !z.found {
-        return not_found(true);
-    }
+    let Some(p) = seek(store, f, head, other, used, level, marks)? else {
+        return Ok(None);
+    };
     let mark = mark_of(used, used);
-    let v = visit(store, f, head, other, level, z.pointer, used, marks, mark);
-    if !v.ok {
-        return not_found(false);
+    visit(store, f, head, other, level, p, used, marks, mark)?;
+    if !note_node(marks, p, mark) {
+        return Err(Refusal::DamageMet);
     }
-    if !note_node(marks, z.pointer, mark) {
-        return not_found(false);
-    }
-    z
+    Ok(Some(p))
 }
 
 // The first of two numbers, or the second.
@@ -434,7 +375,7 @@ pub fn cover_hand(hand: &mut [u32], f: Format, theta: u32, key: u64, used: u32, 
     ensures { hand.new ≡ covered (width f) theta key used m q hand.old }
 {
     let i = node::entry_number(f, key, used, hand[0]);
-    fuse::cover_part(hand, theta, i, search::less(m, used), q);
+    fuse::cover_part(hand, theta, i, m.saturating_sub(used), q);
 }
 
 // The node in hand joined with its sibling, on its left or on its right.
@@ -473,7 +414,7 @@ fn may_join(
     links_ok(store, head, block, number, last, p, left)
 }
 
-// What is beside the node in hand on a level: damage, or nothing that joins, or the sibling to join with.
+// The sibling that the node in hand on a level joins with, or none.
 fn node_turn(
     store: &[u32],
     f: Format,
@@ -485,34 +426,30 @@ fn node_turn(
     number: u32,
     last: u32,
     marks: &mut [u8],
-) -> Found
+) -> Result<Option<u32>, Refusal>
     requires { (Under f store.now head) × (1 ≤ used) × (used ≤ width f) × (key < 2 ^ width f) × (1 ≤ level) × (level ≤ head.levels)
         × (head.nodes_taken < length marks.old) × (length hand.now ≡ node_words head.theta) × Passed f store.now head marks.old }
     ensures { (length marks.new ≡ length marks.old)
         × ((g : NodesR) → g.spot ≡ spot_is number used last hand.now → Tracks (width f) key g.reached marks.old
-        → Decided f store.now head key level g result marks.new)
-        × (result.found ≡ true → InUse head result.pointer
-        × ((step_of f store.now head (sibling_key (width f) key used) level result.pointer used).ok ≡ true)
-        × (suc (max (depth_word hand.now 0) (depth_word (node_at store.now head result.pointer) 0)) ≤ head.theta))
-        × Passed f store.now head marks.new }
+        → Decided f store.now head key level g (found_of result) marks.new)
+        × ((found_of result).found ≡ true → InUse head (found_of result).pointer
+        × ((step_of f store.now head (sibling_key (width f) key used) level (found_of result).pointer used).ok ≡ true)
+        × (suc (max (depth_word hand.now 0) (depth_word (node_at store.now head (found_of result).pointer) 0)) ≤ head.theta))
+        × Passed f store.now head marks.new × IfErr result (λ e. e ≡ DamageMet) }
 {
-    let z = node_mate(store, f, head, key, used, level, marks);
-    if !z.ok {
-        return not_found(false);
-    }
-    if !z.found {
-        return not_found(true);
-    }
-    let node = store::node_at(store, f, head, z.pointer);
-    let deeper = node::larger(hand[0], node[0]);
+    let Some(p) = node_mate(store, f, head, key, used, level, marks)? else {
+        return Ok(None);
+    };
+    let node = store::node_at(store, f, head, p);
+    let deeper = hand[0].max(node[0]);
     if deeper >= head.theta {
-        return not_found(true);
+        return Ok(None);
     }
     let left = on_left(f, key, used);
-    if !may_join(store, head, level, hand, number, last, z.pointer, left) {
-        return not_found(false);
+    if !may_join(store, head, level, hand, number, last, p, left) {
+        return Err(Refusal::DamageMet);
     }
-    z
+    Ok(Some(p))
 }
 
 // The node in hand joined with its sibling p, and the run of the stretch below in it: of m bits, with the pointer q.
@@ -544,28 +481,14 @@ fn join_hand(
     cover_hand(hand, f, head.theta, key, used, m, q);
 }
 
-// Damage (not ok), or a level after its joins: the number of the node in hand, the bits used before it, the last node of those joined, and
-// the end of the released ones.
+// A level after its joins: the number of the node in hand, the bits used before it, the last node of those joined, and the end of the
+// released ones.
 #[derive(Clone, Copy)]
 pub struct NodeJoins {
-    pub ok: bool,
     pub number: u32,
     pub used: u32,
     pub last: u32,
     pub end: usize,
-}
-
-// Damage on a level.
-fn no_nodes() -> NodeJoins
-    ensures { result.ok ≡ false }
-{
-    NodeJoins {
-        ok: false,
-        number: 0,
-        used: 0,
-        last: 0,
-        end: 0,
-    }
 }
 
 // The node in hand on a level joined as long as it can, over a stretch below of m bits with the pointer q. The nodes released are
@@ -585,49 +508,43 @@ pub fn join_nodes(
     marks: &mut [u8],
     gone: &mut [u32],
     at: usize,
-) -> NodeJoins
+) -> Result<NodeJoins, Refusal>
     requires { (Under f store.now head) × (used ≤ width f) × (key < 2 ^ width f) × (1 ≤ level) × (level ≤ head.levels)
         × (head.nodes_taken < length marks.old) × (length hand.old ≡ node_words head.theta) × (length spare.old ≡ node_words head.theta)
         × HandFine f head.theta m used hand.old × (at + used ≤ length gone.old) × (length gone.old < 2 ^ 32)
         × Passed f store.now head marks.old }
     ensures { ((g : NodesR) → g.ok ≡ true → g.spot ≡ spot_is first used first hand.old → g.released ≡ []
         → Tracks (width f) key g.reached marks.old
-        → Noded f key (node_joins f store.now head key level m q used g) result hand.new gone.old at gone.new
-        marks.new) × (result.ok ≡ true → result.end + result.used ≡ at + used) × Passed f store.now head marks.new }
+        → Noded f key (node_joins f store.now head key level m q used g) (nodes_of result) hand.new gone.old at gone.new
+        marks.new) × ((nodes_of result).ok ≡ true → (nodes_of result).end + (nodes_of result).used ≡ at + used)
+        × Passed f store.now head marks.new × IfErr result (λ e. e ≡ DamageMet) }
 {
     let mut number = first;
     let mut last = first;
-    let mut left = used;
-    let mut end = at;
-    while left > 0 {
-        let z = node_turn(store, f, head, key, left, level, hand, number, last, marks);
-        if !z.ok {
-            return no_nodes();
-        }
-        if !z.found {
-            return NodeJoins {
-                ok: true,
+    for n in 0..used {
+        let end = at + n as usize;
+        let before = used - n;
+        let Some(p) = node_turn(
+            store, f, head, key, before, level, hand, number, last, marks,
+        )?
+        else {
+            return Ok(NodeJoins {
                 number,
-                used: left,
+                used: before,
                 last,
                 end,
-            };
-        }
-        let side = on_left(f, key, left);
-        left -= 1;
-        join_hand(
-            store, f, head, hand, spare, z.pointer, side, key, left, m, q,
-        );
-        gone[end] = pick(side, number, z.pointer);
-        number = pick(side, z.pointer, number);
-        last = pick(side, last, z.pointer);
-        end += 1;
+            });
+        };
+        let side = on_left(f, key, before);
+        join_hand(store, f, head, hand, spare, p, side, key, before - 1, m, q);
+        gone[end] = pick(side, number, p);
+        number = pick(side, p, number);
+        last = pick(side, last, p);
     }
-    NodeJoins {
-        ok: true,
+    Ok(NodeJoins {
         number,
-        used: left,
+        used: 0,
         last,
-        end,
-    }
+        end: at + used as usize,
+    })
 }

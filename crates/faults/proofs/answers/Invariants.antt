@@ -1,6 +1,5 @@
 use mathlib.Core.Path.{◌≡◌}
 use Prim.Native.Nat.{◌-◌}
-use lib.ListN.{length}
 use Rattle.harness.specs.Script.{both}
 use Rattle.faults.specs.Faults.{answers_from}
 use Rattle.faults.proofs.answers.Given as goal

@@ -1,7 +1,7 @@
 -- A level that changes is carried, and another one stands in the store.
 use borrow.Author.Rules.{rules}
 use mathlib.Core.Path.{ap, ◌∙◌}
-use Prim.Native.Nat.{◌-◌, ◌*◌, ◌≤◌}
+use Prim.Native.Nat.{◌*◌, ◌≤◌}
 use native.Mathlib.Omega.{arith}
 use Rattle.store.specs.Head.{word, node_start}
 use Rattle.levels.proofs.RootLaws.{depth_carried, depth_stays}

@@ -4,7 +4,7 @@ use mathlib.Core.Path.{◌≡◌, refl, sym, ap, ◌∙◌}
 use mathlib.Core.Bool.{true, false, not}
 use Prim.Native.Nat.{◌+◌}
 use lib.Dec.{eqb}
-use borrow.Author.Tests.{eq-eqb, ne_eqb, not-true, not-false}
+use borrow.Author.Tests.{eq-eqb, ne_eqb}
 use Rattle.store.specs.Head.{word, node_start}
 use Rattle.insert.proofs.PlanLaws.{word_of}
 use Rattle.siblings.proofs.LeafLaws.{no_one, beside_is, beside_last}

@@ -1,7 +1,6 @@
 -- The left one first.
 use borrow.Author.Rules.{rules}
-use mathlib.Core.Path.{◌≡◌, sym, ◌∙◌}
-use lib.ListN.{length}
+use mathlib.Core.Path.{◌∙◌}
 use native.Mathlib.Omega.{arith}
 use Rattle.siblings.proofs.HandLaws.{paired_left, paired_right}
 use Rattle.siblings.proofs.join_pair.Statement.{statement}

@@ -1,7 +1,6 @@
 -- The prefix with its last bit the other way, shifted back.
 use borrow.Author.Rules.{rules}
 use native.Mathlib.Omega.{arith}
-use lib.Pow.{pow_mono, shr_le}
 use mathlib.Core.Path.{ap}
 use Prim.Native.Nat.{◌-◌}
 use Rattle.store.proofs.HeadLaws.{width_within}

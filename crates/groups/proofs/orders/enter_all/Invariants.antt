@@ -1,6 +1,5 @@
 use mathlib.Core.Path.{◌≡◌}
 use Prim.Native.Nat.{◌-◌}
-use lib.ListN.{length}
 use Rattle.store.specs.Head.{word}
 use Rattle.harness.specs.Script.{both}
 use Rattle.groups.specs.Orders.{entered_from}

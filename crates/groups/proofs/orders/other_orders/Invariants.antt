@@ -1,6 +1,5 @@
 use mathlib.Core.Path.{◌≡◌}
 use Prim.Native.Nat.{◌-◌}
-use lib.ListN.{length}
 use Rattle.harness.specs.Script.{both}
 use Rattle.groups.specs.Orders.{ordered_from}
 use Rattle.groups.proofs.orders.other_orders.Given as goal

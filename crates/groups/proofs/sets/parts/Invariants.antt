@@ -1,6 +1,5 @@
 use mathlib.Core.Path.{◌≡◌}
 use Prim.Native.Nat.{◌-◌}
-use lib.ListN.{length}
 use Rattle.harness.specs.Script.{both}
 use Rattle.groups.specs.Sets.{parts_from, parts_of}
 use Rattle.groups.proofs.sets.parts.Given as goal

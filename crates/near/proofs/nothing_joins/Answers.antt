@@ -1,0 +1,28 @@
+-- The tests before the sibling leave the removal undecided.
+use mathlib.Core.Path.{refl, sym, ap, ◌∙◌}
+use native.Mathlib.Omega.{arith}
+use Rattle.search.proofs.BlockLaws.{under_page}
+use Rattle.near.specs.Near.{near_result}
+use Rattle.near.proofs.Told.{near_emptied, near_wide, near_root, near_told}
+use Rattle.near.proofs.nothing_joins.Goals as goal
+
+pub returns-then-left-eq0 : goal.returns-then-left-eq0
+returns-then-left-eq0 c = ap near_result (near_emptied _ _ _ _ _ _ c.if-left-eq0.true)
+
+pub returns-then-e : goal.returns-then-e
+returns-then-e c = ap near_result (near_wide _ _ _ _ _ _ (omega (arith, c.if-left-eq0.false)) c.if-e.true)
+
+pub root_stays-requires : goal.root_stays-requires
+root_stays-requires c = (under_page c.requires.0).0
+
+pub returns-then-not-root_stays : goal.returns-then-not-root_stays
+returns-then-not-root_stays c =
+    ap near_result
+    (near_root _ _ _ _ _ _ (omega (arith, c.if-left-eq0.false)) (omega (arith, c.if-e.false)) (sym c.root_stays.ensures ∙ c.if-not-root_stays.true))
+
+pub returns : goal.returns
+returns c =
+    c.stays_apart.ensures
+    ∙ ap near_result
+    (near_told _ _ _ _ _ _ (omega (arith, c.if-left-eq0.false)) (omega (arith, c.if-e.false)) (sym c.root_stays.ensures ∙ c.if-not-root_stays.false)
+    refl)
