@@ -16,7 +16,7 @@ use Rattle.store.specs.SetUp.{set_up_words, set_up}
 use Rattle.store.specs.Tests.{failing}
 use Rattle.store.specs.Head.{node_at}
 use Rattle.node.specs.Node.{run_rule, good_runs, link_rule, pointer_low, pointer_high, node_rule, entry_number}
-use Rattle.page.specs.Page.{item_at, item_words, flat, lawful_item, in_turn, goes_on, checked_of, ordered, page_rule, agrees, above, first_from}
+use Rattle.page.specs.Page.{item_at, item_words, flat, lawful_item, in_turn, ordered, page_rule, agrees, above, first_from}
 use Rattle.page.specs.Page.{first_above}
 use Rattle.page.specs.Schema.{unlawful}
 use Rattle.totals.specs.Totals.{no_totals, worth, ahead, earlier, updated_of}
@@ -44,7 +44,7 @@ pub sampled : Sampled
 unfolding bytes request response transcript served bit replaced part tab every greatest contains insert is_word lawful_day lawful_term
     lawful days_left amount balance_reply log_below level_bound rounds pages_at bump bump_cost width words zeros head_of node_words page_words size
     node_start page_start page_at lawful_sizes lawful_counts head_rule set_up_words set_up failing run_rule good_runs link_rule pointer_low
-    pointer_high node_rule entry_number item_at item_words flat lawful_item in_turn goes_on checked_of ordered page_rule agrees above first_from
+    pointer_high node_rule entry_number item_at item_words flat lawful_item in_turn ordered page_rule agrees above first_from
     first_above unlawful no_totals worth ahead earlier updated_of no_steps damaged_node entry_visit step_of lost step_taken descend descent sound_page
     in_page find_of checked find_reply first_pointer run_after visit_after linked onward hop reach visited behind after_own from_descent next_of damage
     sum_from summed summary_of kept block over_run halves halve_run double grow half lower upper aim top blocks.linked put_node put_page put_head

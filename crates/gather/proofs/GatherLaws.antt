@@ -32,7 +32,7 @@ use Rattle.merge.specs.Added.{added}
 use Rattle.remove.specs.Remove.{Reach, Pages, on_left, either_page, lost_page, both_pages, emptied}
 use Rattle.remove.proofs.PagePhase.{either_null, either_own, lost_left, lost_right, lost_one}
 use Rattle.siblings.specs.Pages.{quiet, pages_by, records_in, Paged}
-use Rattle.siblings.specs.declared.PageJoins.{PageJoins}
+use Rattle.siblings.specs.Outcome.{PageJoins}
 use Rattle.siblings.proofs.PageJoinLaws.{both_used, both_length, take_more}
 use Rattle.gather.specs.declared.Gathered.{Gathered}
 use Rattle.gather.specs.Gather.{Holds, start_of, joined_by}
