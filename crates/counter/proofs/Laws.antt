@@ -1,32 +1,27 @@
 -- Calls of serve, one after another: a chunk is served whole, chunk after chunk makes the input, and the bytes put are the transcript.
---   Known                     == the bytes that a writer holds or a reader has to give, where they are known
 --   Reaches s d input w t e v from == the input up to from is taken: what the rest brings, with the bytes put so far, is what the whole
 --                                brings; a writer that held w holds v, with those bytes behind w
---   Stops input e left from    == where nothing is left, the whole input is taken and no listing is open
 use mathlib.Core.Path.{◌≡◌, refl, sym, ap, ap₂, ◌∙◌, subst}
-use mathlib.Core.Bool.{Bool, true, false, not, ◌&&◌, false≢true}
+use mathlib.Core.Bool.{Bool, true, false, false≢true}
 use mathlib.Core.List.{List, [], ◌∷◌, ◌++◌, append_assoc, append-nil}
 use mathlib.Core.Logic.{inl, inr}
 use Prim.Native.Nat.{ℕ, ◌+◌, ◌-◌, ◌≤◌, ◌<◌}
 use native.Mathlib.Omega.{arith}
-use lib.Dec.{ltb}
-use lib.IntN.{ℤ, pos, negsuc}
-use lib.Signed.{le_z}
 use lib.ListN.{length, take, drop, replicate, length-append, length-take}
 use lib.Seq.{drop-drop, drop-length}
-use borrow.Author.Tests.{ltb-true, ltb-false, lt-ltb, le-ltb, le-leb, leb-true, leb-false}
-use Rattle.std.specs.declared.option.Option.{Option}
+use Rattle.std.specs.Prelude.{Option, Some, None, Result, Ok, Err, IsErr, IfErr, OnOk}
 use Rattle.std.specs.Io.KnownBytes.{Appends, Consumes, IsAtEnd}
 use Rattle.std.proofs.KnownBytes.{Appends-nil, Appends-trans, Consumes-nil, Consumes-trans}
 use Rattle.desk.specs.declared.Desk.{Desk}
-use Rattle.desk.specs.declared.Listing.{Listing}
 use Rattle.desk.specs.declared.Progress.{Progress}
-use Rattle.desk.specs.Listing.{part_bytes, no_listing}
+use Rattle.desk.specs.Listing.{part_bytes}
 use Rattle.desk.specs.Transcript.{Served, ending, store_words, transcript}
 use Rattle.desk.specs.Serving.{line_of, rest_of, Serves, Finishes, Run, over, call, finished}
 use Rattle.desk.proofs.ServeLaws.{part_from, part_long_lem}
 use Rattle.desk.proofs.Delivery.{delivered, end_put}
-use Rattle.counter.specs.Program.{clamp_len, came, failed, Whole, Answered, most_reads, joined, Ran, Transcribed}
+use Rattle.counter.specs.declared.Failure.{Failure}
+use Rattle.counter.specs.declared.Failure.TheVariants.{Reading, Writing, Ending}
+use Rattle.counter.specs.Program.{Known, Whole, Turned, most_reads, joined, SoFar, ServedAll, Ran, Transcribed, Ended}
 
 -- runs, one after another
 pub run_then : {s : List ℕ} {d : Desk} {is xs t : List ℕ} {e : Desk} {bs ys u : List ℕ} {f : Desk} → Run s d is xs t e → Run t e bs ys u f
@@ -41,29 +36,20 @@ run_then {s} {d} {bs = bs} {ys = ys} {u = w} {f = f} (call {t = t} {bytes = byte
 
 -- a chunk, step by step
 
-abbrev pub Known : Type 0
-Known = Option (List ℕ)
-
 abbrev pub Reaches : List ℕ → Desk → List ℕ → Known → List ℕ → Desk → Known → ℕ → Type 0
 Reaches s d input w t e v from =
     (bs : List ℕ) × ((bytes u : List ℕ) (f : Desk) → Run t e (drop from input) bytes u f → Run s d input (bs ++ bytes) u f)
     × Appends w v bs
 
-abbrev pub Stops : List ℕ → Desk → Bool → ℕ → Type 0
-Stops input e left from = left ≡ false → (from ≡ length input) × (e.listing.active ≡ false)
-
-abbrev pub flag : Bool → ℕ
-flag b = elim b [ true ↦ 1 | false ↦ 0 ]
-
--- what is still to be written, if no more input comes; and whether there may be more to do
-abbrev pub to_write : List ℕ → Desk → List ℕ → Bool → ℕ
-to_write s d input left = length (rest_of s d input).bytes + flag left
+-- how many bytes are still to be written, if no more input comes
+abbrev pub to_write : List ℕ → Desk → List ℕ → ℕ
+to_write s d input = length (rest_of s d input).bytes
 
 pub reaches_start : (s : List ℕ) (d : Desk) (input : List ℕ) (w : Known) → Reaches s d input w s d w 0
 reaches_start s d input w = ([], λ bytes u f q. q, Appends-nil w)
 
 pub reaches_end : (s : List ℕ) (d : Desk) (input t : List ℕ) (e : Desk) (w v : Known) (from : ℕ) → Reaches s d input w t e v from
-    → from ≡ length input → e.listing.active ≡ false → Whole s d input t e w v
+    → from ≡ length input → e.listing ≡ None → Whole s d input t e w v
 reaches_end s d input t e w v from r all quiet =
     let none : drop from input ≡ [] = ap (λ (i : ℕ). drop i input) all ∙ drop-length input in (
       r.0 ++ [],
@@ -110,65 +96,30 @@ module _ (t : List ℕ) (e : Desk) (input : List ℕ) (from : ℕ) (out u out' :
       ∙ ap (λ (a : Served). length X + length a.bytes) after in
       omega (arith, n, long)
 
-  pub to_write_less : (was left : Bool) → was ≡ true → part_bytes ≤ length out → left ≡ ltb (length out - r.put) part_bytes
-      → to_write u r.desk (drop (from + r.taken) input) left < to_write t e (drop from input) was
-  to_write_less true true h room l = omega (arith, written_less, ltb-true (length out - r.put) part_bytes (sym l), step.put)
-  to_write_less true false h room l = omega (arith, written_less)
-  to_write_less false left h room l = absurd (false≢true h)
+  -- with no room left for a part, a byte is put
+  pub to_write_less : part_bytes ≤ length out → length out - r.put < part_bytes
+      → to_write u r.desk (drop (from + r.taken) input) < to_write t e (drop from input)
+  to_write_less h l = omega (arith, written_less, step.put)
 
-  pub stops_then : (left : Bool) → Finishes (take (length input - from) (drop from input)) out r
-      → left ≡ ltb (length out - r.put) part_bytes → from ≤ length input → Stops input r.desk left (from + r.taken)
-  stops_then left (inl f) l h e = (omega (arith, f.0, part_long_lem input from), f.1)
-  stops_then left (inr f) l h e = absurd (omega (arith, f, ltb-false (length out - r.put) part_bytes (sym l ∙ e), step.put))
+  -- with room left, all is taken
+  pub stops_then : Finishes (take (length input - from) (drop from input)) out r → part_bytes ≤ length out - r.put → from ≤ length input
+      → (from + r.taken ≡ length input) × (r.desk.listing ≡ None)
+  stops_then (inl f) l h = (omega (arith, f.0, part_long_lem input from), f.1)
+  stops_then (inr f) l h = absurd (omega (arith, f, step.put))
 
 -- the reply to an unfinished line
 pub ending_put : (d : Desk) (out out' : List ℕ) (n : ℕ) → length d.line ≡ 43 → part_bytes ≤ length out → n ≡ (finished d out).count
     → out' ≡ (finished d out).bytes → take n out' ≡ ending (line_of d)
 ending_put d out out' n long room c b = ap₂ take c b ∙ end_put d out long (omega arith)
 
--- what a read answers
-
-pub told_none : (v : ℤ) → le_z v (pos 0) ≡ true → (false ≡ (came v && true)) × (le_z (pos 0) v ≡ (not (failed v) && true))
-unfolding came failed
-told_none (pos n) h = (rw (le-ltb 0 n (leb-true n 0 h)), rw (le-leb 0 n (omega arith)))
-told_none (negsuc n) h = (refl, refl)
-
-pub told_some : (v : ℤ) (w : Bool) → le_z v (pos 0) ≡ false → (w ≡ (came v && w)) × (w ≡ (not (failed v) && w))
-unfolding came failed
-told_some (pos n) w h = (rw (lt-ltb 0 n (leb-false n 0 h)), refl)
-told_some (negsuc n) w h = absurd (false≢true (sym h))
-
--- the first turn, before a read
-pub told_first : (true ≡ (came (pos 1) && true)) × (true ≡ (not (failed (pos 1)) && true))
-unfolding came failed
-told_first = (refl, refl)
-
-none_counted : (v : ℤ) (most : ℕ) → le_z v (pos 0) ≡ true → clamp_len v most ≡ 0
-none_counted (pos n) most h = omega (arith, leb-true n 0 h)
-none_counted (negsuc n) most h = refl
-
-pub whole_none : (s : List ℕ) (d : Desk) (v : ℤ) (input : List ℕ) (w : Known) → le_z v (pos 0) ≡ true → d.listing.active ≡ false
-    → Whole s d (take (clamp_len v (length input)) input) s d w w
-whole_none s d v input w h quiet =
-    ([], subst (λ n. Run s d (take n input) [] s d) (sym (none_counted v (length input) h)) over, quiet, Appends-nil w)
-
-pub whole_counted : (s : List ℕ) (d : Desk) (n m : ℕ) (input t : List ℕ) (e : Desk) (w v : Known) → n ≡ m
-    → Whole s d (take n input) t e w v → Whole s d (take m input) t e w v
-whole_counted s d n m input t e w v same h = (h.0, subst (λ k. Run s d (take k input) h.0 t e) same h.1, h.2, h.3)
-
 -- read after read
-
-abbrev pub So : List ℕ → Desk → ℕ → Known → Known → Known → Known → Type 0
-So s e left r q w v =
-    (chunks : List (List ℕ)) × (bytes : List ℕ) × (length chunks + left ≡ most_reads) × Answered s e (joined chunks) bytes
-    × Consumes r q (joined chunks) × Appends w v bytes
 
 joined_then : (cs : List (List ℕ)) (c : List ℕ) → joined (cs ++ c ∷ []) ≡ joined cs ++ c
 joined_then [] c = append-nil c
 joined_then (b ∷ cs) c = ap (λ (xs : List ℕ). b ++ xs) (joined_then cs c) ∙ sym (append_assoc b (joined cs) c)
 
-pub so_start : (s : List ℕ) (d : Desk) (r w : Known) → s ≡ replicate store_words 0 → line_of d ≡ [] → d.listing ≡ no_listing
-    → So s d most_reads r r w w
+pub so_start : (s : List ℕ) (d : Desk) (r w : Known) → s ≡ replicate store_words 0 → line_of d ≡ [] → d.listing ≡ None
+    → SoFar s d most_reads r r w w
 so_start s d r w zeros empty none = (
   [],
   [],
@@ -178,15 +129,15 @@ so_start s d r w zeros empty none = (
     empty,
     none,
     subst (λ t. Run (replicate store_words 0) d [] [] t d) (sym zeros) over,
-    ap (λ (l : Listing). l.active) none,
+    none,
   ),
   Consumes-nil r,
   Appends-nil w,
 )
 
-pub so_then : (s : List ℕ) (d : Desk) (chunk t : List ℕ) (e : Desk) (left : ℕ) (r q p w v x : Known) → 1 ≤ left → So s d left r q w v
-    → Whole s d chunk t e v x → Consumes q p chunk → So t e (left - 1) r p w x
-so_then s d chunk t e left r q p z v x some a w came =
+pub so_then : (s : List ℕ) (d : Desk) (chunk t : List ℕ) (e : Desk) (left next : ℕ) (r q p w v x : Known) → next + 1 ≡ left → SoFar s d left r q w v
+    → Whole s d chunk t e v x → Consumes q p chunk → SoFar t e next r p w x
+so_then s d chunk t e left next r q p z v x one a w came =
     let b = a.3 in
     let all = run_then b.3 w.1 in (
       a.0 ++ chunk ∷ [],
@@ -203,11 +154,11 @@ so_then s d chunk t e left r q p z v x some a w came =
       Appends-trans z v x a.1 w.0 a.5 w.3,
     )
 
-pub so_quiet : (s : List ℕ) (d : Desk) (left : ℕ) (r q w v : Known) → So s d left r q w v → d.listing.active ≡ false
+pub so_quiet : (s : List ℕ) (d : Desk) (left : ℕ) (r q w v : Known) → SoFar s d left r q w v → d.listing ≡ None
 so_quiet s d left r q w v a = a.3.4
 
 -- the last reply, where all is well
-module _ (s : List ℕ) (e : Desk) (last : List ℕ) (left : ℕ) (r q w v : Known) (a : So s e left r q w v) where
+module _ (s : List ℕ) (e : Desk) (last : List ℕ) (left : ℕ) (r q w v : Known) (a : SoFar s e left r q w v) where
   whole_transcript : last ≡ ending (line_of e) → a.1 ++ last ≡ transcript (joined a.0)
   whole_transcript end =
       let b = a.3 in
@@ -223,18 +174,78 @@ module _ (s : List ℕ) (e : Desk) (last : List ℕ) (left : ℕ) (r q w v : Kno
   transcribed x end sent done =
       (joined a.0, a.4, done, subst (Appends w x) (whole_transcript end) (Appends-trans w v x a.1 last a.5 sent))
 
-pub and_last : (a w m : Bool) → m ≡ (a && w) → m ≡ true → w ≡ true
-and_last true w m h e = sym h ∙ e
-and_last false w m h e = absurd (false≢true (sym h ∙ e))
+-- where a read brought nothing
+pub whole_none : (s : List ℕ) (d : Desk) (w : Known) → d.listing ≡ None → Whole s d [] s d w w
+whole_none s d w quiet = ([], over, quiet, Appends-nil w)
 
--- all is well and no more comes: the last read was at the end
-and_not : (a w m : Bool) → m ≡ (a && w) → w ≡ true → m ≡ false → a ≡ false
-and_not true w m h e f = absurd (false≢true (sym f ∙ h ∙ e))
-and_not false w m h e f = refl
+-- a read that brought nothing, and one that says so
+pub nothing_read : (s : List ℕ) (d : Desk) (w : Known) (chunk : List ℕ) → d.listing ≡ None → length chunk ≡ 0
+    → (chunk ≡ []) × Whole s d chunk s d w w
+nothing_read s d w [] quiet e = (refl, whole_none s d w quiet)
+nothing_read s d w (b ∷ bs) quiet e = absurd (omega arith)
 
-pub at_end : (v : ℤ) (w more ok : Bool) → (more ≡ (came v && w)) × (ok ≡ (not (failed v) && w)) → ok ≡ true → more ≡ false → v ≡ pos 0
-unfolding came failed
-at_end (negsuc n) w more ok h o f = absurd (false≢true (sym h.1 ∙ o))
-at_end (pos n) w more ok h o f =
-    let none : n ≤ 0 = ltb-false 0 n (and_not (ltb 0 n) w more h.0 (sym h.1 ∙ o) f) in
-    ap pos (omega (arith, none))
+pub none_read : (s : List ℕ) (d : Desk) (n : ℕ) (input t : List ℕ) (w v : Known) (a : Result (Option Desk) Failure)
+    → Turned s d (take n input) t w v a → a ≡ Ok None → n ≤ length input → n ≡ 0
+none_read s d n input t w v a turned is h =
+    let none = subst (λ (b : Result (Option Desk) Failure). Turned s d (take n input) t w v b) is turned in
+    let long : length (take n input) ≡ n = simp length-take (omega arith) in
+    omega (arith, long, ap length none.0)
+
+-- a failure that is handed up
+pub turned_failed : (s : List ℕ) (d : Desk) (w : Known) (a : Result (Option Desk) Failure) → d.listing ≡ None → IsErr a
+    → IfErr a (λ f. f ≡ Reading) → Turned s d [] s w w a
+turned_failed s d w (Ok o) quiet ill f = absurd (false≢true ill)
+turned_failed s d w (Err Reading) quiet ill f = (refl, whole_none s d w quiet)
+turned_failed s d w (Err Writing) quiet ill f = tt
+turned_failed s d w (Err Ending) quiet ill f = cc
+
+-- one read more
+module _ (s : List ℕ) (d : Desk) (left next : ℕ) (r q w v : Known) (one : next + 1 ≡ left) (a : SoFar s d left r q w v) (chunk t : List ℕ)
+    (p x : Known) (came : Consumes q p chunk) where
+  pub more_read : (o : Option Desk) (e : Desk) → Turned s d chunk t v x (Ok o) → o ≡ Some e → SoFar t e next r p w x
+  more_read o e turned is =
+      so_then s d chunk t e left next r q p w v x one a (subst (λ (i : Option Desk). Turned s d chunk t v x (Ok i)) is turned).1 came
+
+  pub all_read : (room : ℕ) (o : Option Desk) → Turned s d chunk t v x (Ok o) → o ≡ None → (0 < room → IsAtEnd p)
+      → ServedAll t room r p w x (Ok d)
+  all_read room o turned is end =
+      let none = subst (λ (i : Option Desk). Turned s d chunk t v x (Ok i)) is turned in
+      (next, so_then s d chunk t d left next r q p w v x one a none.1 came, inr end)
+
+  pub read_failed : (room : ℕ) (f : Failure) (b : Result Desk Failure) → Turned s d chunk t v x (Err f) → IsErr b → IfErr b (λ g. g ≡ f)
+      → ServedAll t room r p w x b
+  read_failed room f (Ok e) turned ill same = absurd (false≢true ill)
+  read_failed room f (Err Reading) turned ill same =
+      let none = subst (λ (g : Failure). Turned s d chunk t v x (Err g)) (sym same) turned in
+      (d, next, so_then s d chunk t d left next r q p w v x one a none.1 came)
+  read_failed room f (Err Writing) turned ill same = tt
+  read_failed room f (Err Ending) turned ill same = subst (λ (g : Failure). Turned s d chunk t v x (Err g)) (sym same) turned
+
+-- the end of a run
+module _ {A : Type 0} (s out : List ℕ) (room : ℕ) (r q w v : Known) where
+  pub ended_failed : (f : Failure) (b : Result A Failure) → ServedAll s room r q w v (Err f) → IsErr b → IfErr b (λ g. g ≡ f)
+      → Ended s out room r q w v b
+  ended_failed f (Ok u) a ill same = absurd (false≢true ill)
+  ended_failed f (Err Reading) a ill same =
+      let b = subst (λ (g : Failure). ServedAll s room r q w v (Err g)) (sym same) a in
+      (b.0, b.1, ran_ill s b.0 [] b.1 r q w v b.2 false refl)
+  ended_failed f (Err Writing) a ill same = tt
+  ended_failed f (Err Ending) a ill same = absurd (subst (λ (g : Failure). ServedAll s room r q w v (Err g)) (sym same) a)
+
+  pub ended_all : (x : Known) (e : Desk) (b : Result A Failure) → ServedAll s room r q w v (Ok e)
+      → (put : ℕ) × (take put out ≡ ending (line_of e)) × OnOk b (Appends v x (take put out)) → IfErr b (λ f. f ≡ Ending)
+      → Ended s out room r q w x b
+  ended_all x e (Ok u) a last f =
+      let bytes : List ℕ = take last.0 out in (
+        e,
+        last.0,
+        a.0,
+        ran_well s e bytes a.0 r q w v a.1 true last.1,
+        elim a.2 [
+          | inl z ↦ inl z
+          | inr h ↦ inr (λ k. transcribed s e bytes a.0 r q w v a.1 x last.1 last.2 (h k))
+        ],
+      )
+  ended_all x e (Err Reading) a last f = absurd cc
+  ended_all x e (Err Writing) a last f = absurd cc
+  ended_all x e (Err Ending) a last f = (e, last.0, a.0, ran_well s e (take last.0 out) a.0 r q w v a.1 true last.1)

@@ -1,48 +1,52 @@
--- What the counter program does between reads and writes.
---   came got, failed got == a read's answer says that bytes came; that it failed
---   clamp_len got most   == a read's answer brought into 0 .. most
+-- What the counter program does between reads and writes. Of a reader, r and q are what it had to give before and after, of a writer, w and
+-- v are what it held, each where it is known.
+--   CameOrFailed r q input a == so many bytes of the buffer came, none only at the end or with no room; or the read failed, and none were taken
 --   Whole s d input t e w v == calls of serve take the whole input, and leave no listing open; of a writer that held the bytes w, and now
 --                           holds v, they are written behind w
---   Told t               == the program goes on where bytes came and were answered; all is well where no read and no write failed
+--   Turned s d chunk t w v a == one read: a chunk came and was answered, or the input is at its end, or the read failed and nothing was done;
+--                           nothing is said of a chunk whose replies could not be written
 --   Answered s e input bytes == calls of serve, from a store of zeros and an empty desk on, took the whole input and put the bytes; they left the
 --                           words s, the desk e and no listing open
 --   most_reads            == how many reads the program makes at most
 --   joined chunks        == the chunks, one after another
---   Transcribed r q w v  == what a reader gave, to its end, has been answered: the transcript of it is written behind the bytes w. (r and q
---                           are what the reader had to give before and after, w and v what the writer held, each where it is known.)
+--   SoFar s e left r q w v == chunks, one for each read, are taken from the reader and answered so, their replies are written, and so many
+--                           reads are left to make
+--   ServedAll s room r q w v a == how reading ends: with no read left to make, or at the end of the input (of a buffer with room), or by a
+--                           failure; where a read failed, all that came before it is answered
+--   Transcribed r q w v  == what a reader gave, to its end, has been answered: the transcript of it is written behind the bytes w
 --   Ran s e ok last left == chunks, one for each read, are answered so, and so many reads are left to make; where all is well, the bytes
 --                           put, and then the last reply, are the transcript of the chunks
-use Rattle.std.specs.Prelude.{◌≡◌, Bool, true, false, not, ◌&&◌, List, [], ◌∷◌, ◌++◌, ℕ, ◌+◌, ltb, ℤ, pos, negsuc, min, length, replicate}
+--   Ended s out room r q w v a == how a run ends: all is written, or a read failed, or a write of replies, or the write of the last reply, which
+--                           then stands in the output
+use Rattle.std.specs.Prelude.{◌≡◌, Bool, true, false, List, [], ◌∷◌, ◌++◌, ◌⊎◌, ⊤, Option, Some, None, Result, Ok, Err, ℕ, ◌+◌, ◌≤◌, ◌<◌, length, take, replicate}
 use Rattle.std.specs.Io.KnownBytes.{Appends, Consumes, IsAtEnd}
-use Rattle.std.specs.declared.option.Option.{Option}
 use Rattle.desk.specs.declared.Desk.{Desk}
-use Rattle.desk.specs.Listing.{no_listing}
 use Rattle.desk.specs.Transcript.{store_words, transcript}
 use Rattle.desk.specs.Serving.{line_of, Run}
-use Rattle.counter.specs.declared.Turn.{Turn}
+use Rattle.counter.specs.declared.Failure.{Failure}
+use Rattle.counter.specs.declared.Failure.TheVariants.{Reading, Writing, Ending}
 
-unfoldable pub came : ℤ → Bool
-came (pos n) = ltb 0 n
-came (negsuc n) = false
+abbrev pub Known : Type 0
+Known = Option (List ℕ)
 
-unfoldable pub failed : ℤ → Bool
-failed (pos n) = false
-failed (negsuc n) = true
+abbrev pub CameOrFailed : Known → Known → List ℕ → Result ℕ Failure → Type 0
+CameOrFailed r q input (Ok n) = (n ≤ length input) × Consumes r q (take n input) × (n ≡ 0 → 0 < length input → IsAtEnd q)
+CameOrFailed r q input (Err f) = (f ≡ Reading) × Consumes r q []
 
-abbrev pub clamp_len : ℤ → ℕ → ℕ
-clamp_len (pos k) most = min k most
-clamp_len (negsuc k) most = 0
+abbrev pub Whole : List ℕ → Desk → List ℕ → List ℕ → Desk → Known → Known → Type 0
+Whole s d input t e w v = (bytes : List ℕ) × Run s d input bytes t e × (e.listing ≡ None) × Appends w v bytes
 
-abbrev pub Whole : List ℕ → Desk → List ℕ → List ℕ → Desk → Option (List ℕ) → Option (List ℕ) → Type 0
-Whole s d input t e w v = (bytes : List ℕ) × Run s d input bytes t e × (e.listing.active ≡ false) × Appends w v bytes
-
-abbrev pub Told : Turn → Type 0
-Told t = (t.more ≡ (came t.got && t.wrote)) × (t.ok ≡ (not (failed t.got) && t.wrote))
+abbrev pub Turned : List ℕ → Desk → List ℕ → List ℕ → Known → Known → Result (Option Desk) Failure → Type 0
+Turned s d chunk t w v (Ok (Some e)) = (1 ≤ length chunk) × Whole s d chunk t e w v
+Turned s d chunk t w v (Ok None) = (chunk ≡ []) × Whole s d chunk t d w v
+Turned s d chunk t w v (Err Reading) = (chunk ≡ []) × Whole s d chunk t d w v
+Turned s d chunk t w v (Err Writing) = ⊤
+Turned s d chunk t w v (Err Ending) = ⊥
 
 -- some input, from a store of zeros and an empty desk on, with the bytes put
 abbrev pub Answered : List ℕ → Desk → List ℕ → List ℕ → Type 0
 Answered s e input bytes =
-    (d : Desk) × (line_of d ≡ []) × (d.listing ≡ no_listing) × Run (replicate store_words 0) d input bytes s e × (e.listing.active ≡ false)
+    (d : Desk) × (line_of d ≡ []) × (d.listing ≡ None) × Run (replicate store_words 0) d input bytes s e × (e.listing ≡ None)
 
 abbrev pub most_reads : ℕ
 most_reads = 18446744073709551615
@@ -51,10 +55,28 @@ abbrev pub joined : List (List ℕ) → List ℕ
 joined [] = []
 joined (c ∷ cs) = c ++ joined cs
 
+abbrev pub SoFar : List ℕ → Desk → ℕ → Known → Known → Known → Known → Type 0
+SoFar s e left r q w v =
+    (chunks : List (List ℕ)) × (bytes : List ℕ) × (length chunks + left ≡ most_reads) × Answered s e (joined chunks) bytes
+    × Consumes r q (joined chunks) × Appends w v bytes
+
+abbrev pub ServedAll : List ℕ → ℕ → Known → Known → Known → Known → Result Desk Failure → Type 0
+ServedAll s room r q w v (Ok e) = (left : ℕ) × SoFar s e left r q w v × ((left ≡ 0) ⊎ (0 < room → IsAtEnd q))
+ServedAll s room r q w v (Err Reading) = (e : Desk) × (left : ℕ) × SoFar s e left r q w v
+ServedAll s room r q w v (Err Writing) = ⊤
+ServedAll s room r q w v (Err Ending) = ⊥
+
 abbrev pub Ran : List ℕ → Desk → Bool → List ℕ → ℕ → Type 0
 Ran s e ok last left =
     (chunks : List (List ℕ)) × (bytes : List ℕ) × (length chunks + left ≡ most_reads) × Answered s e (joined chunks) bytes
     × (ok ≡ true → bytes ++ last ≡ transcript (joined chunks))
 
-abbrev pub Transcribed : Option (List ℕ) → Option (List ℕ) → Option (List ℕ) → Option (List ℕ) → Type 0
+abbrev pub Transcribed : Known → Known → Known → Known → Type 0
 Transcribed r q w v = (input : List ℕ) × Consumes r q input × IsAtEnd q × Appends w v (transcript input)
+
+abbrev pub Ended : {A : Type 0} → List ℕ → List ℕ → ℕ → Known → Known → Known → Known → Result A Failure → Type 0
+Ended s out room r q w v (Ok a) =
+    (e : Desk) × (put left : ℕ) × Ran s e true (take put out) left × ((left ≡ 0) ⊎ (0 < room → Transcribed r q w v))
+Ended s out room r q w v (Err Reading) = (e : Desk) × (left : ℕ) × Ran s e false [] left
+Ended s out room r q w v (Err Writing) = ⊤
+Ended s out room r q w v (Err Ending) = (e : Desk) × (put left : ℕ) × Ran s e true (take put out) left

@@ -3,14 +3,16 @@
 
 #![tactic(auto)]
 
-ghost use Rattle.std.specs.Prelude.{◌≡◌, true, false, ◌-◌, ◌≤◌, ◌<◌, ltb, pos, length, take, replicate};
+ghost use Rattle.std.specs.Prelude.{◌≡◌, ℕ, ◌-◌, ◌≤◌, ◌<◌, IfOk, IfErr, OnOk, Ok, None, length, take, replicate};
 ghost use Rattle.std.specs.Io.KnownBytes.{Appends, Consumes, IsAtEnd};
 ghost use Rattle.desk.specs.Listing.{part_bytes};
 ghost use Rattle.desk.specs.Transcript.{ending, store_words};
 ghost use Rattle.desk.specs.Serving.{line_of, Serves, Finishes};
-ghost use Rattle.counter.specs.Program.{clamp_len, Whole, Told, Ran, Transcribed};
+ghost use Rattle.counter.specs.declared.Failure.TheVariants.{Writing, Ending};
+ghost use Rattle.counter.specs.Program.{Whole, CameOrFailed, Turned, ServedAll, Ended};
 
-use desk::Desk;
+use desk::{Desk, Progress};
+use std::fmt;
 use std::io::{Read, Write};
 use std::process::ExitCode;
 
@@ -20,55 +22,29 @@ pub const STORE_WORDS: usize = 8192;
 // The bytes of a read, and of a write.
 const BUFFER_BYTES: usize = 65536;
 
-// How far input is served: the bytes taken, the bytes put, whether their write went well, and whether the output had no room for a part,
-// so that more may be left.
-#[derive(Clone, Copy)]
-pub struct Step {
-    pub desk: Desk,
-    pub taken: usize,
-    pub put: usize,
-    pub ok: bool,
-    pub left: bool,
+// Why a run ends before it is done: a read failed, or a write of replies, or the write of the last reply.
+#[derive(Clone, Copy, Debug, PartialEq, Eq)]
+pub enum Failure {
+    Reading,
+    Writing,
+    Ending,
 }
 
-// The desk after a chunk of input, and whether all writes went well.
-#[derive(Clone, Copy)]
-pub struct Chunk {
-    pub desk: Desk,
-    pub ok: bool,
+impl fmt::Display for Failure {
+    fn fmt<W: fmt::Write>(&self, f: &mut fmt::Formatter<W>) -> fmt::Result {
+        f.write_str(match self {
+            Failure::Reading => "reading failed",
+            Failure::Writing | Failure::Ending => "writing failed",
+        })
+    }
 }
 
-// The desk after a read, what the read answered, whether the writes went well, whether more input may come, and whether all is well.
-#[derive(Clone, Copy)]
-pub struct Turn {
-    pub desk: Desk,
-    pub got: isize,
-    pub wrote: bool,
-    pub more: bool,
-    pub ok: bool,
-}
-
-// The last reply: its bytes, and whether its write went well.
-#[derive(Clone, Copy)]
-pub struct Last {
-    pub put: usize,
-    pub wrote: bool,
-}
-
-// The last turn, how many turns were left, and the last reply.
-#[derive(Clone, Copy)]
-pub struct End {
-    pub turn: Turn,
-    pub turns: u64,
-    pub last: Last,
-}
-
-// Hands the first n bytes of the output on, and says whether all were written.
-fn hand_on<W: Write>(writer: &mut W, out: &[u8], n: usize) -> bool
-    requires { n ≤ length out.now }
-    ensures { result ≡ true → Appends (W.contents writer.old) (W.contents writer.new) (take n out.now) }
+// Hands bytes on; where that fails, it is the failure named.
+fn hand_on<W: Write>(writer: &mut W, bytes: &[u8], failure: Failure) -> Result<(), Failure>
+    ensures sent { OnOk result (Appends (W.contents writer.old) (W.contents writer.new) bytes.now) }
+    ensures failed { IfErr result (λ f. f ≡ failure) }
 {
-    writer.write_all(&out[..n]).is_ok()
+    writer.write_all(bytes).map_err(|_| failure)
 }
 
 // Serves input as far as the output has room, and hands the replies on.
@@ -78,24 +54,15 @@ fn serve_once<W: Write>(
     d: Desk,
     input: &[u8],
     out: &mut [u8],
-) -> Step
-    ensures served { Serves store.old d input.now out.old store.new out.new
-        (record { desk = result.desk; taken = result.taken; put = result.put })
-        × Finishes input.now out.old (record { desk = result.desk; taken = result.taken; put = result.put })
-        × (result.left ≡ ltb (length out.old - result.put) part_bytes) }
-    ensures sent { result.ok ≡ true → Appends (W.contents writer.old) (W.contents writer.new) (take result.put out.new) }
+) -> Result<Progress, Failure>
+    ensures served { IfOk result (λ p. Serves store.old d input.now out.old store.new out.new p
+        × Finishes input.now out.old p
+        × Appends (W.contents writer.old) (W.contents writer.new) (take p.put out.new)) }
+    ensures failed { IfErr result (λ f. f ≡ Writing) }
 {
     let p = desk::serve(store, d, input, out);
-    let put = p.put;
-    let desk = p.desk;
-    let ok = hand_on(writer, out, put);
-    Step {
-        desk,
-        taken: p.taken,
-        put,
-        ok,
-        left: out.len() - put < desk::PART_BYTES,
-    }
+    hand_on(writer, &out[..p.put], Failure::Writing)?;
+    Ok(p)
 }
 
 // Serves a chunk: its replies go out in one write, or in several where the output has no room for all.
@@ -105,52 +72,51 @@ fn serve_chunk<W: Write>(
     d: Desk,
     input: &[u8],
     out: &mut [u8],
-) -> Chunk
+) -> Result<Desk, Failure>
     requires { part_bytes ≤ length out.old }
-    ensures { result.ok ≡ true
-        → Whole store.old d input.now store.new result.desk (W.contents writer.old) (W.contents writer.new) }
+    ensures served { IfOk result
+        (λ e. Whole store.old d input.now store.new e (W.contents writer.old) (W.contents writer.new)) }
+    ensures failed { IfErr result (λ f. f ≡ Writing) }
 {
-    let mut s = Step {
-        desk: d,
-        taken: 0,
-        put: 0,
-        ok: true,
-        left: true,
-    };
+    let mut desk = d;
     let mut from: usize = 0;
-    while s.ok && s.left {
-        let desk = s.desk;
-        s = serve_once(writer, store, desk, &input[from..], out);
-        from += s.taken;
+    loop {
+        let p = serve_once(writer, store, desk, &input[from..], out)?;
+        desk = p.desk;
+        from += p.taken;
+        if out.len() - p.put >= desk::PART_BYTES {
+            return Ok(desk);
+        }
     }
-    let desk = s.desk;
-    Chunk { desk, ok: s.ok }
 }
 
-// Reads once: how many bytes came, or -1 where the read failed.
-fn read_some<R: Read>(reader: &mut R, input: &mut [u8]) -> isize
-    ensures came { Consumes (R.remaining reader.old) (R.remaining reader.new) (take (clamp_len result (length input.new)) input.new) }
-    ensures ended { result ≡ pos 0 → 0 < length input.new → IsAtEnd (R.remaining reader.new) }
+// Reads once: how many bytes came.
+fn read_some<R: Read>(reader: &mut R, input: &mut [u8]) -> Result<usize, Failure>
+    ensures came { CameOrFailed (R.remaining reader.old) (R.remaining reader.new) input.new result }
 {
-    match reader.read(input) {
-        Ok(n) => n as isize,
-        Err(_) => -1,
-    }
+    reader.read(input).map_err(|_| Failure::Reading)
 }
 
-// What a read answered as a number of the input's bytes: 0 where it failed.
-fn count(got: isize, input: &[u8]) -> usize
-    ensures within { result ≤ length input.now }
-    ensures value { result ≡ clamp_len got (length input.now) }
+// Serves what a read brought; none where it brought nothing, at the end of the input.
+fn serve_read<W: Write>(
+    writer: &mut W,
+    store: &mut [u32],
+    d: Desk,
+    input: &[u8],
+    out: &mut [u8],
+) -> Result<Option<Desk>, Failure>
+    requires { (part_bytes ≤ length out.old) × (d.listing ≡ None) }
+    ensures served { Turned store.old d input.now store.new (W.contents writer.old) (W.contents writer.new) result }
+    ensures failed { IfErr result (λ f. f ≡ Writing) }
 {
-    if got <= 0 {
-        return 0;
+    if input.is_empty() {
+        return Ok(None);
     }
-    let n = got as usize;
-    if n < input.len() { n } else { input.len() }
+    let desk = serve_chunk(writer, store, d, input, out)?;
+    Ok(Some(desk))
 }
 
-// Reads once, and serves what was read.
+// Reads once, and serves what was read; none where the input is at its end.
 fn read_once<R: Read, W: Write>(
     reader: &mut R,
     writer: &mut W,
@@ -158,103 +124,64 @@ fn read_once<R: Read, W: Write>(
     d: Desk,
     input: &mut [u8],
     out: &mut [u8],
-) -> Turn
-    requires { (part_bytes ≤ length out.old) × (d.listing.active ≡ false) }
-    ensures told { Told result × (result.wrote ≡ true
-        → Whole store.old d (take (clamp_len result.got (length input.new)) input.new) store.new result.desk
-        (W.contents writer.old) (W.contents writer.new)) }
-    ensures came { Consumes (R.remaining reader.old) (R.remaining reader.new)
-        (take (clamp_len result.got (length input.new)) input.new) }
-    ensures ended { result.got ≡ pos 0 → 0 < length input.new → IsAtEnd (R.remaining reader.new) }
+) -> Result<Option<Desk>, Failure>
+    requires { (part_bytes ≤ length out.old) × (d.listing ≡ None) }
+    ensures came { (n : ℕ) × (n ≤ length input.new)
+        × Consumes (R.remaining reader.old) (R.remaining reader.new) (take n input.new)
+        × Turned store.old d (take n input.new) store.new (W.contents writer.old) (W.contents writer.new) result }
+    ensures ended { result ≡ Ok None → 0 < length input.new → IsAtEnd (R.remaining reader.new) }
 {
-    let got = read_some(reader, input);
-    if got <= 0 {
-        return Turn {
-            desk: d,
-            got,
-            wrote: true,
-            more: false,
-            ok: got >= 0,
-        };
+    let n = read_some(reader, input)?;
+    serve_read(writer, store, d, &input[..n], out)
+}
+
+// Reads to the end of the input, and serves what is read. (A proved loop has to end, and no run makes so many reads.)
+fn serve_all<R: Read, W: Write>(
+    reader: &mut R,
+    writer: &mut W,
+    store: &mut [u32],
+    input: &mut [u8],
+    out: &mut [u8],
+) -> Result<Desk, Failure>
+    requires { (store.old ≡ replicate store_words 0) × (part_bytes ≤ length out.old) }
+    ensures { ServedAll store.new (length input.old) (R.remaining reader.old) (R.remaining reader.new)
+        (W.contents writer.old) (W.contents writer.new) result }
+{
+    let mut desk = desk::start();
+    for _ in 0..u64::MAX {
+        match read_once(reader, writer, store, desk, input, out)? {
+            Some(next) => desk = next,
+            None => return Ok(desk),
+        }
     }
-    let n = count(got, input);
-    let c = serve_chunk(writer, store, d, &input[..n], out);
-    let desk = c.desk;
-    Turn {
-        desk,
-        got,
-        wrote: c.ok,
-        more: c.ok,
-        ok: c.ok,
-    }
+    Ok(desk)
 }
 
 // Puts the reply to bytes after the last 0A, and hands it on.
-fn end_line<W: Write>(writer: &mut W, d: Desk, out: &mut [u8]) -> Last
+fn end_line<W: Write>(writer: &mut W, d: Desk, out: &mut [u8]) -> Result<(), Failure>
     requires { part_bytes ≤ length out.old }
-    ensures last { take result.put out.new ≡ ending (line_of d) }
-    ensures sent { result.wrote ≡ true → Appends (W.contents writer.old) (W.contents writer.new) (take result.put out.new) }
+    ensures last { (put : ℕ) × (take put out.new ≡ ending (line_of d))
+        × OnOk result (Appends (W.contents writer.old) (W.contents writer.new) (take put out.new)) }
+    ensures failed { IfErr result (λ f. f ≡ Ending) }
 {
     let put = desk::finish(d, out);
-    let wrote = hand_on(writer, out, put);
-    Last { put, wrote }
+    hand_on(writer, &out[..put], Failure::Ending)
 }
 
-// Reads to the end of the input, or until a read or a write fails. A proved loop has to end, so it counts its turns down, from a number
-// that no run uses up.
+// Reads to the end of the input, or until a read or a write fails, and replies to all that was read.
 fn run<R: Read, W: Write>(
     reader: &mut R,
     writer: &mut W,
     store: &mut [u32],
     input: &mut [u8],
     out: &mut [u8],
-) -> End
+) -> Result<(), Failure>
     requires { (store.old ≡ replicate store_words 0) × (part_bytes ≤ length out.old) }
-    ensures ran { Told result.turn × (result.turn.more ≡ true → result.turns ≡ 0)
-        × (result.turn.wrote ≡ true → Ran store.new result.turn.desk result.turn.ok (take result.last.put out.new) result.turns) }
-    ensures written { result.turn.ok ≡ true → result.turn.more ≡ false → result.last.wrote ≡ true → 0 < length input.old
-        → Transcribed (R.remaining reader.old) (R.remaining reader.new) (W.contents writer.old) (W.contents writer.new) }
+    ensures { Ended store.new out.new (length input.old) (R.remaining reader.old) (R.remaining reader.new)
+        (W.contents writer.old) (W.contents writer.new) result }
 {
-    let mut t = Turn {
-        desk: desk::start(),
-        got: 1,
-        wrote: true,
-        more: true,
-        ok: true,
-    };
-    let mut turns = u64::MAX;
-    while turns > 0 && t.more {
-        let desk = t.desk;
-        t = read_once(reader, writer, store, desk, input, out);
-        turns -= 1;
-    }
-    if !t.ok {
-        return End {
-            turn: t,
-            turns,
-            last: Last {
-                put: 0,
-                wrote: true,
-            },
-        };
-    }
-    let desk = t.desk;
-    let last = end_line(writer, desk, out);
-    End {
-        turn: t,
-        turns,
-        last,
-    }
-}
-
-// Tells on standard error that a read or a write failed. Where that fails too, there is nobody left to tell.
-fn tell(rt: &impl Eprint, read: bool, wrote: bool) {
-    if !read {
-        let _ = eprintln!(rt; "counter: reading failed");
-    }
-    if !wrote {
-        let _ = eprintln!(rt; "counter: writing failed");
-    }
+    let desk = serve_all(reader, writer, store, input, out)?;
+    end_line(writer, desk, out)
 }
 
 fn main(rt: HostRuntime) -> ExitCode {
@@ -263,15 +190,12 @@ fn main(rt: HostRuntime) -> ExitCode {
     let mut out = [0u8; BUFFER_BYTES];
     let mut reader = rt.stdin();
     let mut writer = rt.stdout();
-    let e = run(&mut reader, &mut writer, &mut store, &mut input, &mut out);
-    let t = e.turn;
-    let last = e.last;
-    let read = t.got >= 0;
-    let wrote = t.wrote && last.wrote;
-    tell(&rt, read, wrote);
-    if read && wrote {
-        ExitCode::SUCCESS
-    } else {
-        ExitCode::FAILURE
+    match run(&mut reader, &mut writer, &mut store, &mut input, &mut out) {
+        Ok(()) => ExitCode::SUCCESS,
+        Err(failure) => {
+            // Where that fails too, there is nobody left to tell.
+            let _ = eprintln!(rt; "counter: {failure}");
+            ExitCode::FAILURE
+        }
     }
 }

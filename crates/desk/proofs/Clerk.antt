@@ -9,11 +9,13 @@ use native.Mathlib.Omega.{arith}
 use lib.Dec.{leb, eqb}
 use lib.ListN.{length, replicate, length-replicate}
 use borrow.Author.Tests.{leb-true, le-ltb, lt-ltb, ne_eqb}
+use Rattle.std.specs.Prelude.{Option, Some, None}
 use Rattle.lists.specs.Lists.{All}
 use Rattle.lists.proofs.Cases.{by_cases}
 use Rattle.tree.specs.Book.{Reply, Sizes, refused}
 use Rattle.lines.specs.declared.Request.{Request}
-use Rattle.lines.specs.declared.Request.TheVariants.{SetUp, Enter, Find, Next, Range, Summary, Dump, Remove, Wrong}
+use Rattle.lines.specs.declared.Request.TheVariants.{SetUp, Enter, Find, Next, Range, Summary, Dump, Remove}
+use Rattle.lines.specs.declared.Kind.TheVariants as kinds
 use Rattle.lines.specs.declared.Reply.TheVariants.{SetUpLine}
 use Rattle.lines.specs.Request.{fields_of, parsed}
 use Rattle.lines.specs.Reply.{line_feed, reply_line}
@@ -24,7 +26,7 @@ use Rattle.store.specs.Format.{width}
 use Rattle.store.specs.Head.{head_of, head_rule, lawful_sizes, size}
 use Rattle.store.specs.SetUp.{set_up}
 use Rattle.store.specs.Tests.{failing}
-use Rattle.search.specs.Way.{Sought}
+use Rattle.search.specs.declared.Sought.{Sought}
 use Rattle.search.specs.Find.{no_item, find_reply, checked}
 use Rattle.search.specs.Next.{next_reply}
 use Rattle.scan.specs.Summary.{summary_refused, summary_of}
@@ -37,8 +39,8 @@ use Rattle.index.proofs.CallLaws.{Holding, set_up_holding, enter_step, remove_st
 use Rattle.readings.proofs.Promises.{find_reads, next_reads, summary_reads}
 use Rattle.desk.specs.Replies.{told, set_up_told, enter_told, found_told, summary_told, listed_lines}
 use Rattle.desk.specs.Listing.{part_of}
-use Rattle.desk.specs.Transcript.{answered, opened, largest_key, dumped, outcome_bytes, served, store_words, transcript}
-use Rattle.desk.specs.Clerk.{Register, unset, holding, set_up_reply, after_set_up, range_lines, dump_lines, reckoned, reckonings}
+use Rattle.desk.specs.Transcript.{answered, answered_line, opened, largest_key, dumped, outcome_bytes, served, store_words, transcript}
+use Rattle.desk.specs.Clerk.{Register, unset, holding, set_up_reply, after_set_up, range_lines, dump_lines, reckoned, reckoned_line, reckonings}
 use Rattle.desk.specs.Clerk.{reckoning, registers, register_after, Stands, Clerk, StandsAfter}
 use Rattle.desk.proofs.ListingLaws.{first_refused, dump_refused}
 use Rattle.desk.proofs.OneListing.{listed_whole, refused_whole, dump_whole}
@@ -116,16 +118,15 @@ unset_same (SetUp θ C N P) = let a = set_up_same θ C N P zeros unset refl in (
 unset_same (Enter k p l d) =
     let a = enter_broken zeros zeros_broken (record { key = k; price = p; lease = l; last = d }) in
     (ap (λ r. reply_line (enter_told r.reply)) a, ap (λ r. r.words) a)
-unset_same (Find k) = (ap (λ r. reply_line (found_told 2 r)) (sought_broken zeros zeros_broken _), refl)
-unset_same (Next k) = (ap (λ r. reply_line (found_told 3 r)) (sought_broken zeros zeros_broken _), refl)
+unset_same (Find k) = (ap (λ r. reply_line (found_told kinds.Find r)) (sought_broken zeros zeros_broken _), refl)
+unset_same (Next k) = (ap (λ r. reply_line (found_told kinds.Next r)) (sought_broken zeros zeros_broken _), refl)
 unset_same (Range low high) =
     (ap (outcome_bytes zeros) (sym (first_refused zeros low high 3 (λ z. omega arith) (part_broken zeros zeros_broken low high))), refl)
 unset_same (Summary low high today) = (ap (λ r. reply_line (summary_told r)) (summary_broken zeros zeros_broken low high today), refl)
 unset_same Dump =
     (ap (outcome_bytes zeros) (sym (dump_refused zeros 3 (λ z. omega arith) (part_broken zeros zeros_broken 1 largest_key))), refl)
 unset_same (Remove k) =
-    let a = remove_broken zeros zeros_broken k in (ap (λ r. reply_line (found_told 7 r.reply)) a, ap (λ r. r.words) a)
-unset_same Wrong = (refl, refl)
+    let a = remove_broken zeros zeros_broken k in (ap (λ r. reply_line (found_told kinds.Remove r.reply)) a, ap (λ r. r.words) a)
 
 -- a store that holds the register
 abbrev counts_in : Answer → Reply
@@ -166,20 +167,26 @@ holding_same s m h (SetUp θ C N P) f =
 holding_same s m h (Enter k p l d) f =
     let a = enter_step Plots store_words (record { key = k; price = p; lease = l; last = d }) m s (stands_holding s m h) in
     (ap (λ r. reply_line (enter_told (counts_in r))) a.0, holding_stands _ _ a.1)
-holding_same s m h (Find k) f = (ap (λ r. reply_line (found_told 2 r)) (find_reads Plots s m.held h.1 k f.0), h)
-holding_same s m h (Next k) f = (ap (λ r. reply_line (found_told 3 r)) (next_reads Plots s m.held h.1 k f.0), h)
+holding_same s m h (Find k) f = (ap (λ r. reply_line (found_told kinds.Find r)) (find_reads Plots s m.held h.1 k f.0), h)
+holding_same s m h (Next k) f = (ap (λ r. reply_line (found_told kinds.Next r)) (next_reads Plots s m.held h.1 k f.0), h)
 holding_same s m h (Range low high) f = (range_lines_lem s m low high h f.1.0, h)
 holding_same s m h (Summary low high today) f =
     (ap (λ r. reply_line (summary_told r)) (summary_reads Plots s m.held h.1 low high today f.1.0), h)
 holding_same s m h Dump f = (dump_lines_lem s m h, h)
 holding_same s m h (Remove k) f =
     let a = remove_step Plots store_words k m s f.0 (stands_holding s m h) in
-    (ap (λ r. reply_line (found_told 7 (found_in r))) a.0, holding_stands _ _ a.1)
-holding_same s m h Wrong f = (refl, h)
+    (ap (λ r. reply_line (found_told kinds.Remove (found_in r))) a.0, holding_stands _ _ a.1)
 
 same : (s : List ℕ) (r : Register) → Stands s r → (q : Request) → All (λ n. n < 2 ^ 32) (fields_of q) → Same s r q
 same s unset t q f = subst (λ z. Same z unset q) (sym t) (unset_same q)
 same s (holding m) t q f = holding_same s m t q f
+
+line_same : (s : List ℕ) (r : Register) → Stands s r → (line : List ℕ) (q : Option Request) → parsed line ≡ q
+    → (outcome_bytes (answered_line s q).words (answered_line s q).outcome ≡ (reckoned_line r q).bytes)
+    × Stands (answered_line s q).words (reckoned_line r q).register
+unfolding outcome_bytes
+line_same s r t line (Some q) e = same s r t q (fields_fit line q e)
+line_same s r t line None e = (refl, t)
 
 served_same : (s : List ℕ) (r : Register) (line input : List ℕ) → Stands s r
     → ((served s line input).bytes ≡ reckonings r line input) × Stands (served s line input).words (registers r line input)
@@ -188,8 +195,8 @@ served_same s r line [] t = (refl, t)
 served_same s r line (b ∷ bs) t =
     by_cases (eqb b line_feed)
     (λ e.
-    let a = same s r t (parsed line) (fields_fit line) in
-    let i = served_same (answered s (parsed line)).words (reckoned r (parsed line)).register [] bs a.1 in
+    let a = line_same s r t line (parsed line) refl in
+    let i = served_same (answered_line s (parsed line)).words (reckoned_line r (parsed line)).register [] bs a.1 in
     rw (e, served, reckonings, registers) (ap₂ (λ (x y : List ℕ). x ++ y) a.0 i.0, i.1))
     (λ e. rw (e, served, reckonings, registers) (served_same s r (line ++ b ∷ []) bs t))
 

@@ -11,7 +11,6 @@ use Rattle.lines.specs.declared.Reply.TheVariants.{WrongLine}
 use Rattle.lines.specs.Reply.{reply_line}
 use Rattle.lines.proofs.Promises.{reply_fits}
 use Rattle.desk.specs.declared.Desk.{Desk}
-use Rattle.desk.specs.declared.Listing.{Listing}
 use Rattle.desk.specs.Transcript.{Served, before, ending, served, store_words, transcript}
 use Rattle.desk.specs.Serving.{line_of, rest_of, Run, over, call, finished, Delivered, EndPut}
 use Rattle.desk.proofs.LineLaws.{written_long}
@@ -28,7 +27,7 @@ unfolding served transcript
 delivered input bytes t d e empty none run quiet =
     let s : List ℕ = replicate store_words 0 in
     let rest : rest_of s d input ≡ served s [] input =
-    rest_quiet s d input (ap (λ (l : Listing). l.active) none) ∙ ap (λ (l : List ℕ). served s l input) empty in
+    rest_quiet s d input none ∙ ap (λ (l : List ℕ). served s l input) empty in
     sym (ap (λ (a : Served). a.bytes) (sym rest ∙ whole run ∙ ap (before bytes) (rest_quiet t e [] quiet)))
 
 -- the reply to an unfinished line

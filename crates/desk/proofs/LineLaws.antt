@@ -91,16 +91,16 @@ put_behind X L Y out o last put end x p e n b = (
 )
 
 -- the line of one record more, at the end of those written
-pub lines_more : (dump : Bool) (ws : List ℕ) (i from at n : ℕ) (out first last : List ℕ) (r : Reply)
-    → r ≡ listed_told dump (item_from ws from) → from ≡ 4 * i → at ≡ length (listed_lines dump (items_of i ws)) → at + 45 ≤ length out
+pub lines_more : (dump : Bool) (ws : List ℕ) (i at n : ℕ) (out first last : List ℕ) (r : Reply)
+    → r ≡ listed_told dump (item_from ws (4 * i)) → at ≡ length (listed_lines dump (items_of i ws)) → at + 45 ≤ length out
     → out ≡ listed_lines dump (items_of i ws) ++ drop at first
     → n ≡ (written r (take (length out - at) (drop at out))).count → last ≡ (written r (take (length out - at) (drop at out))).bytes
     → (at + n ≡ length (listed_lines dump (items_of (i + 1) ws)))
     × (take at out ++ (last ++ drop (length out - at) (drop at out)) ≡ listed_lines dump (items_of (i + 1) ws) ++ drop (at + n) first)
 unfolding listed_lines
-lines_more dump ws i from at n out first last r told f a room o c e =
+lines_more dump ws i at n out first last r told a room o c e =
     let line : reply_line r ≡ reply_line (listed_told dump (item_from ws (4 * i))) =
-    ap reply_line (told ∙ ap (λ k. listed_told dump (item_from ws k)) f) in
+    ap reply_line told in
     let all : listed_lines dump (items_of (i + 1) ws) ≡ listed_lines dump (items_of i ws) ++ reply_line r =
     rw (items_last i ws, lines_append dump (items_of i ws) (item_from ws (4 * i) ∷ []), append-nil, line) in
     let y = put_line (reply_line r) (take (length out - at) (drop at out)) last n r refl (omega (arith, part_length at out)) c e in

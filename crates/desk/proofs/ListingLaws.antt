@@ -3,7 +3,7 @@
 --   left_at high more       == how many keys are left from the first one not written
 --   survey_rest s high n p  == what the survey gives after n records, the last part among them having replied p
 use mathlib.Core.Path.{◌≡◌, refl, sym, ap, ◌∙◌, subst}
-use mathlib.Core.Bool.{Bool, true, false, false≢true}
+use mathlib.Core.Bool.{Bool, true, false}
 use mathlib.Core.List.{List, [], ◌++◌}
 use Prim.Native.Nat.{ℕ, zero, suc, ◌+◌, ◌-◌, ◌*◌, ◌/◌, ◌≤◌, ◌<◌}
 use native.Mathlib.Decide.{ℕ_discrete}
@@ -11,8 +11,10 @@ use native.Mathlib.Omega.{arith}
 use lib.Dec.{eqb}
 use lib.ListN.{length, replicate}
 use borrow.Author.Tests.{eq-eqb, ne_eqb, eqb-false}
+use Rattle.std.specs.Prelude.{Option, Some, None, Result, Ok, Err}
 use Rattle.lists.proofs.Cases.{by_cases}
 use Rattle.lines.specs.declared.Reply.{Reply}
+use Rattle.lines.specs.declared.Kind.TheVariants as kinds
 use Rattle.lines.specs.declared.Reply.TheVariants.{Refused, SetUpLine}
 use Rattle.store.specs.declared.Format.TheVariants.{Plots}
 use Rattle.store.specs.declared.Head.{Head}
@@ -20,12 +22,11 @@ use Rattle.store.specs.Format.{words}
 use Rattle.store.specs.Head.{word, head_of}
 use Rattle.scan.specs.Range.{RangeReply, range_refused, range_of}
 use Rattle.scan.proofs.Promises.{range_rule, range_more, range_onward}
-use Rattle.desk.specs.declared.Survey.{Survey}
 use Rattle.desk.specs.declared.Listing.{Listing}
-use Rattle.desk.specs.Listing.{part_records, part_of, counted, survey_of, survey_from, surveyed, no_listing, listing_after}
+use Rattle.desk.specs.Listing.{part_records, part_of, counted, survey_of, survey_from, surveyed, listing_after}
 use Rattle.desk.specs.declared.Outcome.TheVariants.{Line, Parts, Register}
 use Rattle.desk.specs.Listing.{part_lines, carried_from, carried}
-use Rattle.desk.specs.Transcript.{listing, opened, largest_key, dumped}
+use Rattle.desk.specs.Transcript.{listing, opened_by, opened, largest_key, dumped_by, dumped}
 
 pub record PartFacts (low high : ℕ) (p : RangeReply) : Type 0 where
   pub few : p.count ≤ part_records
@@ -80,40 +81,27 @@ count_below h f e = let o = f.onward e in omega (arith, o.0)
 
 -- the survey
 
-pub counted_done : (n : ℕ) (a : Survey) → a.number ≡ 0 → counted n a ≡ record { number = 0; count = n + a.count }
-unfolding counted
-counted_done n a e = rw (eq-eqb a.number 0 e, counted)
-
-pub counted_refused : (n : ℕ) (a : Survey) → (a.number ≡ 0 → ⊥) → counted n a ≡ a
-unfolding counted
-counted_refused n a e = rw (ne_eqb a.number 0 e, counted)
-
-pub survey_done : (p : RangeReply) (n : ℕ) → p.number ≡ 0 → survey_of p n ≡ record { number = 0; count = n }
+pub survey_done : (p : RangeReply) (n : ℕ) → p.number ≡ 0 → survey_of p n ≡ Ok n
 unfolding survey_of
 survey_done p n e = rw (eq-eqb p.number 0 e, survey_of)
 
-survey_refused : (p : RangeReply) (n : ℕ) → (p.number ≡ 0 → ⊥) → survey_of p n ≡ record { number = p.number; count = 0 }
+survey_refused : (p : RangeReply) (n : ℕ) → (p.number ≡ 0 → ⊥) → survey_of p n ≡ Err p.number
 unfolding survey_of
 survey_refused p n e = rw (ne_eqb p.number 0 e, survey_of)
 
 counted_survey : (n m : ℕ) (p : RangeReply) → counted n (survey_of p m) ≡ survey_of p (n + m)
 counted_survey n m p =
     elim (ℕ_discrete p.number 0) [
-      | yes e ↦ rw (survey_done p m e, survey_done p (n + m) e) (counted_done n _ refl)
-      | no e ↦ rw (survey_refused p m e, survey_refused p (n + m) e) (counted_refused n _ e)
+      | yes e ↦ rw (survey_done p m e, survey_done p (n + m) e)
+      | no e ↦ rw (survey_refused p m e, survey_refused p (n + m) e)
     ]
 
-counted_twice : (n m : ℕ) (a : Survey) → counted n (counted m a) ≡ counted (n + m) a
-counted_twice n m a =
-    elim (ℕ_discrete a.number 0) [
-      | yes e ↦
-          rw (counted_done m a e, counted_done (n + m) a e)
-          (counted_done n _ refl ∙ ap (λ (c : ℕ). record { number = 0; count = c }) (omega arith))
-      | no e ↦ rw (counted_refused m a e, counted_refused (n + m) a e) (counted_refused n a e)
-    ]
+counted_twice : (n m : ℕ) (a : Result ℕ ℕ) → counted n (counted m a) ≡ counted (n + m) a
+counted_twice n m (Ok count) = ap (λ (c : ℕ). Ok c) (omega arith)
+counted_twice n m (Err number) = refl
 
 module _ (s : List ℕ) (high : ℕ) where
-  unfoldable pub survey_rest : ℕ → RangeReply → Survey
+  unfoldable pub survey_rest : ℕ → RangeReply → Result ℕ ℕ
   survey_rest n p = elim (eqb p.more 0) [ true ↦ survey_of p n | false ↦ counted n (surveyed s p.more high) ]
 
   -- enough turns give the same
@@ -182,81 +170,64 @@ left_falls low high q h l f =
     ]
 
 -- a survey that is not refused is a range listed, or the register with its sizes; a refused one is a line
-module _ (s : List ℕ) (low high : ℕ) (a : Survey) (e : a ≡ surveyed s low high) where
-  abbrev number_is : (surveyed s low high).number ≡ a.number
-  number_is = sym (ap (λ (x : Survey). x.number) e)
-
-  pub listing_is : (dump : Bool)
-      → record { active = true; dump = dump; at = low; high = high; count = a.count } ≡ listing s dump low high
-  unfolding listing
-  listing_is dump = ap (λ (x : Survey). record { active = true; dump = dump; at = low; high = high; count = x.count }) e
-
-  pub opened_parts : a.number ≡ 0
-      → Parts (record { active = true; dump = false; at = low; high = high; count = a.count }) ≡ opened s low high
+module _ (s : List ℕ) (low high n : ℕ) (a : Result ℕ ℕ) (e : a ≡ surveyed s low high) where
+  pub opened_parts : a ≡ Ok n → Parts (listing false low high n) ≡ opened s low high
   unfolding opened
-  opened_parts z = rw (eq-eqb _ 0 (number_is ∙ z), opened) (ap Parts (listing_is false))
+  opened_parts is = ap (opened_by low high) (sym is ∙ e)
 
-  pub opened_refused : (a.number ≡ 0 → ⊥) → Line (Refused 4 a.number) ≡ opened s low high
+  pub opened_refused : a ≡ Err n → Line (Refused kinds.Range n) ≡ opened s low high
   unfolding opened
-  opened_refused z = rw (ne_eqb _ 0 (λ n. z (sym number_is ∙ n)), opened) (ap (λ (n : ℕ). Line (Refused 4 n)) (sym number_is))
+  opened_refused is = ap (opened_by low high) (sym is ∙ e)
 
-module _ (s : List ℕ) (a : Survey) (e : a ≡ surveyed s 1 largest_key) where
-  abbrev sizes_line : Head → Reply
-  sizes_line h = SetUpLine h.theta h.capacity h.node_blocks h.page_blocks
-
-  pub dumped_register : a.number ≡ 0 → {θ C N P : ℕ} → θ ≡ word s 0 → C ≡ word s 1 → N ≡ word s 2 → P ≡ word s 3
-      → Register (SetUpLine θ C N P) (record { active = true; dump = true; at = 1; high = largest_key; count = a.count }) ≡ dumped s
+module _ (s : List ℕ) (n : ℕ) (a : Result ℕ ℕ) (e : a ≡ surveyed s 1 largest_key) where
+  pub dumped_register : a ≡ Ok n → {θ C N P : ℕ} → θ ≡ word s 0 → C ≡ word s 1 → N ≡ word s 2 → P ≡ word s 3
+      → Register (SetUpLine θ C N P) (listing true 1 largest_key n) ≡ dumped s
   unfolding dumped head_of
-  dumped_register z i j k l =
-      rw (eq-eqb _ 0 (number_is s 1 largest_key a e ∙ z), dumped, i, j, k, l)
-      (ap (Register (sizes_line (head_of s))) (listing_is s 1 largest_key a e true))
+  dumped_register is i j k l = rw (i, j, k, l) (ap (dumped_by (head_of s)) (sym is ∙ e))
 
-  pub dumped_refused : (a.number ≡ 0 → ⊥) → Line (Refused 6 a.number) ≡ dumped s
+  pub dumped_refused : a ≡ Err n → Line (Refused kinds.Dump n) ≡ dumped s
   unfolding dumped
-  dumped_refused z =
-      rw (ne_eqb _ 0 (λ n. z (sym (number_is s 1 largest_key a e) ∙ n)), dumped)
-      (ap (λ (n : ℕ). Line (Refused 6 n)) (sym (number_is s 1 largest_key a e)))
+  dumped_refused is = ap (dumped_by (head_of s)) (sym is ∙ e)
 
 -- the first call is refused
 module _ (s : List ℕ) (low high n : ℕ) (nonzero : n ≡ 0 → ⊥) (r : (part_of s low high).reply ≡ range_refused n) where
-  survey_first : surveyed s low high ≡ record { number = n; count = 0 }
+  survey_first : surveyed s low high ≡ Err n
   survey_first =
       let number = ap (λ (a : RangeReply). a.number) r in
       survey_turn s high low ∙ rest_done s high _ _ (ap (λ (a : RangeReply). a.more) r)
-      ∙ survey_refused _ _ (λ z. nonzero (sym number ∙ z)) ∙ ap (λ (i : ℕ). record { number = i; count = 0 }) number
+      ∙ survey_refused _ _ (λ z. nonzero (sym number ∙ z)) ∙ ap (λ (i : ℕ). Err i) number
 
-  pub first_refused : Line (Refused 4 n) ≡ opened s low high
-  first_refused = opened_refused s low high (record { number = n; count = 0 }) (sym survey_first) nonzero
+  pub first_refused : Line (Refused kinds.Range n) ≡ opened s low high
+  first_refused = opened_refused s low high n _ refl survey_first
 
 pub dump_refused : (s : List ℕ) (n : ℕ) → (n ≡ 0 → ⊥) → (part_of s 1 largest_key).reply ≡ range_refused n
-    → Line (Refused 6 n) ≡ dumped s
-dump_refused s n nonzero r =
-    dumped_refused s (record { number = n; count = 0 }) (sym (survey_first s 1 largest_key n nonzero r)) nonzero
+    → Line (Refused kinds.Dump n) ≡ dumped s
+dump_refused s n nonzero r = dumped_refused s n _ refl (survey_first s 1 largest_key n nonzero r)
 
 -- the parts
 
-pub after_last : (s : List ℕ) (l : Listing) → (part_of s l.at l.high).reply.more ≡ 0 → listing_after s l ≡ no_listing
+pub after_last : (s : List ℕ) (l : Listing) → (part_of s l.at l.high).reply.more ≡ 0 → listing_after s l ≡ None
 unfolding listing_after
 after_last s l e = rw (eq-eqb _ 0 e, listing_after)
 
 pub after_more : (s : List ℕ) (l : Listing) → ((part_of s l.at l.high).reply.more ≡ 0 → ⊥)
     → listing_after s l
-    ≡ record { active = true; dump = l.dump; at = (part_of s l.at l.high).reply.more; high = l.high; count = l.count }
+    ≡ Some (record { dump = l.dump; at = (part_of s l.at l.high).reply.more; high = l.high; count = l.count })
 unfolding listing_after
 after_more s l e = rw (ne_eqb _ 0 e, listing_after)
 
-none_from : (s : List ℕ) (m : ℕ) → carried_from m s no_listing ≡ []
+none_from : (s : List ℕ) (m : ℕ) → carried_from m s None ≡ []
 unfolding carried_from
 none_from s zero = refl
 none_from s (suc m) = refl
 
-pub none_carried : (s : List ℕ) (l : Listing) → l.active ≡ false → carried s l ≡ []
-unfolding carried carried_from
-none_carried s l e = rw (e, carried_from)
+pub none_carried : (s : List ℕ) (l : Option Listing) → l ≡ None → carried s l ≡ []
+unfolding carried
+none_carried s l e = rw e
 
 -- enough turns give the same
 module _ (s : List ℕ) (m n : ℕ) (l : Listing)
-    (ih : (k : Listing) → k.high - k.at < m → k.high - k.at < n → carried_from m s k ≡ carried_from n s k)
+    (ih : (k : Listing) → k.high - k.at < m → k.high - k.at < n → carried_from m s (Some k) ≡ carried_from n s (Some k))
     (a : l.high - l.at ≤ m) (b : l.high - l.at ≤ n) where
   same_after : carried_from m s (listing_after s l) ≡ carried_from n s (listing_after s l)
   same_after =
@@ -267,25 +238,13 @@ module _ (s : List ℕ) (m n : ℕ) (l : Listing)
         | no e ↦ let o = f.onward e in let g = f.more in rw (after_more s l e) (ih _ (omega arith) (omega arith))
       ]
 
-same_carried : (s : List ℕ) (m n : ℕ) (l : Listing) → l.high - l.at < m → l.high - l.at < n → carried_from m s l ≡ carried_from n s l
+same_carried : (s : List ℕ) (m n : ℕ) (l : Listing) → l.high - l.at < m → l.high - l.at < n
+    → carried_from m s (Some l) ≡ carried_from n s (Some l)
 unfolding carried_from
 same_carried s zero n l a b = absurd (omega arith)
 same_carried s (suc m) zero l a b = absurd (omega arith)
 same_carried s (suc m) (suc n) l a b =
-    by_cases l.active
-    (λ e.
-    rw (e, carried_from)
-    (ap (λ r. part_lines s l ++ r) (same_after s m n l (λ k c d. same_carried s m n k c d) (omega arith) (omega arith))))
-    (λ e. rw (e, carried_from))
-
-picked : (b : Bool) (x : List ℕ) → b ≡ true → ◌≡◌ {A = List ℕ} (elim b as (λ _. List ℕ) [ true ↦ x | false ↦ [] ]) x
-picked true x e = refl
-picked false x e = absurd (false≢true e)
-
-from_active : (s : List ℕ) (m : ℕ) (l : Listing) → l.active ≡ true
-    → carried_from (suc m) s l ≡ part_lines s l ++ carried_from m s (listing_after s l)
-unfolding carried_from
-from_active s m l e = picked l.active (part_lines s l ++ carried_from m s (listing_after s l)) e
+    ap (λ r. part_lines s l ++ r) (same_after s m n l (λ k c d. same_carried s m n k c d) (omega arith) (omega arith))
 
 enough_after : (s : List ℕ) (l : Listing) → carried_from (l.high - l.at) s (listing_after s l) ≡ carried s (listing_after s l)
 unfolding carried
@@ -293,13 +252,13 @@ enough_after s l =
     let p = (part_of s l.at l.high).reply in
     let f = part_facts s l.at l.high in
     elim (ℕ_discrete p.more 0) [
-      | yes z ↦ rw (after_last s l z) (none_from s (l.high - l.at) ∙ sym (none_from s _))
+      | yes z ↦ rw (after_last s l z) (none_from s (l.high - l.at))
       | no z ↦
           let o = f.onward z in
           let g = f.more in
           rw (after_more s l z) (same_carried s (l.high - l.at) (suc (l.high - p.more)) _ (omega arith) (omega arith))
     ]
 
-pub carried_turn : (s : List ℕ) (l : Listing) → l.active ≡ true → carried s l ≡ part_lines s l ++ carried s (listing_after s l)
-unfolding carried
-carried_turn s l e = from_active s (l.high - l.at) l e ∙ ap (λ r. part_lines s l ++ r) (enough_after s l)
+pub carried_turn : (s : List ℕ) (l : Listing) → carried s (Some l) ≡ part_lines s l ++ carried s (listing_after s l)
+unfolding carried carried_from
+carried_turn s l = ap (λ r. part_lines s l ++ r) (enough_after s l)

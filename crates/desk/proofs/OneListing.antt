@@ -2,13 +2,14 @@
 use mathlib.Core.Path.{◌≡◌, refl, sym, ap, ◌∙◌, subst}
 use mathlib.Core.Bool.{Bool, true, false, ◌&&◌}
 use mathlib.Core.List.{List, [], ◌∷◌, ◌++◌, append_assoc, append-nil}
-use Prim.Native.Nat.{ℕ, zero, suc, ◌+◌, ◌-◌, ◌*◌, ◌^◌, ◌≤◌, ◌<◌}
+use Prim.Native.Nat.{ℕ, zero, suc, ◌+◌, ◌*◌, ◌^◌, ◌≤◌, ◌<◌}
 use native.Mathlib.Omega.{arith}
 use lib.Dec.{leb}
 use lib.ListN.{length, take, drop, replicate, length-append, length-take, length-drop}
 use lib.ListN.{take-append-drop}
 use lib.Seq.{take_all}
 use borrow.Author.Tests.{le-leb, lt-leb, leb-true, le-ltb, lt-ltb}
+use Rattle.std.specs.Prelude.{Option, Some, None, Result, Ok, Err}
 use Rattle.lists.specs.Lists.{All}
 use Rattle.lists.specs.Keyed.{Sorted}
 use Rattle.lists.proofs.Cases.{by_cases}
@@ -27,16 +28,17 @@ use Rattle.scan.specs.Range.{RangeReply, range_refused, Ranged, After, ranged, l
 use Rattle.readings.specs.Listing.{first_key, within, ranged_in, range_in}
 use Rattle.readings.proofs.ListingLaws.{within_all}
 use Rattle.readings.proofs.Promises.{range_reads, ranged_reads}
+use Rattle.lines.specs.declared.Kind.TheVariants as kinds
 use Rattle.lines.specs.declared.Reply.TheVariants.{RangeEnd, Refused, SetUpLine}
 use Rattle.lines.specs.Reply.{reply_line}
 use Rattle.desk.specs.declared.Listing.{Listing}
 use Rattle.desk.specs.declared.Outcome.TheVariants.{Parts}
 use Rattle.desk.specs.Replies.{listed_lines}
-use Rattle.desk.specs.Listing.{part_records, part_of, part_items, counted, surveyed, no_listing, last_line, part_lines, carried}
+use Rattle.desk.specs.Listing.{part_records, part_of, part_items, counted, surveyed, last_line, part_lines, carried}
 use Rattle.desk.specs.Transcript.{listing, opened, largest_key, dumped, outcome_bytes}
 use Rattle.desk.specs.Clerk.{OneListing}
-use Rattle.desk.proofs.ListingLaws.{part_room, counted_done, survey_done, survey_turn, rest_done, rest_more}
-use Rattle.desk.proofs.ListingLaws.{listing_is, opened_parts, dumped_register, first_refused, after_last, after_more}
+use Rattle.desk.proofs.ListingLaws.{part_room, survey_done, survey_turn, rest_done, rest_more}
+use Rattle.desk.proofs.ListingLaws.{opened_parts, dumped_register, first_refused, after_last, after_more}
 use Rattle.desk.proofs.ListingLaws.{none_carried, carried_turn}
 use Rattle.desk.proofs.LineLaws.{lines_append}
 use Rattle.desk.proofs.PartLaws.{end_last, end_none, lines_done}
@@ -165,7 +167,7 @@ module _ (s : List ℕ) (S : List Item) (h : Holds Plots s S) (high : ℕ) (q : 
 
   -- the survey counts the list
   abbrev Counts : ℕ → Type 0
-  Counts low = surveyed s low high ≡ record { number = 0; count = length (W low) }
+  Counts low = surveyed s low high ≡ Ok (length (W low))
 
   counts_by : (low : ℕ) → low ≤ high → (rest : List Item) → drop part_records (W low) ≡ rest
       → ((k : ℕ) → length (W k) < length (W low) → k ≤ high → Counts k) → Counts low
@@ -174,7 +176,7 @@ module _ (s : List ℕ) (S : List Item) (h : Holds Plots s S) (high : ℕ) (q : 
       let r = reply_is low p in
       let more = ap (λ (a : RangeReply). a.more) r ∙ ap first_key e in
       survey_turn s high low ∙ rest_done s high _ _ more ∙ survey_done _ _ (ap (λ (a : RangeReply). a.number) r)
-      ∙ ap (λ (n : ℕ). record { number = 0; count = n }) (ap (λ (a : RangeReply). a.count) r ∙ omega (arith, length_parts (W low) [] e))
+      ∙ ap (λ (n : ℕ). Ok n) (ap (λ (a : RangeReply). a.count) r ∙ omega (arith, length_parts (W low) [] e))
   counts_by low p (x ∷ xs) e ih =
       let r = reply_is low p in
       let b = behind low x xs e in
@@ -185,8 +187,7 @@ module _ (s : List ℕ) (S : List Item) (h : Holds Plots s S) (high : ℕ) (q : 
       survey_turn s high low ∙ rest_more s high _ _ (λ z. b.above (sym more ∙ z))
       ∙ ap (λ (k : ℕ). counted (part_of s low high).reply.count (surveyed s k high)) more
       ∙ ap (counted (part_of s low high).reply.count) (ih x.key (omega arith) b.below)
-      ∙ counted_done _ _ refl
-      ∙ ap (λ (i : ℕ). record { number = 0; count = i })
+      ∙ ap (λ (i : ℕ). Ok i)
       (ap (λ (c : ℕ). c + length (W x.key)) (ap (λ (a : RangeReply). a.count) r) ∙ omega arith)
 
   counts_list : (n low : ℕ) → length (W low) < n → low ≤ high → Counts low
@@ -196,7 +197,7 @@ module _ (s : List ℕ) (S : List Item) (h : Holds Plots s S) (high : ℕ) (q : 
   -- the parts list it
   module _ (dump : Bool) (count : ℕ) where
     abbrev at : ℕ → Listing
-    at low = record { active = true; dump = dump; at = low; high = high; count = count }
+    at low = record { dump = dump; at = low; high = high; count = count }
 
     abbrev lines : List Item → List ℕ
     lines = listed_lines dump
@@ -205,7 +206,7 @@ module _ (s : List ℕ) (S : List Item) (h : Holds Plots s S) (high : ℕ) (q : 
     end = last_line dump count
 
     abbrev Lists : ℕ → Type 0
-    Lists low = carried s (at low) ≡ lines (W low) ++ end
+    Lists low = carried s (Some (at low)) ≡ lines (W low) ++ end
 
     lists_by : (low : ℕ) → low ≤ high → (rest : List Item) → drop part_records (W low) ≡ rest
         → ((k : ℕ) → length (W k) < length (W low) → k ≤ high → Lists k) → Lists low
@@ -213,9 +214,9 @@ module _ (s : List ℕ) (S : List Item) (h : Holds Plots s S) (high : ℕ) (q : 
     lists_by low p [] e ih =
         let r = reply_is low p in
         let more = ap (λ (a : RangeReply). a.more) r ∙ ap first_key e in
-        carried_turn s (at low) refl
-        ∙ ap (λ (l : Listing). part_lines s (at low) ++ carried s l) (after_last s (at low) more)
-        ∙ ap (λ (bs : List ℕ). part_lines s (at low) ++ bs) (none_carried s no_listing refl) ∙ append-nil _
+        carried_turn s (at low)
+        ∙ ap (λ (l : Option Listing). part_lines s (at low) ++ carried s l) (after_last s (at low) more)
+        ∙ ap (λ (bs : List ℕ). part_lines s (at low) ++ bs) (none_carried s None refl) ∙ append-nil _
         ∙ lines_done s (at low) (ap (λ (a : RangeReply). a.number) r)
         ∙ ap (λ (bs : List ℕ). lines (part_items s low high) ++ bs) (end_last dump _ count more)
         ∙ ap (λ (its : List Item). lines its ++ end) (items_are low p ∙ sym (append-nil _) ∙ sym (parts (W low) [] e))
@@ -226,9 +227,9 @@ module _ (s : List ℕ) (S : List Item) (h : Holds Plots s S) (high : ℕ) (q : 
         let n = length_parts (W low) (x ∷ xs) e in
         let m = shorter (W low) xs x e in
         let w = ap length b.rest in
-        carried_turn s (at low) refl
-        ∙ ap (λ (l : Listing). part_lines s (at low) ++ carried s l) (after_more s (at low) (λ z. b.above (sym more ∙ z)))
-        ∙ ap (λ (k : ℕ). part_lines s (at low) ++ carried s (at k)) more
+        carried_turn s (at low)
+        ∙ ap (λ (l : Option Listing). part_lines s (at low) ++ carried s l) (after_more s (at low) (λ z. b.above (sym more ∙ z)))
+        ∙ ap (λ (k : ℕ). part_lines s (at low) ++ carried s (Some (at k))) more
         ∙ ap (λ (bs : List ℕ). part_lines s (at low) ++ bs) (ih x.key (omega arith) b.below)
         ∙ ap (λ (bs : List ℕ). bs ++ (lines (W x.key) ++ end))
         (lines_done s (at low) (ap (λ (a : RangeReply). a.number) r)
@@ -244,24 +245,22 @@ module _ (s : List ℕ) (S : List Item) (h : Holds Plots s S) (high : ℕ) (q : 
     lists_list (suc n) low l p = lists_by low p (drop part_records (W low)) refl (λ k m o. lists_list n k (omega arith) o)
 
   -- so a listing is whole
-  pub counted_whole : (low : ℕ) → low ≤ high → record { number = 0; count = length (W low) } ≡ surveyed s low high
+  pub counted_whole : (low : ℕ) → low ≤ high → Ok (length (W low)) ≡ surveyed s low high
   counted_whole low p = sym (counts_list (suc (length (W low))) low (omega arith) p)
 
   pub carried_whole : (dump : Bool) (low : ℕ) → low ≤ high
-      → carried s (listing s dump low high) ≡ listed_lines dump (W low) ++ last_line dump (length (W low))
+      → carried s (Some (listing dump low high (length (W low)))) ≡ listed_lines dump (W low) ++ last_line dump (length (W low))
   carried_whole dump low p =
-      ap (carried s) (sym (listing_is s low high _ (counted_whole low p) dump))
-      ∙ lists_list dump (length (W low)) (suc (length (W low))) low (omega arith) p
+      lists_list dump (length (W low)) (suc (length (W low))) low (omega arith) p
 
   pub listed_whole : (low : ℕ) → low ≤ high
       → outcome_bytes s (opened s low high) ≡ listed_lines false (W low) ++ reply_line (RangeEnd (length (W low)))
   unfolding outcome_bytes last_line
   listed_whole low p =
       let c = counted_whole low p in
-      ap (outcome_bytes s) (sym (opened_parts s low high _ c refl) ∙ ap Parts (listing_is s low high _ c false))
-      ∙ carried_whole false low p
+      ap (outcome_bytes s) (sym (opened_parts s low high _ _ c refl)) ∙ carried_whole false low p
 
-  pub refused_whole : (low : ℕ) → high < low → outcome_bytes s (opened s low high) ≡ reply_line (Refused 4 7)
+  pub refused_whole : (low : ℕ) → high < low → outcome_bytes s (opened s low high) ≡ reply_line (Refused kinds.Range 7)
   unfolding outcome_bytes
   refused_whole low p = ap (outcome_bytes s) (sym (first_refused s low high 7 (λ z. omega arith) (refused_is low p)))
 
@@ -299,7 +298,6 @@ dump_whole s S h =
     let c = counted_whole s S h largest_key q 1 p in
     let z = head_of s in
     let first = reply_line (SetUpLine z.theta z.capacity z.node_blocks z.page_blocks) in
-    ap (outcome_bytes s) (sym (dumped_register s _ c refl refl refl refl refl))
-    ∙ ap (λ (l : Listing). first ++ carried s l) (listing_is s 1 largest_key _ c true)
+    ap (outcome_bytes s) (sym (dumped_register s _ _ c refl refl refl refl refl))
     ∙ ap (λ (bs : List ℕ). first ++ bs)
     (carried_whole s S h largest_key q true 1 p ∙ append-nil _ ∙ ap (listed_lines true) (within_whole S h.lawful))

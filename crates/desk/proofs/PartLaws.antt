@@ -1,6 +1,6 @@
 -- One part of a listing: the words that range wrote are its records, and the lines are theirs.
 use mathlib.Core.Path.{◌≡◌, refl, sym, ap, ◌∙◌}
-use mathlib.Core.Bool.{Bool, true}
+use mathlib.Core.Bool.{Bool}
 use mathlib.Core.List.{List, [], ◌∷◌, ◌++◌, append-nil}
 use Prim.Native.Nat.{ℕ, suc, ◌+◌, ◌*◌, ◌/◌, ◌^◌, ◌≤◌, ◌<◌}
 use native.Mathlib.Nat.{mod-eq_of_lt}
@@ -8,9 +8,11 @@ use native.Mathlib.Decide.{ℕ_discrete}
 use native.Mathlib.Omega.{arith}
 use lib.ListN.{length, get_or, replicate, length-append}
 use borrow.Author.Tests.{eq-eqb, ne_eqb}
+use Rattle.std.specs.Prelude.{Some, None}
 use Rattle.lists.specs.Lists.{All, tab}
 use Rattle.lists.proofs.ListLaws.{all_map}
 use Rattle.lists.proofs.Tests.{tab_ext}
+use Rattle.lines.specs.declared.Kind.{Kind}
 use Rattle.lines.specs.declared.Reply.TheVariants.{Refused}
 use Rattle.lines.specs.Reply.{reply_line}
 use Rattle.store.specs.declared.Format.TheVariants.{Plots}
@@ -22,7 +24,7 @@ use Rattle.scan.specs.Range.{RangeReply, After, ranged}
 use Rattle.scan.proofs.Promises.{range_rule, range_ascends}
 use Rattle.desk.specs.declared.Listing.{Listing}
 use Rattle.desk.specs.Replies.{listed_lines}
-use Rattle.desk.specs.Listing.{part_records, part_of, part_items, item_from, items_of, no_listing, kind_listed, last_line, part_end}
+use Rattle.desk.specs.Listing.{part_records, part_of, part_items, item_from, items_of, kind_listed, last_line, part_end}
 use Rattle.desk.specs.Listing.{part_lines, listing_after}
 use Rattle.desk.proofs.ListingLaws.{part_room, part_facts, piece_facts, after_last, after_more}
 use Rattle.desk.proofs.LineLaws.{lines_bounds}
@@ -105,14 +107,14 @@ module _ (s : List ℕ) (l : Listing) where
 
   -- the call replied p and left the words ws
   module _ (p : RangeReply) (ws : List ℕ) (e : p ≡ q) (w : ws ≡ (part_of s l.at l.high).words) (narrow : l.high < 2 ^ 32) where
-    pub refused_lines : (kind : ℕ) → kind ≡ kind_listed l.dump → (p.number ≡ 0 → ⊥)
-        → part_lines s l ≡ reply_line (Refused kind p.number)
-    refused_lines kind k n =
+    pub refused_lines : (asked : Kind) → asked ≡ kind_listed l.dump → (p.number ≡ 0 → ⊥)
+        → part_lines s l ≡ reply_line (Refused asked p.number)
+    refused_lines asked k n =
         lines_refused (λ z. n (ap (λ (r : RangeReply). r.number) e ∙ z))
         ∙ ap (λ (r : RangeReply). reply_line (Refused (kind_listed l.dump) r.number)) (sym e)
-        ∙ ap (λ (i : ℕ). reply_line (Refused i p.number)) (sym k)
+        ∙ ap (λ (i : Kind). reply_line (Refused i p.number)) (sym k)
 
-    pub refused_after : (p.number ≡ 0 → ⊥) → listing_after s l ≡ no_listing
+    pub refused_after : (p.number ≡ 0 → ⊥) → listing_after s l ≡ None
     refused_after n =
         let f = piece_facts s l.at l.high e in
         after_last s l (sym (ap (λ (r : RangeReply). r.more) e) ∙ (f.none n).1)
@@ -132,14 +134,14 @@ module _ (s : List ℕ) (l : Listing) where
     more_lines z n = done_lines z ∙ rw (end_none l.dump p.more l.count n) (append-nil _)
 
     pub more_after : (p.more ≡ 0 → ⊥)
-        → listing_after s l ≡ record { active = true; dump = l.dump; at = p.more; high = l.high; count = l.count }
+        → listing_after s l ≡ Some (record { dump = l.dump; at = p.more; high = l.high; count = l.count })
     more_after n =
         after_more s l (λ z. n (ap (λ (r : RangeReply). r.more) e ∙ z))
-        ∙ ap (λ (r : RangeReply). record { active = true; dump = l.dump; at = r.more; high = l.high; count = l.count }) (sym e)
+        ∙ ap (λ (r : RangeReply). Some (record { dump = l.dump; at = r.more; high = l.high; count = l.count })) (sym e)
 
     pub last_lines : p.number ≡ 0 → p.more ≡ 0
         → part_lines s l ≡ listed_lines l.dump (items_of p.count ws) ++ last_line l.dump l.count
     last_lines z n = done_lines z ∙ rw (end_last l.dump p.more l.count n)
 
-    pub last_after : p.more ≡ 0 → listing_after s l ≡ no_listing
+    pub last_after : p.more ≡ 0 → listing_after s l ≡ None
     last_after n = after_last s l (sym (ap (λ (r : RangeReply). r.more) e) ∙ n)

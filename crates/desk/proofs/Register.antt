@@ -48,7 +48,7 @@ use Rattle.lines.proofs.Promises.{format_then_parse, dump_parses}
 use Rattle.lines.proofs.RequestLaws.{line_printed}
 use Rattle.desk.specs.Replies.{told, set_up_told, enter_told, listed_told, listed_lines}
 use Rattle.desk.specs.Transcript.{answered, ending, served, store_words, transcript}
-use Rattle.desk.specs.Clerk.{Register, unset, holding, Reckoned, set_up_reply, after_set_up, dump_lines, reckoned, reckonings, reckoning}
+use Rattle.desk.specs.Clerk.{Register, unset, holding, Reckoned, set_up_reply, after_set_up, dump_lines, reckoned, reckoned_line, reckonings, reckoning}
 use Rattle.desk.specs.Clerk.{registers, register_after, Stands}
 use Rattle.desk.specs.Register.{dump, acceptances, Restored, printed, Ended, PrintedNext, WrittenOut}
 use Rattle.desk.proofs.Clerk.{dump_lines_lem, clerk, stands_after}
@@ -73,7 +73,7 @@ after_through r line (b ∷ bs) rest p =
     rw (ne_eqb b line_feed (λ e. omega (arith, p.0)), reckonings, registers)
     (after_through r (line ++ b ∷ []) bs rest p.1 ∙ ap (λ (l : List ℕ). after r l rest) (append_assoc line (b ∷ []) bs))
 
-after_feed : (r : Register) (line rest : List ℕ) → after r line (line_feed ∷ rest) ≡ onward rest (reckoned r (parsed line))
+after_feed : (r : Register) (line rest : List ℕ) → after r line (line_feed ∷ rest) ≡ onward rest (reckoned_line r (parsed line))
 unfolding reckonings registers
 after_feed r line rest = refl
 
@@ -83,7 +83,7 @@ after_request r line rest q f e =
     ap (λ (bs : List ℕ). after r [] (bs ++ rest)) e
     ∙ ap (after r []) (append_assoc (request_line q) (line_feed ∷ []) rest)
     ∙ after_through r [] (request_line q) (line_feed ∷ rest) (line_printed q)
-    ∙ after_feed r (request_line q) rest ∙ ap (λ p. onward rest (reckoned r p)) (format_then_parse q f)
+    ∙ after_feed r (request_line q) rest ∙ ap (λ p. onward rest (reckoned_line r p)) (format_then_parse q f)
 
 -- after whole lines the rest is answered on the register that they leave
 lines_first : (r : Register) (line bs rest : List ℕ)
@@ -91,10 +91,10 @@ lines_first : (r : Register) (line bs rest : List ℕ)
     ≡ reckonings r line (bs ++ line_feed ∷ []) ++ reckonings (registers r line (bs ++ line_feed ∷ [])) [] rest
 unfolding reckonings registers ending
 lines_first r line [] rest =
-    let a = reckoned r (parsed line) in
+    let a = reckoned_line r (parsed line) in
     ap (λ (bs : List ℕ). bs ++ reckonings a.register [] rest) (sym (append-nil a.bytes))
 lines_first r line (b ∷ bs) rest =
-    let a = reckoned r (parsed line) in
+    let a = reckoned_line r (parsed line) in
     by_cases (eqb b line_feed)
     (λ e.
     rw (e, reckonings, registers)
@@ -223,7 +223,7 @@ module _ (θ C N P : ℕ) (law : lawful_sizes θ C N P ≡ true) (room : size Pl
 
   sets_up : reckoned unset (SetUp θ C N P) ≡ gives (done (sizes_of θ C N P)) (holding (fresh θ C N P))
   unfolding reckoned set_up_reply after_set_up set_up_told told
-  sets_up = rw (law, le-leb (size Plots θ C N P) store_words room, reckoned, set_up_reply, after_set_up)
+  sets_up = rw (law, le-leb (size Plots θ C N P) store_words room, reckoned, reckoned_line, set_up_reply, after_set_up)
 
   sets_up_first : (rest : List ℕ)
       → after unset [] (reply_line (SetUpLine θ C N P) ++ rest) ≡ behind (done (sizes_of θ C N P)) (after (holding (fresh θ C N P)) [] rest)

@@ -33,7 +33,7 @@ use Rattle.represent.specs.Image.{page_image, node_image}
 use Rattle.insert.specs.Enter.{items_in, own_items, own_passes, neighbour_ok, path_in, parted, round_of, placed, rounds_for, plan_of, way_of}
 use Rattle.insert.specs.Enter.{undamaged, entered_words, done, enter_of}
 use Rattle.lines.specs.Columns.{digit, skipped, plain, value, number_of, is_number, byte_at, column}
-use Rattle.lines.specs.Request.{request_line, field_of, unused, request_of, well_formed, parsed}
+use Rattle.lines.specs.Request.{kind_numbered, request_line, field_of, unused, request_of, well_formed, parsed}
 use Rattle.lines.specs.Reply.{four_fields, summary_fields, reply_line}
 use Rattle.lines.specs.Checks.{bytes}
 use Rattle.desk.specs.Replies.{told, set_up_told, enter_told, found_told, summary_told}
@@ -51,6 +51,6 @@ unfolding bytes request response transcript served bit replaced part tab every g
     released_of named lawful_released released_node released_page node_form page_form chain_of after_all passed member link_ok chain_ok nodes_ok pages_ok released_nodes released_pages up_from nodes_to_come pages_to_come next_node node_taken next_page page_taken
     put_both grown split_node relink split_first new_root climb round aim_at page_image node_image node_at items_in own_items own_passes
     neighbour_ok path_in parted round_of placed rounds_for plan_of way_of undamaged entered_words done enter_of digit skipped plain value number_of
-    is_number byte_at column request_line field_of unused request_of well_formed parsed four_fields summary_fields reply_line told set_up_told
+    is_number byte_at column request_line kind_numbered field_of unused request_of well_formed parsed four_fields summary_fields reply_line told set_up_told
     enter_told found_told summary_told answered outcome_bytes ending
 sampled = refl

@@ -1,22 +1,21 @@
 -- Serving bytes: a line is gathered, answered at its byte 0A, and what is put and what is left to be written make up what was to be
 -- written.
 use mathlib.Core.Path.{◌≡◌, refl, sym, ap, ◌∙◌}
-use mathlib.Core.Bool.{Bool, true, false, ◌||◌, false≢true}
+use mathlib.Core.Bool.{Bool, true, false, not, cond, ◌||◌, false≢true}
 use mathlib.Core.List.{List, [], ◌∷◌, ◌++◌, append_assoc, append-nil}
 use mathlib.Core.Logic.{◌⊎◌, inl, inr}
 use Prim.Native.Nat.{ℕ, suc, ◌+◌, ◌-◌, ◌^◌, ◌≤◌, ◌<◌, min}
 use native.Mathlib.Decide.{dec_le, ℕ_discrete}
-use native.Mathlib.Nat.{add-zero}
 use native.Mathlib.Numerals.{add-one}
 use native.Mathlib.Omega.{arith}
 use lib.Dec.{leb, ltb, eqb}
-use lib.ListN.{length, get_or, take, drop, set, length-append, length-take, length-drop}
-use lib.Seq.{drop-cons, drop-drop, take_all, drop-length, take_at, drop_at, take-suc, take-suc-set, take-append-add}
-use borrow.Author.Tests.{eq-eqb, ne_eqb, eqb-true, ltb-true, ltb-false, leb-true, leb-false, lt-leb, le-leb}
+use lib.ListN.{length, take, drop, length-append, length-take, length-drop}
+use lib.Seq.{drop-drop, take_all, drop-length, take_at, drop_at, take-append-add}
+use borrow.Author.Tests.{eqb-true, ltb-true, ltb-false, leb-true, leb-false}
 use Rattle.lists.proofs.Cases.{by_cases}
 use Rattle.lists.proofs.Tests.{and_true}
-use Rattle.lines.specs.declared.Request.{Request}
-use Rattle.lines.specs.declared.Request.TheVariants.{Wrong}
+use Rattle.std.specs.Prelude.{Option, Some, None, is_some, unwrap_or, nat_eq}
+use Rattle.std.specs.List.{position_or_len}
 use Rattle.lines.specs.declared.Reply.{Reply}
 use Rattle.lines.specs.declared.Reply.TheVariants.{WrongLine}
 use Rattle.lines.specs.Request.{parsed}
@@ -27,8 +26,8 @@ use Rattle.desk.specs.declared.Listing.{Listing}
 use Rattle.desk.specs.declared.Progress.{Progress}
 use Rattle.desk.specs.declared.Outcome.{Outcome}
 use Rattle.desk.specs.declared.Outcome.TheVariants.{Line, Parts, Register}
-use Rattle.desk.specs.Listing.{part_bytes, part_of, no_listing, carried, part_lines, listing_after}
-use Rattle.desk.specs.Transcript.{answered, outcome_bytes, Served, before, ending, served}
+use Rattle.desk.specs.Listing.{part_bytes, part_of, carried, part_lines, listing_after}
+use Rattle.desk.specs.Transcript.{answered_line, outcome_bytes, Served, before, ending, served}
 use Rattle.desk.specs.Serving.{line_of, rest_of, until_feed, kept_line, goes_on, to_do, GetsOn, Answers, Serves, Finishes}
 use Rattle.desk.proofs.ListingLaws.{after_last, none_carried, carried_turn}
 use Rattle.desk.proofs.LineLaws.{put_line, written_within}
@@ -36,18 +35,32 @@ use Rattle.desk.proofs.PartLaws.{lines_some}
 
 -- the first byte 0A
 
-pub until_here : (bs : List ℕ) (i : ℕ) → i < length bs → get_or bs i 0 ≡ line_feed → until_feed (drop i bs) ≡ 0
-unfolding until_feed
-until_here bs i h e = rw (drop-cons bs i 0 h) (rw (eq-eqb (get_or bs i 0) line_feed e, until_feed))
+abbrev pub feed : ℕ → Bool
+feed b = nat_eq b line_feed
 
-pub until_later : (bs : List ℕ) (i : ℕ) → i < length bs → (get_or bs i 0 ≡ line_feed → ⊥) → until_feed (drop i bs) ≡ 1 + until_feed (drop (i + 1) bs)
+pub until_first : (bs : List ℕ) → (until_feed bs ≡ position_or_len feed bs) × (position_or_len feed bs ≤ length bs)
 unfolding until_feed
-until_later bs i h e =
-    rw (add-one i, drop-cons bs i 0 h) (rw (ne_eqb (get_or bs i 0) line_feed e, until_feed) (omega arith))
+until_first [] = (refl, omega arith)
+until_first (b ∷ bs) =
+    let n : ℕ = position_or_len feed bs in
+    let r = until_first bs in
+    let e : suc n ≡ 1 + n = omega arith in
+    elim (eqb b line_feed) as (λ v.
+    (◌≡◌ {A = ℕ} (elim v [ true ↦ 0 | false ↦ suc (until_feed bs) ]) (cond (not v) (1 + n) 0)) × (cond (not v) (1 + n) 0 ≤ length (b ∷ bs))) [
+      | true ↦ (refl, omega arith)
+      | false ↦ (ap suc r.0 ∙ e, omega (arith, r.1))
+    ]
 
-pub until_end : (bs : List ℕ) (i : ℕ) → i ≡ length bs → until_feed (drop i bs) ≡ 0
-unfolding until_feed
-until_end bs i e = rw (e, drop-length bs)
+pub until_found : (bs : List ℕ) (o : Option ℕ)
+    → o ≡ cond (ltb (position_or_len feed bs) (length bs)) (Some (position_or_len feed bs)) None
+    → (unwrap_or o (length bs) ≡ until_feed bs) × (unwrap_or o (length bs) ≤ length bs)
+until_found bs o e =
+    let r = until_first bs in
+    let n : ℕ = position_or_len feed bs in
+    let w : unwrap_or o (length bs) ≡ n =
+    ap (λ (q : Option ℕ). unwrap_or q (length bs)) e
+    ∙ by_cases (ltb n (length bs)) (λ t. rw t) (λ t. rw t (omega (arith, r.1, ltb-false n (length bs) t))) in
+    (w ∙ sym r.0, omega (arith, w, r.1))
 
 until_within : (bs : List ℕ) → until_feed bs ≤ length bs
 unfolding until_feed
@@ -78,14 +91,14 @@ served_until s line (b ∷ bs) more =
     ∙ ap (λ (l : List ℕ). served s l (drop (until_feed bs) bs ++ more)) (append_assoc line (b ∷ []) (take (until_feed bs) bs))))
 
 served_feed : (s line bs : List ℕ)
-    → let a = answered s (parsed line) in
+    → let a = answered_line s (parsed line) in
     served s line (line_feed ∷ bs) ≡ before (outcome_bytes a.words a.outcome) (served a.words [] bs)
 unfolding served
 served_feed s line bs = refl
 
 -- a line that is too long is wrong, whatever it is
 
-parsed_long : (l : List ℕ) → 43 ≤ length l → parsed l ≡ Wrong
+parsed_long : (l : List ℕ) → 43 ≤ length l → parsed l ≡ None
 parsed_long l h = parsed_wrong l (λ f. omega (arith, f.whole))
 
 ending_long : (l : List ℕ) → 43 ≤ length l → ending l ≡ reply_line WrongLine
@@ -111,17 +124,7 @@ served_kept s l bs =
       | no h ↦ served_alike s (take 43 l) l bs (simp length-take (omega arith)) (omega arith)
     ]
 
--- a line's bytes are kept one by one
-
-pub keep_more : (line first bytes : List ℕ) (held k : ℕ) → held + k < length line → k < length bytes
-    → take (held + k) line ≡ take held first ++ take k bytes
-    → take (held + (k + 1)) (set line (held + k) (get_or bytes k 0)) ≡ take held first ++ take (k + 1) bytes
-keep_more line first bytes held k h l e =
-    let n : held + (k + 1) ≡ suc (held + k) = omega arith in
-    rw (n, add-one k, take-suc-set line (held + k) (get_or bytes k 0) h, e, take-suc bytes k 0 l) (append_assoc (take held first) (take k bytes) _)
-
-pub keep_start : (first bytes : List ℕ) (held : ℕ) → take (held + 0) first ≡ take held first ++ take 0 bytes
-keep_start first bytes held = rw (add-zero held) (sym (append-nil (take held first)))
+-- the bytes kept are put behind those of the line
 
 take_least : (xs : List ℕ) (m n : ℕ) → n ≡ min (length xs) m → take n xs ≡ take m xs
 take_least xs m n e =
@@ -130,27 +133,25 @@ take_least xs m n e =
       | no h ↦ let same : n ≡ m = omega arith in ap (λ (i : ℕ). take i xs) same
     ]
 
-pub keep_done : (line first bytes : List ℕ) (d held n : ℕ) → length first ≡ 43 → held ≡ min d 43 → n ≡ min (length bytes) (43 - held)
-    → take (held + n) line ≡ take held first ++ take n bytes → take (held + n) line ≡ kept_line (take d first ++ bytes)
+pub kept_behind : (line first bytes : List ℕ) (d held n : ℕ) → length first ≡ 43 → held ≡ min d 43 → n ≡ min (length bytes) (43 - held)
+    → line ≡ take held first ++ (take n bytes ++ drop (held + n) first) → take (held + n) line ≡ kept_line (take d first ++ bytes)
 unfolding kept_line
-keep_done line first bytes d held n l h m e =
+kept_behind line first bytes d held n l h m e =
     let X = take held first in
+    let Y = take n bytes in
     let same : X ≡ take d first = take_least first d held (omega arith) in
     let len : length X ≡ held = simp length-take (omega arith) in
+    let long : length Y ≡ n = simp length-take (omega arith) in
+    let both : length (X ++ Y) ≡ held + n = length-append X Y ∙ omega (arith, len, long) in
     let all : 43 ≡ length X + (43 - held) = omega arith in
-    e ∙ ap (λ (ys : List ℕ). X ++ ys) (take_least bytes (43 - held) n m) ∙ sym (take-append-add X bytes (43 - held))
+    ap (take (held + n)) (e ∙ sym (append_assoc X Y (drop (held + n) first))) ∙ take_at (X ++ Y) _ (held + n) both
+    ∙ ap (λ (ys : List ℕ). X ++ ys) (take_least bytes (43 - held) n m) ∙ sym (take-append-add X bytes (43 - held))
     ∙ ap (λ (i : ℕ). take i (X ++ bytes)) (sym all) ∙ ap (λ (Y : List ℕ). take 43 (Y ++ bytes)) same
 
 -- an answered line
 
-module _ (s l t out out' : List ℕ) (n : ℕ) (q : Request) (o : Outcome) (p : Progress) (asked : q ≡ parsed l)
-    (outcome : o ≡ (answered s q).outcome) (words : t ≡ (answered s q).words) (empty : line_of p.desk ≡ []) (taken : p.taken ≡ n) where
-  abbrev now_outcome : o ≡ (answered s (parsed l)).outcome
-  now_outcome = outcome ∙ ap (λ (r : Request). (answered s r).outcome) asked
-
-  abbrev now_words : t ≡ (answered s (parsed l)).words
-  now_words = words ∙ ap (λ (r : Request). (answered s r).words) asked
-
+module _ (s l t out out' : List ℕ) (n : ℕ) (o : Outcome) (p : Progress) (outcome : o ≡ (answered_line s (parsed l)).outcome)
+    (words : t ≡ (answered_line s (parsed l)).words) (empty : line_of p.desk ≡ []) (taken : p.taken ≡ n) where
   -- a line, and then what the listing that is left still writes
   answers_put : (r : Reply) (rest : List ℕ) → outcome_bytes t o ≡ reply_line r ++ rest → 45 ≤ length out → p.put ≡ (written r out).count
       → out' ≡ (written r out).bytes → carried t p.desk.listing ≡ rest → Answers s l n out t out' p
@@ -159,8 +160,8 @@ module _ (s l t out out' : List ℕ) (n : ℕ) (q : Request) (o : Outcome) (p : 
       let k : length (reply_line r) ≡ p.put = sym y.0 in
       let most : p.put ≤ length out = omega (arith, c, written_within r out) in
       record {
-        words = now_words;
-        says = ap (outcome_bytes t) (sym now_outcome) ∙ e
+        words = words;
+        says = ap (outcome_bytes t) (sym outcome) ∙ e
             ∙ ap (λ (xs : List ℕ). xs ++ rest) (sym (ap (take p.put) y.1 ∙ take_at (reply_line r) _ p.put k))
             ∙ ap (λ (ys : List ℕ). take p.put out' ++ ys) (sym left);
         empty = empty;
@@ -171,23 +172,23 @@ module _ (s l t out out' : List ℕ) (n : ℕ) (q : Request) (o : Outcome) (p : 
       }
 
   pub answers_line : (r : Reply) → o ≡ Line r → 45 ≤ length out → p.put ≡ (written r out).count → out' ≡ (written r out).bytes
-      → p.desk.listing ≡ no_listing → Answers s l n out t out' p
+      → p.desk.listing ≡ None → Answers s l n out t out' p
   unfolding outcome_bytes
   answers_line r e h c b none =
       answers_put r [] (ap (outcome_bytes t) e ∙ sym (append-nil _)) h c b
-      (none_carried t p.desk.listing (ap (λ (x : Listing). x.active) none))
+      (none_carried t p.desk.listing none)
 
   pub answers_register : (r : Reply) (x : Listing) → o ≡ Register r x → 45 ≤ length out → p.put ≡ (written r out).count
-      → out' ≡ (written r out).bytes → p.desk.listing ≡ x → Answers s l n out t out' p
+      → out' ≡ (written r out).bytes → p.desk.listing ≡ Some x → Answers s l n out t out' p
   unfolding outcome_bytes
-  answers_register r x e h c b same = answers_put r (carried t x) (ap (outcome_bytes t) e) h c b (ap (carried t) same)
+  answers_register r x e h c b same = answers_put r (carried t (Some x)) (ap (outcome_bytes t) e) h c b (ap (carried t) same)
 
-  pub answers_parts : (x : Listing) → o ≡ Parts x → p.put ≡ 0 → out' ≡ out → p.desk.listing ≡ x → Answers s l n out t out' p
+  pub answers_parts : (x : Listing) → o ≡ Parts x → p.put ≡ 0 → out' ≡ out → p.desk.listing ≡ Some x → Answers s l n out t out' p
   unfolding outcome_bytes
   answers_parts x e c b same =
       record {
-        words = now_words;
-        says = ap (outcome_bytes t) (sym now_outcome ∙ e) ∙ ap (carried t) (sym same) ∙ rw c;
+        words = words;
+        says = ap (outcome_bytes t) (sym outcome ∙ e) ∙ ap (carried t) (sym same) ∙ rw c;
         empty = empty;
         taken = taken;
         put = omega arith;
@@ -200,11 +201,11 @@ module _ (s l t out out' : List ℕ) (n : ℕ) (q : Request) (o : Outcome) (p : 
 pub before_twice : (xs ys : List ℕ) (a : Served) → before (xs ++ ys) a ≡ before xs (before ys a)
 before_twice xs ys a = ap (λ (b : List ℕ). record { bytes = b; words = a.words }) (append_assoc xs ys a.bytes)
 
-pub rest_quiet : (s : List ℕ) (d : Desk) (bs : List ℕ) → d.listing.active ≡ false → rest_of s d bs ≡ served s (line_of d) bs
+pub rest_quiet : (s : List ℕ) (d : Desk) (bs : List ℕ) → d.listing ≡ None → rest_of s d bs ≡ served s (line_of d) bs
 unfolding rest_of
 rest_quiet s d bs e = rw (none_carried s d.listing e)
 
-module _ (s : List ℕ) (d next : Desk) (input : List ℕ) (n : ℕ) (quiet : d.listing.active ≡ false) (until : n ≡ until_feed input)
+module _ (s : List ℕ) (d next : Desk) (input : List ℕ) (n : ℕ) (quiet : d.listing ≡ None) (until : n ≡ until_feed input)
     (gathered : line_of next ≡ kept_line (line_of d ++ take n input)) where
   -- the line so far, with the bytes up to the end of it
   rest_gathered : (more : List ℕ) → rest_of s d (input ++ more) ≡ served s (line_of next) (drop n input ++ more)
@@ -221,7 +222,7 @@ module _ (s : List ℕ) (d next : Desk) (input : List ℕ) (n : ℕ) (quiet : d.
       record {
         taken = h;
         put = omega arith;
-        says = λ more. rest_gathered more ∙ sym (rest_quiet s next (drop n input ++ more) (ap (λ (x : Listing). x.active) same ∙ quiet));
+        says = λ more. rest_gathered more ∙ sym (rest_quiet s next (drop n input ++ more) (same ∙ quiet));
         long = refl;
         stays = refl;
       }
@@ -242,7 +243,7 @@ module _ (s : List ℕ) (d next : Desk) (input : List ℕ) (n : ℕ) (quiet : d.
             ∙ ap (λ (bs : List ℕ). served s (line_of next) (bs ++ more)) feed
             ∙ served_feed s (line_of next) (drop (n + 1) input ++ more)
             ∙ ap
-            (λ (w : List ℕ). before (outcome_bytes w (answered s (parsed (line_of next))).outcome) (served w [] (drop (n + 1) input ++ more)))
+            (λ (w : List ℕ). before (outcome_bytes w (answered_line s (parsed (line_of next))).outcome) (served w [] (drop (n + 1) input ++ more)))
             (sym a.words)
             ∙ ap (λ (bs : List ℕ). before bs (served t [] (drop (n + 1) input ++ more))) a.says
             ∙ before_twice (take r.put out') (carried t r.desk.listing) _
@@ -254,24 +255,21 @@ module _ (s : List ℕ) (d next : Desk) (input : List ℕ) (n : ℕ) (quiet : d.
       }
 
 -- a part of a listing
-pub serves_part : (s : List ℕ) (d : Desk) (input out out' : List ℕ) (left : Listing) (put : ℕ) → d.listing.active ≡ true
-    → left ≡ listing_after s d.listing → put ≡ length (part_lines s d.listing) → length out' ≡ length out
-    → out' ≡ part_lines s d.listing ++ drop put out
+pub serves_part : (s : List ℕ) (d : Desk) (input out out' : List ℕ) (l : Listing) (left : Option Listing) (put : ℕ) → d.listing ≡ Some l
+    → left ≡ listing_after s l → put ≡ length (part_lines s l) → length out' ≡ length out → out' ≡ part_lines s l ++ drop put out
     → Serves s d input out s out' (record { desk = record { line = d.line; held = d.held; listing = left }; taken = 0; put = put })
 unfolding rest_of line_of
-serves_part s d input out out' left put active e len same o =
-    let X = part_lines s d.listing in
+serves_part s d input out out' l left put is e len same o =
+    let X = part_lines s l in
     let front : take put out' ≡ X = ap (take put) o ∙ take_at X _ put (sym len) in
     record {
       taken = omega arith;
       put = omega (arith, ap length o, length-append X (drop put out));
       says = λ more.
-          ap (λ (bs : List ℕ). before bs (served s (take d.held d.line) (input ++ more))) (carried_turn s d.listing active)
-          ∙ before_twice X (carried s (listing_after s d.listing)) _
-          ∙ ap
-          (λ (bs : List ℕ). before bs (before (carried s (listing_after s d.listing)) (served s (take d.held d.line) (input ++ more))))
-          (sym front)
-          ∙ ap (λ (x : Listing). before (take put out') (before (carried s x) (served s (take d.held d.line) (input ++ more)))) (sym e);
+          ap (λ (bs : List ℕ). before bs (served s (take d.held d.line) (input ++ more))) (ap (carried s) is ∙ carried_turn s l)
+          ∙ before_twice X (carried s (listing_after s l)) _
+          ∙ ap (λ (bs : List ℕ). before bs (before (carried s (listing_after s l)) (served s (take d.held d.line) (input ++ more)))) (sym front)
+          ∙ ap (λ (x : Option Listing). before (take put out') (before (carried s x) (served s (take d.held d.line) (input ++ more)))) (sym e);
       long = same;
       stays = ap (drop put) o ∙ drop_at X _ put (sym len);
     }
@@ -287,28 +285,27 @@ flag_most false = omega arith
 
 to_do_most : (d : Desk) → to_do d ≤ 1
 unfolding to_do
-to_do_most d = flag_most d.listing.active
+to_do_most d = flag_most (is_some d.listing)
 
-to_do_one : (d : Desk) → d.listing.active ≡ true → to_do d ≡ 1
+to_do_one : (d : Desk) (l : Listing) → d.listing ≡ Some l → to_do d ≡ 1
 unfolding to_do
-to_do_one d e = ap flag e
+to_do_one d l e = ap (λ (o : Option Listing). flag (is_some o)) e
 
-to_do_none : (d : Desk) → d.listing.active ≡ false → to_do d ≡ 0
+to_do_none : (d : Desk) → d.listing ≡ None → to_do d ≡ 0
 unfolding to_do
-to_do_none d e = ap flag e
+to_do_none d e = ap (λ (o : Option Listing). flag (is_some o)) e
 
 pub line_gets_on : (d : Desk) (r : Progress) → 1 ≤ r.taken → GetsOn d r
 line_gets_on d r h = omega (arith, to_do_most r.desk)
 
-pub part_gets_on : (s : List ℕ) (d : Desk) (left : Listing) (put : ℕ) → d.listing.high < 2 ^ 32 → d.listing.active ≡ true
-    → left ≡ listing_after s d.listing → put ≡ length (part_lines s d.listing)
+pub part_gets_on : (s : List ℕ) (d : Desk) (l : Listing) (left : Option Listing) (put : ℕ) → l.high < 2 ^ 32 → d.listing ≡ Some l
+    → left ≡ listing_after s l → put ≡ length (part_lines s l)
     → GetsOn d (record { desk = record { line = d.line; held = d.held; listing = left }; taken = 0; put = put })
-part_gets_on s d left put narrow active e len =
-    let l = d.listing in
+part_gets_on s d l left put narrow is e len =
     let next : Desk = record { line = d.line; held = d.held; listing = left } in
     elim (ℕ_discrete (part_of s l.at l.high).reply.more 0) [
-      | yes m ↦ omega (arith, to_do_one d active, to_do_none next (ap (λ (x : Listing). x.active) (e ∙ after_last s l m)))
-      | no m ↦ omega (arith, to_do_one d active, to_do_most next, lines_some s l narrow m)
+      | yes m ↦ omega (arith, to_do_one d l is, to_do_none next (e ∙ after_last s l m))
+      | no m ↦ omega (arith, to_do_one d l is, to_do_most next, lines_some s l narrow m)
     ]
 
 -- turn after turn
@@ -322,24 +319,27 @@ part_from xs n = take_all (length xs - n) (drop n xs) (simp length-drop (omega a
 pub part_long_lem : (xs : List ℕ) (n : ℕ) → length (take (length xs - n) (drop n xs)) ≡ length xs - n
 part_long_lem xs n = ap length (part_from xs n) ∙ length-drop n xs
 
-pub goes_on_over : (d : Desk) (left room : ℕ) → goes_on d left room ≡ false
-    → (room < part_bytes) ⊎ ((d.listing.active ≡ false) × (left ≡ 0))
+is_none_lem : (o : Option Listing) → is_some o ≡ false → o ≡ None
+is_none_lem None e = refl
+is_none_lem (Some l) e = absurd (false≢true (sym e))
+
+pub goes_on_over : (d : Desk) (left room : ℕ) → goes_on d left room ≡ false → (room < part_bytes) ⊎ ((d.listing ≡ None) × (left ≡ 0))
 unfolding goes_on
 goes_on_over d left room e =
     by_cases (leb part_bytes room)
     (λ r.
-    by_cases d.listing.active
+    by_cases (is_some d.listing)
     (λ a. absurd (false≢true (sym e ∙ rw (r, a))))
-    (λ a. inr (a, omega (arith, ltb-false 0 left (sym (rw (r, a)) ∙ e)))))
+    (λ a. inr (is_none_lem d.listing a, omega (arith, ltb-false 0 left (sym (rw (r, a)) ∙ e)))))
     (λ r. inl (leb-false part_bytes room r))
 
 pub goes_on_room : (d : Desk) (left room : ℕ) → goes_on d left room ≡ true
-    → (part_bytes ≤ room) × ((d.listing.active ≡ true) ⊎ (1 ≤ left))
+    → (part_bytes ≤ room) × ((is_some d.listing ≡ true) ⊎ (1 ≤ left))
 unfolding goes_on
 goes_on_room d left room e =
-    let a = and_true (leb part_bytes room) (d.listing.active || ltb 0 left) e in (
+    let a = and_true (leb part_bytes room) (is_some d.listing || ltb 0 left) e in (
       leb-true part_bytes room a.0,
-      by_cases d.listing.active (λ l. inl l) (λ l. inr (omega (arith, ltb-true 0 left (sym (rw l) ∙ a.1)))),
+      by_cases (is_some d.listing) (λ l. inl l) (λ l. inr (omega (arith, ltb-true 0 left (sym (rw l) ∙ a.1)))),
     )
 
 -- one turn more
@@ -376,20 +376,6 @@ module _ (s : List ℕ) (d : Desk) (input out t o u part o' : List ℕ) (r q : P
             sym (drop-drop q.put r.put o') ∙ ap (drop q.put) (ap (drop r.put) whole ∙ drop_at (take r.put o) part r.put len)
             ∙ step.stays ∙ ap (drop q.put) (part_from o r.put ∙ done.stays) ∙ drop-drop q.put r.put out;
       }
-
--- the test of the loop
-
-pub no_room : (d : Desk) (left room : ℕ) → room < part_bytes → false ≡ goes_on d left room
-unfolding goes_on
-no_room d left room h = rw (lt-leb part_bytes room h)
-
-pub listing_goes : (d : Desk) (left room : ℕ) → part_bytes ≤ room → d.listing.active ≡ true → true ≡ goes_on d left room
-unfolding goes_on
-listing_goes d left room h e = rw (le-leb part_bytes room h, e)
-
-pub input_goes : (d : Desk) (left room : ℕ) → part_bytes ≤ room → d.listing.active ≡ false → ltb 0 left ≡ goes_on d left room
-unfolding goes_on
-input_goes d left room h e = rw (le-leb part_bytes room h, e)
 
 -- the loop's end
 

@@ -5,17 +5,18 @@
 --   set_up_reply θ C N P == what set-up replies in a slice of store_words words; after_set_up: the register after it
 --   dump_lines m        == the lines of the register m written out
 --   range_lines S low high == the lines of the records of S from low to high, and the last line; one line where low is above high
---   reckoned r q       == the answer to the request q
+--   reckoned r q       == the answer to the request q; reckoned_line r q: to what a line makes, none where it is wrong
 --   reckonings r line input, reckoning input == what is replied to the input, line by line
 --   registers r line input, register_after input == the register after the input
 --   Stands s r         == the words s are those of the register r
 --   Clerk              == the program's transcript is what the clerk replies
 --   StandsAfter        == after any input the program's words are all zero or hold the clerk's register
 --   OneListing         == the parts of a range make the one listing, however many records a part has
-use Rattle.std.specs.Prelude.{◌≡◌, true, false, List, [], ◌∷◌, ◌++◌, ℕ, ◌^◌, ◌≤◌, ◌<◌, leb, ltb, eqb, length, replicate}
+use Rattle.std.specs.Prelude.{◌≡◌, true, false, Option, Some, None, List, [], ◌∷◌, ◌++◌, ℕ, ◌^◌, ◌≤◌, ◌<◌, leb, ltb, eqb, length, replicate}
 use Rattle.tree.specs.Book.{entered}
 use Rattle.lines.specs.declared.Request.{Request}
-use Rattle.lines.specs.declared.Request.TheVariants.{SetUp, Enter, Find, Next, Range, Summary, Dump, Remove, Wrong}
+use Rattle.lines.specs.declared.Request.TheVariants.{SetUp, Enter, Find, Next, Range, Summary, Dump, Remove}
+use Rattle.lines.specs.declared.Kind.TheVariants as kinds
 use Rattle.lines.specs.declared.Reply.TheVariants.{RangeEnd, Refused, SetUpLine, WrongLine}
 use Rattle.lines.specs.Request.{parsed}
 use Rattle.lines.specs.Reply.{line_feed, reply_line}
@@ -59,7 +60,7 @@ after_set_up θ C N P r = elim (eqb (set_up_reply θ C N P).number 0) [ true ↦
 unfoldable pub range_lines : List Item → ℕ → ℕ → List ℕ
 range_lines S low high =
     elim (ltb high low) [
-      | true ↦ reply_line (Refused 4 7)
+      | true ↦ reply_line (Refused kinds.Range 7)
       | false ↦ listed_lines false (within low high S) ++ reply_line (RangeEnd (length (within low high S)))
     ]
 
@@ -72,34 +73,37 @@ dump_lines m =
 -- on a store that nobody has set up every request but set-up gets 3
 unfoldable pub reckoned : Register → Request → Reckoned
 reckoned r (SetUp θ C N P) = record { bytes = reply_line (set_up_told (set_up_reply θ C N P)); register = after_set_up θ C N P r }
-reckoned unset (Enter k p l d) = record { bytes = reply_line (Refused 1 3); register = unset }
-reckoned unset (Find k) = record { bytes = reply_line (Refused 2 3); register = unset }
-reckoned unset (Next k) = record { bytes = reply_line (Refused 3 3); register = unset }
-reckoned unset (Range low high) = record { bytes = reply_line (Refused 4 3); register = unset }
-reckoned unset (Summary low high today) = record { bytes = reply_line (Refused 5 3); register = unset }
-reckoned unset Dump = record { bytes = reply_line (Refused 6 3); register = unset }
-reckoned unset (Remove k) = record { bytes = reply_line (Refused 7 3); register = unset }
+reckoned unset (Enter k p l d) = record { bytes = reply_line (Refused kinds.Enter 3); register = unset }
+reckoned unset (Find k) = record { bytes = reply_line (Refused kinds.Find 3); register = unset }
+reckoned unset (Next k) = record { bytes = reply_line (Refused kinds.Next 3); register = unset }
+reckoned unset (Range low high) = record { bytes = reply_line (Refused kinds.Range 3); register = unset }
+reckoned unset (Summary low high today) = record { bytes = reply_line (Refused kinds.Summary 3); register = unset }
+reckoned unset Dump = record { bytes = reply_line (Refused kinds.Dump 3); register = unset }
+reckoned unset (Remove k) = record { bytes = reply_line (Refused kinds.Remove 3); register = unset }
 reckoned (holding m) (Enter k p l d) =
     let it : Item = record { key = k; price = p; lease = l; last = d } in
     record {
       bytes = reply_line (enter_told (entered (schema_of Plots) m.sizes m.held it).reply);
       register = holding (enter_in Plots it m).model;
     }
-reckoned (holding m) (Find k) = record { bytes = reply_line (found_told 2 (find_in m.held k)); register = holding m }
-reckoned (holding m) (Next k) = record { bytes = reply_line (found_told 3 (next_in m.held k)); register = holding m }
+reckoned (holding m) (Find k) = record { bytes = reply_line (found_told kinds.Find (find_in m.held k)); register = holding m }
+reckoned (holding m) (Next k) = record { bytes = reply_line (found_told kinds.Next (next_in m.held k)); register = holding m }
 reckoned (holding m) (Range low high) = record { bytes = range_lines m.held low high; register = holding m }
 reckoned (holding m) (Summary low high today) =
     record { bytes = reply_line (summary_told (summary_in m.held low high today)); register = holding m }
 reckoned (holding m) Dump = record { bytes = dump_lines m; register = holding m }
 reckoned (holding m) (Remove k) =
-    record { bytes = reply_line (found_told 7 (find_in m.held k)); register = holding (remove_in k m).model }
-reckoned r Wrong = record { bytes = reply_line WrongLine; register = r }
+    record { bytes = reply_line (found_told kinds.Remove (find_in m.held k)); register = holding (remove_in k m).model }
+
+abbrev pub reckoned_line : Register → Option Request → Reckoned
+reckoned_line r (Some q) = reckoned r q
+reckoned_line r None = record { bytes = reply_line WrongLine; register = r }
 
 unfoldable pub reckonings : Register → List ℕ → List ℕ → List ℕ
 reckonings r line [] = ending line
 reckonings r line (b ∷ bs) =
     elim (eqb b line_feed) [
-      | true ↦ (reckoned r (parsed line)).bytes ++ reckonings (reckoned r (parsed line)).register [] bs
+      | true ↦ (reckoned_line r (parsed line)).bytes ++ reckonings (reckoned_line r (parsed line)).register [] bs
       | false ↦ reckonings r (line ++ b ∷ []) bs
     ]
 
@@ -111,7 +115,7 @@ unfoldable pub registers : Register → List ℕ → List ℕ → Register
 registers r line [] = r
 registers r line (b ∷ bs) =
     elim (eqb b line_feed) [
-      | true ↦ registers (reckoned r (parsed line)).register [] bs
+      | true ↦ registers (reckoned_line r (parsed line)).register [] bs
       | false ↦ registers r (line ++ b ∷ []) bs
     ]
 

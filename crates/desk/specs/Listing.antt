@@ -5,18 +5,19 @@
 --   part_of s low high    == one call of range on the store s, with room for a part
 --   part_items s low high == the records that it writes
 --   item_from ws at       == the record whose words stand at an index; items_of n ws: n records, one after another
---   surveyed s low high  == what all the calls together give: the number that refuses one of them, else 0 and the records counted
+--   surveyed s low high  == what all the calls together give: the records counted, or the number that refuses one of them
 --   counted n a, survey_from fuel s low high == n records in front of a survey; the survey with so many calls at most
 --   survey_of p n         == the survey whose last call gave p, after n records in all
---   no_listing            == no listing is open
---   part_lines s l, listing_after s l == the bytes of the next part of the listing l, and what is left of the listing after it
---   kind_listed dump      == the kind of a listing: 4 of a range, 6 of the register
+--   part_lines s l, listing_after s l == the bytes of the next part of the listing l, and what is left of the listing after it, if anything is
+--   kind_listed dump      == the kind of a listing: of a range, or of the register
 --   last_line dump count  == the line after the records: of a range the count, of the register none
 --   part_end dump more count == the same, if no key is left
---   carried s l          == the bytes of what is left of the listing l, part after part
+--   carried s l          == the bytes of what is left of a listing l, part after part; none where no listing is open
 --   carried_from fuel s l == the same with so many parts at most
-use Rattle.std.specs.Prelude.{Bool, true, false, List, [], ◌++◌, ℕ, zero, suc, ◌+◌, ◌-◌, ◌*◌, eqb, get_or, replicate}
+use Rattle.std.specs.Prelude.{Bool, true, false, Option, Some, None, Result, Ok, Err, List, [], ◌++◌, ℕ, zero, suc, ◌+◌, ◌-◌, ◌*◌, eqb, get_or, replicate}
 use Rattle.lists.specs.Lists.{tab}
+use Rattle.lines.specs.declared.Kind.{Kind}
+use Rattle.lines.specs.declared.Kind.TheVariants as kinds
 use Rattle.lines.specs.declared.Reply.TheVariants.{RangeEnd, Refused}
 use Rattle.lines.specs.Reply.{reply_line}
 use Rattle.store.specs.declared.Format.TheVariants.{Plots}
@@ -24,7 +25,6 @@ use Rattle.store.specs.declared.Item.{Item}
 use Rattle.store.specs.Head.{head_of}
 use Rattle.scan.specs.Range.{RangeReply, After, ranged, range_of}
 use Rattle.desk.specs.declared.Piece.{Piece}
-use Rattle.desk.specs.declared.Survey.{Survey}
 use Rattle.desk.specs.declared.Listing.{Listing}
 use Rattle.desk.specs.Replies.{listed_lines}
 
@@ -50,31 +50,29 @@ item_from ws at = record { key = get_or ws at 0; price = get_or ws (at + 1) 0; l
 unfoldable pub items_of : ℕ → List ℕ → List Item
 items_of n ws = tab n (λ i. item_from ws (4 * i))
 
-unfoldable pub counted : ℕ → Survey → Survey
-counted n a = elim (eqb a.number 0) [ true ↦ record { number = 0; count = n + a.count } | false ↦ a ]
+abbrev pub counted : ℕ → Result ℕ ℕ → Result ℕ ℕ
+counted n (Ok count) = Ok (n + count)
+counted n (Err number) = Err number
 
-unfoldable pub survey_of : RangeReply → ℕ → Survey
-survey_of p n = elim (eqb p.number 0) [ true ↦ record { number = 0; count = n } | false ↦ record { number = p.number; count = 0 } ]
+unfoldable pub survey_of : RangeReply → ℕ → Result ℕ ℕ
+survey_of p n = elim (eqb p.number 0) [ true ↦ Ok n | false ↦ Err p.number ]
 
 -- (each call that names a key is followed by one from that key, which is larger: there are at most so many calls as keys; a refused one
 -- names none)
-unfoldable pub survey_from : ℕ → List ℕ → ℕ → ℕ → Survey
-survey_from zero s low high = record { number = 0; count = 0 }
+unfoldable pub survey_from : ℕ → List ℕ → ℕ → ℕ → Result ℕ ℕ
+survey_from zero s low high = Ok 0
 survey_from (suc fuel) s low high =
     elim (eqb (part_of s low high).reply.more 0) [
       | true ↦ survey_of (part_of s low high).reply (part_of s low high).reply.count
       | false ↦ counted (part_of s low high).reply.count (survey_from fuel s (part_of s low high).reply.more high)
     ]
 
-unfoldable pub surveyed : List ℕ → ℕ → ℕ → Survey
+unfoldable pub surveyed : List ℕ → ℕ → ℕ → Result ℕ ℕ
 surveyed s low high = survey_from (suc (high - low)) s low high
 
-abbrev pub no_listing : Listing
-no_listing = record { active = false; dump = false; at = 0; high = 0; count = 0 }
-
-abbrev pub kind_listed : Bool → ℕ
-kind_listed false = 4
-kind_listed true = 6
+abbrev pub kind_listed : Bool → Kind
+kind_listed false = kinds.Range
+kind_listed true = kinds.Dump
 
 -- "Range gives a line a record, then answer 1 with the count."
 unfoldable pub last_line : Bool → ℕ → List ℕ
@@ -91,21 +89,18 @@ part_lines s l =
       | false ↦ reply_line (Refused (kind_listed l.dump) (part_of s l.at l.high).reply.number)
     ]
 
-unfoldable pub listing_after : List ℕ → Listing → Listing
+unfoldable pub listing_after : List ℕ → Listing → Option Listing
 listing_after s l =
     elim (eqb (part_of s l.at l.high).reply.more 0) [
-      | true ↦ no_listing
-      | false ↦
-          record { active = true; dump = l.dump; at = (part_of s l.at l.high).reply.more; high = l.high; count = l.count }
+      | true ↦ None
+      | false ↦ Some (record { dump = l.dump; at = (part_of s l.at l.high).reply.more; high = l.high; count = l.count })
     ]
 
-unfoldable pub carried_from : ℕ → List ℕ → Listing → List ℕ
+unfoldable pub carried_from : ℕ → List ℕ → Option Listing → List ℕ
 carried_from zero s l = []
-carried_from (suc fuel) s l =
-    elim l.active [
-      | true ↦ part_lines s l ++ carried_from fuel s (listing_after s l)
-      | false ↦ []
-    ]
+carried_from (suc fuel) s None = []
+carried_from (suc fuel) s (Some l) = part_lines s l ++ carried_from fuel s (listing_after s l)
 
-unfoldable pub carried : List ℕ → Listing → List ℕ
-carried s l = carried_from (suc (l.high - l.at)) s l
+unfoldable pub carried : List ℕ → Option Listing → List ℕ
+carried s None = []
+carried s (Some l) = carried_from (suc (l.high - l.at)) s (Some l)

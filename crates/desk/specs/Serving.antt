@@ -15,14 +15,14 @@
 --                        they take all of it, put the bytes, and leave the words t and the desk e
 --   Delivered         == however the input comes and the output goes, the bytes put, with the reply to an unfinished line, are the transcript
 --   EndPut            == finish puts that reply
-use Rattle.std.specs.Prelude.{◌≡◌, Bool, true, false, ◌&&◌, ◌||◌, List, [], ◌∷◌, ◌++◌, ◌⊎◌, ℕ, suc, ◌+◌, ◌*◌, ◌≤◌, ◌<◌, leb, ltb, eqb, length, take, drop, replicate}
+use Rattle.std.specs.Prelude.{◌≡◌, None, is_some, Bool, true, false, ◌&&◌, ◌||◌, List, [], ◌∷◌, ◌++◌, ◌⊎◌, ℕ, suc, ◌+◌, ◌*◌, ◌≤◌, ◌<◌, leb, ltb, eqb, length, take, drop, replicate}
 use Rattle.lines.specs.declared.Reply.TheVariants.{WrongLine}
 use Rattle.lines.specs.Request.{parsed}
 use Rattle.lines.specs.Reply.{line_feed, After, written}
 use Rattle.desk.specs.declared.Desk.{Desk}
 use Rattle.desk.specs.declared.Progress.{Progress}
-use Rattle.desk.specs.Listing.{part_bytes, no_listing, carried}
-use Rattle.desk.specs.Transcript.{answered, outcome_bytes, Served, before, ending, served, store_words, transcript}
+use Rattle.desk.specs.Listing.{part_bytes, carried}
+use Rattle.desk.specs.Transcript.{answered_line, outcome_bytes, Served, before, ending, served, store_words, transcript}
 
 unfoldable pub line_of : Desk → List ℕ
 line_of d = take d.held d.line
@@ -39,10 +39,10 @@ kept_line bs = take 43 bs
 
 -- whether there is something to do, and room for it
 unfoldable pub goes_on : Desk → ℕ → ℕ → Bool
-goes_on d left room = leb part_bytes room && (d.listing.active || ltb 0 left)
+goes_on d left room = leb part_bytes room && (is_some d.listing || ltb 0 left)
 
 unfoldable pub to_do : Desk → ℕ
-to_do d = elim d.listing.active [ true ↦ 1 | false ↦ 0 ]
+to_do d = elim (is_some d.listing) [ true ↦ 1 | false ↦ 0 ]
 
 -- (the listing of an empty register has no line)
 abbrev pub GetsOn : Desk → Progress → Type 0
@@ -50,8 +50,8 @@ GetsOn d r = to_do r.desk < 2 * (r.taken + r.put) + to_do d
 
 -- the line l is answered: what is put, and the listing that is opened, are its outcome
 pub record Answers (s l : List ℕ) (n : ℕ) (out : List ℕ) (t out' : List ℕ) (r : Progress) : Type 0 where
-  pub words : t ≡ (answered s (parsed l)).words
-  pub says : outcome_bytes t (answered s (parsed l)).outcome ≡ take r.put out' ++ carried t r.desk.listing
+  pub words : t ≡ (answered_line s (parsed l)).words
+  pub says : outcome_bytes t (answered_line s (parsed l)).outcome ≡ take r.put out' ++ carried t r.desk.listing
   pub empty : line_of r.desk ≡ []
   pub taken : r.taken ≡ n
   pub put : r.put ≤ length out
@@ -69,7 +69,7 @@ pub record Serves (s : List ℕ) (d : Desk) (input out : List ℕ) (t out' : Lis
 
 abbrev pub Finishes : List ℕ → List ℕ → Progress → Type 0
 Finishes input out r =
-    ((r.taken ≡ length input) × (r.desk.listing.active ≡ false)) ⊎ (length out < r.put + part_bytes)
+    ((r.taken ≡ length input) × (r.desk.listing ≡ None)) ⊎ (length out < r.put + part_bytes)
 
 -- "Bytes after the last 0A are one wrong line."
 unfoldable pub finished : Desk → List ℕ → After
@@ -82,8 +82,8 @@ pub data Run : List ℕ → Desk → List ℕ → List ℕ → List ℕ → Desk
 
 abbrev pub Delivered : Type 0
 Delivered =
-    (input bytes t : List ℕ) (d e : Desk) → line_of d ≡ [] → d.listing ≡ no_listing → Run (replicate store_words 0) d input bytes t e
-    → e.listing.active ≡ false → bytes ++ ending (line_of e) ≡ transcript input
+    (input bytes t : List ℕ) (d e : Desk) → line_of d ≡ [] → d.listing ≡ None → Run (replicate store_words 0) d input bytes t e
+    → e.listing ≡ None → bytes ++ ending (line_of e) ≡ transcript input
 
 abbrev pub EndPut : Type 0
 EndPut =

@@ -2,20 +2,21 @@
 
 #![tactic(auto)]
 
-ghost use Rattle.std.specs.Prelude.{◌≡◌, true, false, [], ◌++◌, ◌⊎◌, ◌+◌, ◌*◌, ◌^◌, ◌≤◌, ◌<◌, min, length, drop};
+ghost use Rattle.std.specs.Prelude.{◌≡◌, true, is_some, [], ◌++◌, ◌⊎◌, ◌+◌, ◌*◌, ◌^◌, ◌≤◌, ◌<◌, min, length, drop};
 ghost use Rattle.store.specs.declared.Format.TheVariants.{Plots};
 ghost use Rattle.store.specs.SetUp;
 ghost use Rattle.scan.specs.Range.{range_refused, range_of};
 ghost use Rattle.index.specs.Answers.{reply, enter_reply, range_reply, summary_reply};
+ghost use Rattle.lines.specs.Request.{parsed};
 ghost use Rattle.desk.specs.Replies.{set_up_told, enter_told, found_told, summary_told, listed_told, listed_lines};
-ghost use Rattle.desk.specs.Listing.{part_bytes, piece_reply, part_of, item_from, items_of, survey_of, surveyed, no_listing};
+ghost use Rattle.desk.specs.Listing.{part_bytes, piece_reply, part_of, item_from, items_of, survey_of, surveyed};
 ghost use Rattle.desk.specs.Listing.{kind_listed, last_line, part_lines, listing_after};
-ghost use Rattle.desk.specs.Transcript.{opened, dumped, answered};
+ghost use Rattle.desk.specs.Transcript.{opened, dumped, answered, answered_line};
 ghost use Rattle.desk.specs.Serving.{line_of, kept_line, until_feed, goes_on, GetsOn, Answers, Serves, Finishes};
 ghost use Rattle.desk.specs.Serving.{finished};
 
 use index::{EnterAnswer, FindAnswer, RangeAnswer, SummaryAnswer};
-use lines::{Reply, Request};
+use lines::{Kind, Reply, Request};
 use plot::Record;
 use store::SetUpAnswer;
 
@@ -26,7 +27,6 @@ pub const PART_BYTES: usize = 2925;
 // whole has.
 #[derive(Clone, Copy)]
 pub struct Listing {
-    pub active: bool,
     pub dump: bool,
     pub at: u32,
     pub high: u32,
@@ -39,13 +39,6 @@ pub struct Piece {
     pub number: u32,
     pub count: u32,
     pub more: u32,
-}
-
-// What the calls of a range in parts give together: the number that refuses one of them, else 0 and the records counted.
-#[derive(Clone, Copy)]
-pub struct Survey {
-    pub number: u32,
-    pub count: u32,
 }
 
 // What a request is answered with: one line, a listing in parts, or a line and then a listing.
@@ -62,7 +55,7 @@ pub enum Outcome {
 pub struct Desk {
     pub line: [u8; 43],
     pub held: usize,
-    pub listing: Listing,
+    pub listing: Option<Listing>,
 }
 
 // The desk after some bytes of input, how many were taken, and how many bytes of output were put.
@@ -73,16 +66,18 @@ pub struct Progress {
     pub put: usize,
 }
 
+#[tactic(auto, unfolding(crate::specs::Replies::told, crate::specs::Replies::set_up_told))]
 fn set_up_told(a: SetUpAnswer) -> Reply
     ensures { result ≡ set_up_told (SetUp.reply a) }
 {
     match a {
         SetUpAnswer::Done(size) => Reply::SetUpDone(size),
-        SetUpAnswer::OutsideLimits => Reply::Refused(0, 4),
-        SetUpAnswer::TooShort => Reply::Refused(0, 5),
+        SetUpAnswer::OutsideLimits => Reply::Refused(Kind::SetUp, 4),
+        SetUpAnswer::TooShort => Reply::Refused(Kind::SetUp, 5),
     }
 }
 
+#[tactic(auto, unfolding(crate::specs::Replies::told, crate::specs::Replies::enter_told))]
 fn enter_told(a: EnterAnswer) -> Reply
     ensures { result ≡ enter_told (enter_reply a) }
 {
@@ -90,16 +85,17 @@ fn enter_told(a: EnterAnswer) -> Reply
         EnterAnswer::Entered(key, levels, nodes, pages) => Reply::Entered(
             key, levels, nodes, pages,
         ),
-        EnterAnswer::EnterHeadBroken => Reply::Refused(1, 3),
-        EnterAnswer::RecordOutside => Reply::Refused(1, 6),
-        EnterAnswer::EnterDamaged => Reply::Refused(1, 9),
-        EnterAnswer::KeyHeld => Reply::Refused(1, 8),
-        EnterAnswer::NoBlocks => Reply::Refused(1, 10),
+        EnterAnswer::EnterHeadBroken => Reply::Refused(Kind::Enter, 3),
+        EnterAnswer::RecordOutside => Reply::Refused(Kind::Enter, 6),
+        EnterAnswer::EnterDamaged => Reply::Refused(Kind::Enter, 9),
+        EnterAnswer::KeyHeld => Reply::Refused(Kind::Enter, 8),
+        EnterAnswer::NoBlocks => Reply::Refused(Kind::Enter, 10),
     }
 }
 
 // The answer of find, next or remove, under its kind.
-fn found_told(kind: u32, a: FindAnswer) -> Reply
+#[tactic(auto, unfolding(crate::specs::Replies::told, crate::specs::Replies::found_told))]
+fn found_told(kind: Kind, a: FindAnswer) -> Reply
     ensures { result ≡ found_told kind (reply a) }
 {
     match a {
@@ -110,16 +106,17 @@ fn found_told(kind: u32, a: FindAnswer) -> Reply
     }
 }
 
+#[tactic(auto, unfolding(crate::specs::Replies::told, crate::specs::Replies::summary_told))]
 fn summary_told(a: SummaryAnswer) -> Reply
     requires { (summary_reply a).count < 2 ^ 32 }
     ensures { result ≡ summary_told (summary_reply a) }
 {
     match a {
         SummaryAnswer::Summed(count, total, key) => Reply::Totals(count as u32, total, key),
-        SummaryAnswer::SummaryHeadBroken => Reply::Refused(5, 3),
-        SummaryAnswer::SummaryLowAboveHigh => Reply::Refused(5, 7),
-        SummaryAnswer::TodayOutside => Reply::Refused(5, 6),
-        SummaryAnswer::SummaryDamaged => Reply::Refused(5, 9),
+        SummaryAnswer::SummaryHeadBroken => Reply::Refused(Kind::Summary, 3),
+        SummaryAnswer::SummaryLowAboveHigh => Reply::Refused(Kind::Summary, 7),
+        SummaryAnswer::TodayOutside => Reply::Refused(Kind::Summary, 6),
+        SummaryAnswer::SummaryDamaged => Reply::Refused(Kind::Summary, 9),
     }
 }
 
@@ -168,21 +165,20 @@ fn probe(store: &[u32], low: u32, high: u32) -> Piece
     read_part(store, low, high, &mut part)
 }
 
-// The end of a survey: its last call, and the records counted in all.
-fn survey_of(p: Piece, count: u32) -> Survey
+// The end of a survey: the records counted in all, or the number that refuses the last call.
+#[tactic(auto, unfolding(crate::specs::Listing::survey_of))]
+fn survey_of(p: Piece, count: u32) -> Result<u32, u32>
     ensures { result ≡ survey_of (piece_reply p) count }
 {
     if p.number == 0 {
-        return Survey { number: 0, count };
-    }
-    Survey {
-        number: p.number,
-        count: 0,
+        Ok(count)
+    } else {
+        Err(p.number)
     }
 }
 
-// Calls range from the first key not written, as long as one is named, and counts the records.
-fn count_range(store: &[u32], low: u32, high: u32) -> Survey
+// Calls range from the first key not written, as long as one is named, and counts the records; or gives the number that refuses a call.
+fn count_range(store: &[u32], low: u32, high: u32) -> Result<u32, u32>
     ensures { result ≡ surveyed store.now low high }
 {
     let mut p = probe(store, low, high);
@@ -194,62 +190,46 @@ fn count_range(store: &[u32], low: u32, high: u32) -> Survey
     survey_of(p, count)
 }
 
-// No listing is open.
-fn no_listing() -> Listing
-    ensures { result ≡ no_listing }
-{
-    Listing {
-        active: false,
-        dump: false,
-        at: 0,
-        high: 0,
-        count: 0,
-    }
-}
-
 // A range: refused with one line, or counted and then listed from low on.
 fn open_range(store: &[u32], low: u32, high: u32) -> Outcome
     ensures { result ≡ opened store.now low high }
 {
-    let a = count_range(store, low, high);
-    if a.number == 0 {
-        return Outcome::Parts(Listing {
-            active: true,
+    match count_range(store, low, high) {
+        Ok(count) => Outcome::Parts(Listing {
             dump: false,
             at: low,
             high,
-            count: a.count,
-        });
+            count,
+        }),
+        Err(number) => Outcome::Line(Reply::Refused(Kind::Range, number)),
     }
-    Outcome::Line(Reply::Refused(4, a.number))
 }
 
 // The register written out: refused with one line, or counted and then a line with the sizes and the listing.
 fn open_dump(store: &[u32]) -> Outcome
     ensures { result ≡ dumped store.now }
 {
-    let a = count_range(store, 1, 4294967295);
-    if a.number != 0 {
-        return Outcome::Line(Reply::Refused(6, a.number));
-    }
-    Outcome::Register(
-        Reply::SetUpLine(
-            store::word(store, 0),
-            store::word(store, 1),
-            store::word(store, 2),
-            store::word(store, 3),
+    match count_range(store, 1, 4294967295) {
+        Ok(count) => Outcome::Register(
+            Reply::SetUpLine(
+                store::word(store, 0),
+                store::word(store, 1),
+                store::word(store, 2),
+                store::word(store, 3),
+            ),
+            Listing {
+                dump: true,
+                at: 1,
+                high: 4294967295,
+                count,
+            },
         ),
-        Listing {
-            active: true,
-            dump: true,
-            at: 1,
-            high: 4294967295,
-            count: a.count,
-        },
-    )
+        Err(number) => Outcome::Line(Reply::Refused(Kind::Dump, number)),
+    }
 }
 
 // Answers a request.
+#[tactic(auto, unfolding(crate::specs::Transcript::answered))]
 pub fn answer(store: &mut [u32], request: Request) -> Outcome
     ensures { (result ≡ (answered store.old request).outcome)
         × (store.new ≡ (answered store.old request).words) }
@@ -267,15 +247,14 @@ pub fn answer(store: &mut [u32], request: Request) -> Outcome
                 last,
             },
         ))),
-        Request::Find(key) => Outcome::Line(found_told(2, index::find(store, key))),
-        Request::Next(key) => Outcome::Line(found_told(3, index::next(store, key))),
+        Request::Find(key) => Outcome::Line(found_told(Kind::Find, index::find(store, key))),
+        Request::Next(key) => Outcome::Line(found_told(Kind::Next, index::next(store, key))),
         Request::Range(low, high) => open_range(store, low, high),
         Request::Summary(low, high, today) => {
             Outcome::Line(summary_told(index::summary(store, low, high, today)))
         }
         Request::Dump => open_dump(store),
-        Request::Remove(key) => Outcome::Line(found_told(7, index::remove(store, key))),
-        Request::Wrong => Outcome::Line(Reply::WrongLine),
+        Request::Remove(key) => Outcome::Line(found_told(Kind::Remove, index::remove(store, key))),
     }
 }
 
@@ -296,24 +275,21 @@ fn write_records(words: &[u32], dump: bool, n: u32, out: &mut [u8]) -> usize
     ensures { (result ≡ length (listed_lines dump (items_of n words.now))) × (result ≤ 45 * n)
         × (out.new ≡ listed_lines dump (items_of n words.now) ++ drop result out.old) }
 {
-    let mut i: u32 = 0;
-    let mut from: usize = 0;
     let mut at: usize = 0;
-    while i < n {
-        at += lines::write(&mut out[at..], record_told(words, from, dump));
-        from += 4;
-        i += 1;
+    for i in 0..n as usize {
+        at += lines::write(&mut out[at..], record_told(words, 4 * i, dump));
     }
     at
 }
 
-fn kind_listed(dump: bool) -> u32
+fn kind_listed(dump: bool) -> Kind
     ensures { result ≡ kind_listed dump }
 {
-    if dump { 6 } else { 4 }
+    if dump { Kind::Dump } else { Kind::Range }
 }
 
 // Puts the line after the records of a listing, none after those of the register, and says how many bytes it has.
+#[tactic(auto, unfolding(crate::specs::Listing::last_line))]
 fn put_last(dump: bool, count: u32, out: &mut [u8]) -> usize
     requires { 45 ≤ length out.old }
     ensures { (result ≡ length (last_line dump count)) × (result ≤ 45) × (out.new ≡ last_line dump count ++ drop result out.old) }
@@ -327,7 +303,7 @@ fn put_last(dump: bool, count: u32, out: &mut [u8]) -> usize
 // What is left of a listing, and how many bytes of it were put.
 #[derive(Clone, Copy)]
 pub struct Listed {
-    pub listing: Listing,
+    pub listing: Option<Listing>,
     pub put: usize,
 }
 
@@ -341,27 +317,18 @@ fn list_part(store: &[u32], l: Listing, out: &mut [u8]) -> Listed
     let p = read_part(store, l.at, l.high, &mut part);
     if p.number != 0 {
         let put = lines::write(out, Reply::Refused(kind_listed(l.dump), p.number));
-        return Listed {
-            listing: no_listing(),
-            put,
-        };
+        return Listed { listing: None, put };
     }
     let put = write_records(&part, l.dump, p.count, out);
     if p.more != 0 {
         return Listed {
-            listing: Listing {
-                active: true,
-                dump: l.dump,
-                at: p.more,
-                high: l.high,
-                count: l.count,
-            },
+            listing: Some(Listing { at: p.more, ..l }),
             put,
         };
     }
     let end = put_last(l.dump, l.count, &mut out[put..]);
     Listed {
-        listing: no_listing(),
+        listing: None,
         put: put + end,
     }
 }
@@ -370,20 +337,10 @@ fn list_part(store: &[u32], l: Listing, out: &mut [u8]) -> Listed
 fn until_feed(input: &[u8]) -> usize
     ensures { (result ≡ until_feed input.now) × (result ≤ length input.now) }
 {
-    let mut i: usize = 0;
-    while i < input.len() {
-        if input[i] == b'\n' {
-            return i;
-        }
-        i += 1;
-    }
-    i
-}
-
-fn least(a: usize, b: usize) -> usize
-    ensures { result ≡ min a b }
-{
-    if a < b { a } else { b }
+    input
+        .iter()
+        .position(|b| *b == b'\n')
+        .unwrap_or(input.len())
 }
 
 // The desk with more bytes of its line; of a line that is too long only as many as show that.
@@ -391,29 +348,36 @@ fn add_to(d: Desk, bytes: &[u8]) -> Desk
     ensures { (line_of result ≡ kept_line (line_of d ++ bytes.now)) × (result.listing ≡ d.listing) × (result.held ≤ 43) }
 {
     let mut line = d.line;
-    let held = least(d.held, 43);
-    let n = least(bytes.len(), 43 - held);
-    let mut k: usize = 0;
-    while k < n {
-        line[held + k] = bytes[k];
-        k += 1;
-    }
-    let listing = d.listing;
+    let held = d.held.min(43);
+    let n = bytes.len().min(43 - held);
+    line[held..held + n].copy_from_slice(&bytes[..n]);
     Desk {
         line,
         held: held + n,
-        listing,
+        listing: d.listing,
     }
 }
 
 // A desk that holds no byte of a line.
-fn fresh(listing: Listing) -> Desk
+#[tactic(auto, unfolding(crate::specs::Serving::line_of))]
+fn fresh(listing: Option<Listing>) -> Desk
     ensures { (line_of result ≡ []) × (result.listing ≡ listing) }
 {
     Desk {
         line: [0; 43],
         held: 0,
         listing,
+    }
+}
+
+// Answers a line; one that makes no request is wrong.
+fn outcome_of(store: &mut [u32], line: &[u8]) -> Outcome
+    ensures { (result ≡ (answered_line store.old (parsed line.now)).outcome)
+        × (store.new ≡ (answered_line store.old (parsed line.now)).words) }
+{
+    match lines::parse(line) {
+        Some(request) => answer(store, request),
+        None => Outcome::Line(Reply::WrongLine),
     }
 }
 
@@ -424,25 +388,24 @@ fn answer_line(store: &mut [u32], d: Desk, taken: usize, out: &mut [u8]) -> Prog
 {
     let line = d.line;
     let held = d.held;
-    let outcome = answer(store, lines::parse(&line[..held]));
-    match outcome {
+    match outcome_of(store, &line[..held]) {
         Outcome::Line(reply) => {
             let put = lines::write(out, reply);
             Progress {
-                desk: fresh(no_listing()),
+                desk: fresh(None),
                 taken,
                 put,
             }
         }
         Outcome::Parts(listing) => Progress {
-            desk: fresh(listing),
+            desk: fresh(Some(listing)),
             taken,
             put: 0,
         },
         Outcome::Register(reply, listing) => {
             let put = lines::write(out, reply);
             Progress {
-                desk: fresh(listing),
+                desk: fresh(Some(listing)),
                 taken,
                 put,
             }
@@ -452,7 +415,7 @@ fn answer_line(store: &mut [u32], d: Desk, taken: usize, out: &mut [u8]) -> Prog
 
 // Takes the bytes up to the end of a line, and answers it; or all, where no line ends.
 fn take_line(store: &mut [u32], d: Desk, input: &[u8], out: &mut [u8]) -> Progress
-    requires { (part_bytes ≤ length out.old) × (d.listing.active ≡ false) × (1 ≤ length input.now) }
+    requires { (part_bytes ≤ length out.old) × (d.listing ≡ None) × (1 ≤ length input.now) }
     ensures { Serves store.old d input.now out.old store.new out.new result
         × GetsOn d result }
 {
@@ -470,20 +433,16 @@ fn take_line(store: &mut [u32], d: Desk, input: &[u8], out: &mut [u8]) -> Progre
 
 // One turn: the next part of a listing, or the input up to the end of a line.
 fn turn(store: &mut [u32], d: Desk, input: &[u8], out: &mut [u8]) -> Progress
-    requires { (part_bytes ≤ length out.old) × ((d.listing.active ≡ true) ⊎ (1 ≤ length input.now)) }
+    requires { (part_bytes ≤ length out.old) × ((is_some d.listing ≡ true) ⊎ (1 ≤ length input.now)) }
     ensures { Serves store.old d input.now out.old store.new out.new result
         × GetsOn d result }
 {
-    let listing = d.listing;
-    if listing.active {
+    if let Some(listing) = d.listing {
         let p = list_part(store, listing, out);
-        let line = d.line;
-        let left = p.listing;
         return Progress {
             desk: Desk {
-                line,
-                held: d.held,
-                listing: left,
+                listing: p.listing,
+                ..d
             },
             taken: 0,
             put: p.put,
@@ -510,27 +469,22 @@ pub fn serve(store: &mut [u32], d: Desk, input: &[u8], out: &mut [u8]) -> Progre
 }
 
 // Whether there is something to do, and room for it.
+#[tactic(auto, unfolding(crate::specs::Serving::goes_on))]
 fn goes_on(d: Desk, left: usize, room: usize) -> bool
     ensures { result ≡ goes_on d left room }
 {
-    if room < PART_BYTES {
-        return false;
-    }
-    let listing = d.listing;
-    if listing.active {
-        return true;
-    }
-    left > 0
+    room >= PART_BYTES && (d.listing.is_some() || left > 0)
 }
 
 // A desk at which nothing is under way.
 pub fn start() -> Desk
-    ensures { (line_of result ≡ []) × (result.listing ≡ no_listing) }
+    ensures { (line_of result ≡ []) × (result.listing ≡ None) }
 {
-    fresh(no_listing())
+    fresh(None)
 }
 
 // Puts the reply to bytes after the last 0A, and says how many bytes it has.
+#[tactic(auto, unfolding(crate::specs::Serving::finished))]
 pub fn finish(d: Desk, out: &mut [u8]) -> usize
     ensures { (result ≡ (finished d out.old).count) × (out.new ≡ (finished d out.old).bytes) }
 {

@@ -4,48 +4,34 @@
 --   enter_reply a   == of enter
 --   range_reply a   == of range
 --   summary_reply a == of summary
+use Rattle.std.specs.Prelude.{Option, Some, None, Result, Ok, Err}
+use Rattle.answers.specs.declared.Refusal.{Refusal}
+use Rattle.answers.specs.Answers.{number}
+use Rattle.plot.specs.declared.Record.{Record}
 use Rattle.page.specs.Schema.{item_of}
 use Rattle.tree.specs.Book.{refused}
 use Rattle.search.specs.Find.{Reply, no_item}
 use Rattle.scan.specs.Range.{RangeReply, range_refused}
 use Rattle.scan.specs.Summary.{SummaryReply, summary_refused}
-use Rattle.index.specs.declared.FindAnswer.{FindAnswer}
-use Rattle.index.specs.declared.FindAnswer.TheVariants.{Found, NotFound, HeadBroken, DamageMet}
-use Rattle.index.specs.declared.EnterAnswer.{EnterAnswer}
-use Rattle.index.specs.declared.EnterAnswer.TheVariants.{Entered, EnterHeadBroken, RecordOutside, EnterDamaged, KeyHeld, NoBlocks}
-use Rattle.index.specs.declared.RangeAnswer.{RangeAnswer}
-use Rattle.index.specs.declared.RangeAnswer.TheVariants.{Listed, RangeHeadBroken, LowAboveHigh, RangeDamaged}
-use Rattle.index.specs.declared.SummaryAnswer.{SummaryAnswer}
-use Rattle.index.specs.declared.SummaryAnswer.TheVariants.{Summed, SummaryHeadBroken, SummaryLowAboveHigh}
-use Rattle.index.specs.declared.SummaryAnswer.TheVariants.{TodayOutside, SummaryDamaged}
+use Rattle.index.specs.declared.Entered.{Entered}
+use Rattle.index.specs.declared.Listing.{Listing}
+use Rattle.index.specs.declared.Summed.{Summed}
 
--- "Answer 1 is "none", 0 is done"; "head rule broken: 3"; "damaged block visited: 9"; zeros returned
-abbrev pub reply : FindAnswer → Reply
-reply (Found r) = record { number = 0; item = item_of r }
-reply NotFound = record { number = 1; item = no_item }
-reply HeadBroken = record { number = 3; item = no_item }
-reply DamageMet = record { number = 9; item = no_item }
+-- "Answer 1 is "none", 0 is done"; zeros returned
+abbrev pub reply : Result (Option Record) Refusal → Reply
+reply (Ok (Some r)) = record { number = 0; item = item_of r }
+reply (Ok None) = record { number = 1; item = no_item }
+reply (Err e) = record { number = number e; item = no_item }
 
--- "Enter gives key, levels, nodes taken, pages taken." (M-106: those in use); "record or today outside its limits: 6"; "key already held: 8"; "entry needs more
--- blocks than remain: 10"
-abbrev pub enter_reply : EnterAnswer → Rattle.tree.specs.Book.Reply
-enter_reply (Entered k l n p) = record { number = 0; key = k; levels = l; nodes = n; pages = p }
-enter_reply EnterHeadBroken = refused 3
-enter_reply RecordOutside = refused 6
-enter_reply EnterDamaged = refused 9
-enter_reply KeyHeld = refused 8
-enter_reply NoBlocks = refused 10
+-- "Enter gives key, levels, nodes taken, pages taken." (M-106: those in use); zeros for a refusal
+abbrev pub enter_reply : Result Entered Refusal → Rattle.tree.specs.Book.Reply
+enter_reply (Ok e) = record { number = 0; key = e.key; levels = e.levels; nodes = e.nodes; pages = e.pages }
+enter_reply (Err e) = refused (number e)
 
--- "low above high: 7"
-abbrev pub range_reply : RangeAnswer → RangeReply
-range_reply (Listed n k) = record { number = 0; count = n; more = k }
-range_reply RangeHeadBroken = range_refused 3
-range_reply LowAboveHigh = range_refused 7
-range_reply RangeDamaged = range_refused 9
+abbrev pub range_reply : Result Listing Refusal → RangeReply
+range_reply (Ok l) = record { number = 0; count = l.count; more = l.more }
+range_reply (Err e) = range_refused (number e)
 
-abbrev pub summary_reply : SummaryAnswer → SummaryReply
-summary_reply (Summed n t k) = record { number = 0; count = n; total = t; key = k }
-summary_reply SummaryHeadBroken = summary_refused 3
-summary_reply SummaryLowAboveHigh = summary_refused 7
-summary_reply TodayOutside = summary_refused 6
-summary_reply SummaryDamaged = summary_refused 9
+abbrev pub summary_reply : Result Summed Refusal → SummaryReply
+summary_reply (Ok s) = record { number = 0; count = s.count; total = s.total; key = s.key }
+summary_reply (Err e) = summary_refused (number e)

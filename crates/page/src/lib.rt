@@ -10,6 +10,13 @@ ghost use Rattle.page.specs.Page.{ordered, page_rule, agrees, above, first_above
 use plot::Record;
 use store::{Format, Item};
 
+// A reader stands at a record of a page.
+#[derive(Clone, Copy)]
+pub struct Reader<'a> {
+    pub page: &'a [u32],
+    pub at: usize,
+}
+
 // How many records a page says that it has.
 pub fn count_of(page: &[u32]) -> usize
     ensures { (result ≡ get_or page.now 0 0) × (result < 2 ^ 32) }
@@ -33,12 +40,26 @@ fn item_at(page: &[u32], f: Format, i: usize) -> Item
     }
 }
 
-// A record by its number, read where it stands in the page.
+impl<'a> Reader<'a> {
+    // One step: the record at the reader, which then stands at the next one.
+    fn step(&mut self, f: Format) -> Item
+        requires { (self.old.at < 2 ^ 32) × (words f * (self.old.at + 1) < length self.old.page.now) }
+        ensures { (result ≡ item_at f self.old.page.now self.old.at) × (result.key < 2 ^ width f)
+            × (self.new.page ≡ self.old.page) × (self.new.at ≡ self.old.at + 1) }
+    {
+        let item = item_at(self.page, f, self.at);
+        self.at += 1;
+        item
+    }
+}
+
+// A reader opened at a record, and one step.
 pub fn read_one(page: &[u32], f: Format, at: usize) -> Item
     requires { (at < 2 ^ 32) × (words f * (at + 1) < length page.now) }
     ensures { result ≡ item_at f page.now at }
 {
-    item_at(page, f, at)
+    let mut reader = Reader { page, at };
+    reader.step(f)
 }
 
 // Writes a record at the front of a part.
@@ -94,8 +115,8 @@ fn in_turn(f: Format, key: u64, item: Item) -> bool
     lawful_item(f, item) & key_below(f, key, item.key)
 }
 
-// Whether the first n records are lawful and their keys ascend: all are checked, so that no branch waits for a test. 0 is below every
-// lawful key.
+// Whether the first n records are lawful and their keys ascend: one reader goes through them, and all are checked, so that no branch waits
+// for a test. 0 is below every lawful key.
 #[tactic(auto, using(crate::proofs::Order::next))]
 fn in_order(page: &[u32], f: Format, n: usize) -> bool
     requires { (n < 2 ^ 32) × (words f * n < length page.now) }
@@ -103,8 +124,9 @@ fn in_order(page: &[u32], f: Format, n: usize) -> bool
 {
     let mut good = true;
     let mut key = 0;
-    for i in 0..n {
-        let item = item_at(page, f, i);
+    let mut reader = Reader { page, at: 0 };
+    for _i in 0..n {
+        let item = reader.step(f);
         good &= in_turn(f, key, item);
         key = item.key;
     }

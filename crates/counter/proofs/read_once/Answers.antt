@@ -1,16 +1,19 @@
--- Where bytes came, they are the chunk that is served; else nothing is.
-use Rattle.std.proofs.Common.{to_z, of_z, w64}
-use Rattle.counter.proofs.Laws.{told_none, told_some, whole_none, whole_counted}
+-- Where the read failed, nothing is done; else what came is served.
+use Rattle.std.proofs.Common.{arith, rules}
+use Rattle.counter.proofs.Laws.{turned_failed, none_read}
 use Rattle.counter.proofs.read_once.Goals as goal
 
-pub returns-then-got-le0-clause-told : goal.returns-then-got-le0-clause-told
-returns-then-got-le0-clause-told g c =
-    let r = c.read_some-got in
-    let got = to_z w64 (of_z w64 r.result) in
-    (told_none got c.if-got-le0.true, λ w. whole_none _ _ got r.new.input _ c.if-got-le0.true c.requires.1)
+pub returns-in_err-n-clause-came : goal.returns-in_err-n-clause-came
+returns-in_err-n-clause-came g c =
+    let e = c.in_err-n.ensures.came in
+    (0, omega arith, e.1, turned_failed _ _ _ _ c.requires.1 (search rules) (search rules))
 
-pub returns-clause-told : goal.returns-clause-told
-returns-clause-told g c = (
-  told_some _ _ c.if-got-le0.false,
-  λ w. whole_counted _ _ _ _ _ _ _ _ _ c.count-n.ensures.value (c.serve_chunk-c.ensures w),
-)
+pub returns-clause-came : goal.returns-clause-came
+returns-clause-came g c =
+    let e = c.in_ok-n.ensures.came in
+    (c.in_ok-n.n, e.0, e.1, c.serve_read.ensures.served)
+
+pub returns-clause-ended : goal.returns-clause-ended
+returns-clause-ended g c is some =
+    let e = c.in_ok-n.ensures.came in
+    e.2 (none_read _ _ _ _ _ _ _ _ c.serve_read.ensures.served is e.0) some

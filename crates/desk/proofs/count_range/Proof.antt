@@ -1,7 +1,7 @@
 -- After each call, the survey is the records counted so far with what the calls from the first key not written on give.
 use borrow.Author.Rules.{rules}
 use mathlib.Core.Path.{◌≡◌, sym, ap, ◌∙◌}
-use Prim.Native.Nat.{◌-◌, ◌≤◌, ◌<◌}
+use Prim.Native.Nat.{◌≤◌, ◌<◌}
 use native.Mathlib.Omega.{arith}
 use Rattle.scan.specs.Range.{RangeReply}
 use Rattle.desk.specs.Listing.{piece_reply, surveyed}
