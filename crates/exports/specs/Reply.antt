@@ -1,7 +1,5 @@
 -- The reply words of an exported operation: the values of its answer at the front of a lent slice. On a refusal the values are zeros.
 --   filled vs out   == out with the values vs at its front, as far as they fit; its other words stay
---   values_of a      == the values of an answer that is to be written
---   Says a n vs     == that answer has the number n and the values vs
 --   size_values r    == of set-up: the size
 --   enter_values r   == of enter: the key, the levels, the nodes and the pages in use
 --   record_values r  == of remove, find and next: the key, the price, the lease days, the last day
@@ -10,7 +8,7 @@
 --   balance_values r == of balance: the balance
 --   key_values r     == of a label's key, or of a conversion: the key
 --   label_values r   == of a key's label: the section, the row, the place, the letter
-use Rattle.std.specs.Prelude.{◌≡◌, List, [], ◌∷◌, ℕ, take}
+use Rattle.std.specs.Prelude.{List, [], ◌∷◌, ℕ}
 use Rattle.plot.specs.Money.{}
 use Rattle.plot.specs.Label.{KeyReply, LabelReply}
 use Rattle.tree.specs.Book.{}
@@ -18,19 +16,12 @@ use Rattle.store.specs.SetUp.{}
 use Rattle.search.specs.Find.{}
 use Rattle.scan.specs.Range.{RangeReply}
 use Rattle.scan.specs.Summary.{SummaryReply}
-use Rattle.exports.specs.declared.Answer.{Answer}
 
 -- A short slice is written as far as it goes, and a longer one keeps its other words.
 unfoldable pub filled : List ℕ → List ℕ → List ℕ
 filled [] out = out
 filled (v ∷ vs) [] = []
 filled (v ∷ vs) (w ∷ ws) = v ∷ filled vs ws
-
-unfoldable pub values_of : Answer → List ℕ
-values_of a = take a.count (a.first ∷ a.second ∷ a.third ∷ a.fourth ∷ [])
-
-abbrev pub Says : Answer → ℕ → List ℕ → Type 0
-Says a n vs = (a.number ≡ n) × (values_of a ≡ vs)
 
 -- "Set-up gives the size."
 unfoldable pub size_values : Rattle.store.specs.SetUp.Reply → List ℕ
