@@ -26,7 +26,7 @@ use Rattle.store.specs.Format.{width}
 use Rattle.store.specs.Head.{head_of, head_rule, lawful_sizes, size}
 use Rattle.store.specs.SetUp.{set_up}
 use Rattle.store.specs.Tests.{failing}
-use Rattle.search.specs.declared.Sought.{Sought}
+use Rattle.search.specs.Way.{Sought}
 use Rattle.search.specs.Find.{no_item, find_reply, checked}
 use Rattle.search.specs.Next.{next_reply}
 use Rattle.scan.specs.Summary.{summary_refused, summary_of}

@@ -7,3 +7,4 @@ pub mod OneListing
 pub mod Clerk
 pub mod Delivery
 pub mod Register
+pub mod Told

@@ -15,10 +15,10 @@ ghost use Rattle.desk.specs.Transcript.{opened, dumped, answered, answered_line}
 ghost use Rattle.desk.specs.Serving.{line_of, kept_line, until_feed, goes_on, GetsOn, Answers, Serves, Finishes};
 ghost use Rattle.desk.specs.Serving.{finished};
 
-use index::{EnterAnswer, FindAnswer, RangeAnswer, SummaryAnswer};
+use answers::Refusal;
+use index::{Entered, Summed};
 use lines::{Kind, Reply, Request};
 use plot::Record;
-use store::SetUpAnswer;
 
 // The bytes of a part of a listing at most: 64 records and the last line, 45 bytes each.
 pub const PART_BYTES: usize = 2925;
@@ -66,74 +66,61 @@ pub struct Progress {
     pub put: usize,
 }
 
-#[tactic(auto, unfolding(crate::specs::Replies::told, crate::specs::Replies::set_up_told))]
-fn set_up_told(a: SetUpAnswer) -> Reply
+#[tactic(auto, using(crate::proofs::Told::refused_told), unfolding(crate::specs::Replies::told, crate::specs::Replies::set_up_told))]
+fn set_up_told(a: Result<u32, Refusal>) -> Reply
     ensures { result ≡ set_up_told (SetUp.reply a) }
 {
     match a {
-        SetUpAnswer::Done(size) => Reply::SetUpDone(size),
-        SetUpAnswer::OutsideLimits => Reply::Refused(Kind::SetUp, 4),
-        SetUpAnswer::TooShort => Reply::Refused(Kind::SetUp, 5),
+        Ok(size) => Reply::SetUpDone(size),
+        Err(e) => Reply::Refused(Kind::SetUp, e.number()),
     }
 }
 
-#[tactic(auto, unfolding(crate::specs::Replies::told, crate::specs::Replies::enter_told))]
-fn enter_told(a: EnterAnswer) -> Reply
+#[tactic(auto, using(crate::proofs::Told::refused_told), unfolding(crate::specs::Replies::told, crate::specs::Replies::enter_told))]
+fn enter_told(a: Result<Entered, Refusal>) -> Reply
     ensures { result ≡ enter_told (enter_reply a) }
 {
     match a {
-        EnterAnswer::Entered(key, levels, nodes, pages) => Reply::Entered(
-            key, levels, nodes, pages,
-        ),
-        EnterAnswer::EnterHeadBroken => Reply::Refused(Kind::Enter, 3),
-        EnterAnswer::RecordOutside => Reply::Refused(Kind::Enter, 6),
-        EnterAnswer::EnterDamaged => Reply::Refused(Kind::Enter, 9),
-        EnterAnswer::KeyHeld => Reply::Refused(Kind::Enter, 8),
-        EnterAnswer::NoBlocks => Reply::Refused(Kind::Enter, 10),
+        Ok(e) => Reply::Entered(e.key, e.levels, e.nodes, e.pages),
+        Err(e) => Reply::Refused(Kind::Enter, e.number()),
     }
 }
 
 // The answer of find, next or remove, under its kind.
-#[tactic(auto, unfolding(crate::specs::Replies::told, crate::specs::Replies::found_told))]
-fn found_told(kind: Kind, a: FindAnswer) -> Reply
+#[tactic(auto, using(crate::proofs::Told::refused_told), unfolding(crate::specs::Replies::told, crate::specs::Replies::found_told))]
+fn found_told(kind: Kind, a: Result<Option<Record>, Refusal>) -> Reply
     ensures { result ≡ found_told kind (reply a) }
 {
     match a {
-        FindAnswer::Found(r) => Reply::Found(kind, r.key, r.price, r.lease, r.last),
-        FindAnswer::NotFound => Reply::Refused(kind, 1),
-        FindAnswer::HeadBroken => Reply::Refused(kind, 3),
-        FindAnswer::DamageMet => Reply::Refused(kind, 9),
+        Ok(Some(r)) => Reply::Found(kind, r.key, r.price, r.lease, r.last),
+        Ok(None) => Reply::Refused(kind, 1),
+        Err(e) => Reply::Refused(kind, e.number()),
     }
 }
 
-#[tactic(auto, unfolding(crate::specs::Replies::told, crate::specs::Replies::summary_told))]
-fn summary_told(a: SummaryAnswer) -> Reply
+#[tactic(auto, using(crate::proofs::Told::refused_told), unfolding(crate::specs::Replies::told, crate::specs::Replies::summary_told))]
+fn summary_told(a: Result<Summed, Refusal>) -> Reply
     requires { (summary_reply a).count < 2 ^ 32 }
     ensures { result ≡ summary_told (summary_reply a) }
 {
     match a {
-        SummaryAnswer::Summed(count, total, key) => Reply::Totals(count as u32, total, key),
-        SummaryAnswer::SummaryHeadBroken => Reply::Refused(Kind::Summary, 3),
-        SummaryAnswer::SummaryLowAboveHigh => Reply::Refused(Kind::Summary, 7),
-        SummaryAnswer::TodayOutside => Reply::Refused(Kind::Summary, 6),
-        SummaryAnswer::SummaryDamaged => Reply::Refused(Kind::Summary, 9),
+        Ok(s) => Reply::Totals(s.count as u32, s.total, s.key),
+        Err(e) => Reply::Refused(Kind::Summary, e.number()),
     }
 }
 
 // A range's answer as numbers.
-fn piece_of(a: RangeAnswer) -> Piece
+fn piece_of(a: Result<index::Listing, Refusal>) -> Piece
     requires { (range_reply a).count < 2 ^ 32 }
     ensures { piece_reply result ≡ range_reply a }
 {
     match a {
-        RangeAnswer::Listed(count, more) => Piece {
+        Ok(l) => Piece {
             number: 0,
-            count: count as u32,
-            more,
+            count: l.count as u32,
+            more: l.more,
         },
-        RangeAnswer::RangeHeadBroken => refused(3),
-        RangeAnswer::LowAboveHigh => refused(7),
-        RangeAnswer::RangeDamaged => refused(9),
+        Err(e) => refused(e.number()),
     }
 }
 
