@@ -1,20 +1,22 @@
 -- A node that has room, and a node that splits: the parts of the store that are replaced are the blocks put.
 --   grown_block_lem == a run halved in its node
 --   reached     == a place that is ready is reached by its key
+--   left_used, left_depth == a bit is left to its step
 --   grow_needs, take_needs, split_needs == what the functions on blocks ask
 --   two_put, two_headed == a node taken and two blocks written
 --   split_done  == a node taken and both halves written
 use mathlib.Core.Path.{◌≡◌, refl, sym, ap, ap₂, ◌∙◌, subst, subst₂}
 use mathlib.Core.List.{List}
-use Prim.Native.Nat.{ℕ, suc, ◌+◌, ◌^◌, ◌≤◌, ◌<◌}
+use Prim.Native.Nat.{ℕ, suc, ◌+◌, ◌-◌, ◌^◌, ◌≤◌, ◌<◌}
 use native.Mathlib.Omega.{arith}
 use lib.ListN.{length}
 use Rattle.lists.specs.Lists.{replaced}
+use Rattle.lists.proofs.BitLaws.{length_bits}
 use Rattle.store.specs.declared.Format.{Format}
 use Rattle.store.specs.declared.Head.{Head}
 use Rattle.store.specs.Head.{head_of, node_words, node_start, node_at}
 use Rattle.store.specs.Format.{width}
-use Rattle.store.proofs.HeadLaws.{Limits, sizes_limits}
+use Rattle.store.proofs.HeadLaws.{Limits, sizes_limits, width_within}
 use Rattle.node.specs.Node.{depth_word}
 use Rattle.represent.specs.Rep.{Sized}
 use Rattle.store.proofs.Places.{node_fits}
@@ -147,6 +149,13 @@ take_needs f s ok fits h e =
       omega (arith, ap (λ (x : Head). x.theta) e, l.theta),
       omega (arith, ap (λ (x : Head). x.nodes_taken) e, l.nodes),
     )
+
+-- the step of a node that may be written: a bit is left
+pub left_used : (f : Format) (s : List ℕ) (k : ℕ) (t : Step) → Ready f s (place_of f k t) → t.used < width f
+left_used f s k t y = omega (arith, y.left, length_bits (width f - t.used) k)
+
+pub left_depth : (f : Format) (s : List ℕ) (k : ℕ) (t : Step) → Ready f s (place_of f k t) → t.depth < 64
+left_depth f s k t y = omega (arith, y.left, length_bits (width f - t.used) k, width_within f)
 
 -- what is asked of a place's block, where the store's head is h
 pub reached : (f : Format) (θ : ℕ) (ws : List ℕ) (k : ℕ) (t : Step) → Holder θ ws (place_of f k t).bits t.depth

@@ -39,7 +39,7 @@ pub struct LevelJoins {
     pub end: usize,
 }
 
-// Marks the nodes of a path.
+// Marks the nodes of a path. (A path is an array of fixed size of which the lowest levels are in use, since there is no heap.)
 pub fn note_path(steps: [Step; 32], levels: u32, marks: &mut [u8])
     requires { (levels ≤ length steps) × (length steps ≡ 32)
         × ((i : ℕ) → i < levels → ((get_or steps i no_step).node < length marks.old) × ((get_or steps i no_step).used ≤ 64)) }
@@ -104,11 +104,11 @@ pub fn release_roots(numbers: &[u32], kept: u32, levels: u32, gone: &mut [u32], 
 }
 
 // The numbers of a path's nodes, the lowest level first.
-fn path_numbers(steps: [Step; 32], levels: u32, numbers: &mut [u32])
-    requires { (levels ≤ length steps) × (length steps ≡ 32) × (levels ≤ length numbers.old) }
-    ensures { (l : ℕ) → l < levels → word numbers.new l ≡ (get_or steps l no_step).node }
+fn path_numbers(steps: &[Step], numbers: &mut [u32])
+    requires { length steps.now ≤ length numbers.old }
+    ensures { (l : ℕ) → l < length steps.now → word numbers.new l ≡ (get_or steps.now l no_step).node }
 {
-    for (i, step) in steps[..levels as usize].iter().enumerate() {
+    for (i, step) in steps.iter().enumerate() {
         numbers[i] = step.node;
     }
 }
@@ -130,7 +130,7 @@ fn take_node(
         × HandFine f head.theta m t.used hand.new }
 {
     let node = store::node_at(store, f, head, t.node);
-    split::copy(hand, node);
+    hand.copy_from_slice(node);
     siblings::cover_hand(hand, f, head.theta, key, t.used, m, q);
 }
 
@@ -233,6 +233,7 @@ fn level_turn(
 // The levels of a removal joined upward, over a page stretch of m bits with the pointer q, from the path of the key. The nodes of all levels
 // are numbered in `numbers`, the blocks of those that change stand in `blocks`, 132 words a level, and the nodes released are numbered in
 // `gone`.
+// (Three lent slices of fixed size beside one another, since there is no heap.)
 pub fn join_levels(
     store: &[u32],
     f: Format,
@@ -261,7 +262,7 @@ pub fn join_levels(
         × (r.end ≤ length gone.old) × StaysIn store.now head r.changed head.levels numbers.new)
         × IfErr result (λ e. e ≡ DamageMet) }
 {
-    path_numbers(steps, head.levels, numbers);
+    path_numbers(&steps[..head.levels as usize], numbers);
     let mut w = Rise {
         joins: m < used,
         bits: m,

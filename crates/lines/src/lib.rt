@@ -66,6 +66,7 @@ impl Kind {
             5 => Some(Kind::Summary),
             6 => Some(Kind::Dump),
             7 => Some(Kind::Remove),
+            8..=99 => None,
             _ => None,
         }
     }

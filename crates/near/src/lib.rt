@@ -22,10 +22,7 @@ fn root_stays(store: &[u32], head: Head) -> bool
     requires { head.theta ≤ 6 }
     ensures { result ≡ root_stays store.now head }
 {
-    if head.levels == 1 {
-        return true;
-    }
-    store::word(store, store::node_start(head, head.root)) != 0
+    head.levels == 1 || store::word(store, store::node_start(head, head.root)) != 0
 }
 
 // Whether the page at the end of a key's way, with so many records left in it, stays apart from its sibling. The sibling's entry is in the
@@ -73,13 +70,7 @@ fn nothing_joins(
         × (left ≤ head.capacity) }
     ensures { result ≡ near_result (near_of f store.now head key (sound_end e) left) }
 {
-    if left == 0 {
-        return Ok(false);
-    }
-    if e.used <= e.before {
-        return Ok(false);
-    }
-    if !root_stays(store, head) {
+    if left == 0 || e.used <= e.before || !root_stays(store, head) {
         return Ok(false);
     }
     stays_apart(store, f, head, key, e, left)

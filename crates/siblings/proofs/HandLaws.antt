@@ -1,5 +1,5 @@
 -- The node in hand, joined and covered, as the code does it.
-use mathlib.Core.Path.{◌≡◌, refl, sym, ap, ◌∙◌}
+use mathlib.Core.Path.{◌≡◌, sym, ap, ◌∙◌}
 use mathlib.Core.Bool.{Bool, true, false}
 use mathlib.Core.List.{List}
 use Prim.Native.Nat.{ℕ, suc, ◌+◌, ◌-◌, ◌^◌, ◌≤◌, ◌<◌, max}
@@ -27,14 +27,6 @@ cover_code W θ k used m q ws ei ed room low c =
     c (bits (W - used) k)
     (sym (ei ∙ entry_index W k used (depth_word ws 0) room low ∙ ap (index (depth_word ws 0)) (drop_bits W used k (omega (arith, room)))))
     ∙ ap (λ d. cover θ ws (bits (W - used) k) d q) ed
-
-pub paired_left : (θ : ℕ) (node hand : List ℕ) {b : Bool} → b ≡ true → joined θ node hand ≡ paired θ node hand b
-unfolding paired
-paired_left θ node hand e = rw e refl
-
-pub paired_right : (θ : ℕ) (node hand : List ℕ) {b : Bool} → b ≡ false → joined θ hand node ≡ paired θ node hand b
-unfolding paired
-paired_right θ node hand e = rw e refl
 
 pub paired_fine : (θ : ℕ) (node hand : List ℕ) (b : Bool) → Shallow θ node → Shallow θ hand
     → suc (max (depth_word hand 0) (depth_word node 0)) ≤ θ

@@ -2,7 +2,6 @@ pub mod MarkLaws
 pub mod SeekLaws
 pub mod LeafLaws
 pub mod PageLaws
-pub mod LinkLaws
 pub mod PageJoinLaws
 pub mod NodeMateLaws
 pub mod HandLaws

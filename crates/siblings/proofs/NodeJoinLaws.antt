@@ -17,8 +17,7 @@ use Rattle.fuse.specs.Join.{joined}
 use Rattle.remove.specs.Remove.{Reach, Spot, on_left, covered, both_nodes, node_joins}
 use Rattle.remove.proofs.InsideRemove.{head_facts}
 use Rattle.remove.proofs.BlocksIn.{visited_block}
-use Rattle.siblings.specs.Outcome.{Found}
-use Rattle.siblings.specs.Outcome.{NodeJoins}
+use Rattle.siblings.specs.Outcome.{Found, NodeJoins}
 use Rattle.siblings.specs.Marks.{Tracks}
 use Rattle.siblings.specs.Nodes.{NodesR, spot_is, paired, Decided, Noded}
 use Rattle.siblings.proofs.PageJoinLaws.{take_next}

@@ -14,8 +14,7 @@ use Rattle.store.specs.declared.Item.{Item}
 use Rattle.store.specs.Format.{width}
 use Rattle.insert.specs.Enter.{own_items}
 use Rattle.remove.specs.Remove.{Reach, Pages, on_left, stuck_pages, both_pages, page_joins}
-use Rattle.siblings.specs.Outcome.{Mate}
-use Rattle.siblings.specs.Outcome.{PageJoins}
+use Rattle.siblings.specs.Outcome.{Mate, PageJoins}
 use Rattle.siblings.specs.Marks.{Tracks}
 use Rattle.siblings.specs.Pages.{quiet, pages_by, Mated, Paged, Joinable, records_in}
 

@@ -18,10 +18,13 @@ use Rattle.search.specs.Find.{sound_page}
 use Rattle.insert.specs.Enter.{items_in, own_items}
 use Rattle.remove.specs.Remove.{Sought, Pages, sibling_key, on_left, sibling, both_pages, page_joins}
 use Rattle.remove.proofs.PagePhase.{turn_lost, turn_damaged, turn_none, turn_full, turn_on}
-use Rattle.siblings.specs.Outcome.{Found}
-use Rattle.siblings.specs.Outcome.{Mate}
+use Rattle.siblings.specs.Outcome.{Found, Mate}
 use Rattle.siblings.specs.Marks.{SoughtIs}
-use Rattle.siblings.specs.Pages.{no_mate, Mated}
+use Rattle.siblings.specs.Pages.{Mated}
+
+-- no page to join with
+abbrev no_mate : Bool → Mate
+no_mate b = record { ok = b; found = false; pointer = 0; count = 0 }
 
 -- records of a page that is read
 module _ (f : Format) (s : List ℕ) (h : Head) (p : ℕ) where

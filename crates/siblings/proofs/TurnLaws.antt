@@ -5,7 +5,7 @@ use mathlib.Core.List.{List, []}
 use Prim.Native.Nat.{ℕ, suc, ◌≤◌, ◌<◌, max}
 use native.Mathlib.Omega.{arith}
 use lib.Dec.{eqb}
-use borrow.Author.Tests.{eq-eqb, ne_eqb, le-leb, lt-leb}
+use borrow.Author.Tests.{le-leb, lt-leb}
 use Rattle.store.specs.declared.Format.{Format}
 use Rattle.store.specs.declared.Head.{Head}
 use Rattle.store.specs.Format.{width}
@@ -16,15 +16,6 @@ use Rattle.remove.specs.Remove.{Spot, links_ok, on_left, no_nodes, node_joins}
 use Rattle.siblings.specs.Outcome.{Found}
 use Rattle.siblings.specs.Pairs.{in_hand}
 use Rattle.siblings.specs.Nodes.{NodesR, rests, low_pair, may_join, NodeMated, Decided, spot_is, linked_pair}
-
-pub any_level : (s : List ℕ) (h : Head) (level number last p : ℕ) (ws : List ℕ) (left : Bool) → (level ≡ 1 → ⊥) → true ≡ linked_pair s h level number last ws p left
-unfolding linked_pair
-any_level s h level number last p ws left z = sym (ap (λ b. not b || links_ok s h (in_hand number last ws) p left) (ne_eqb level 1 z))
-
-pub first_level : (s : List ℕ) (h : Head) (level number last p : ℕ) (ws : List ℕ) (left : Bool) → level ≡ 1 → {r : Bool}
-    → r ≡ links_ok s h (in_hand number last ws) p left → r ≡ linked_pair s h level number last ws p left
-unfolding linked_pair
-first_level s h level number last p ws left z e = e ∙ sym (ap (λ b. not b || links_ok s h (in_hand number last ws) p left) (eq-eqb level 1 z))
 
 links_hand : (s : List ℕ) (h : Head) (x : Spot) (p : ℕ) (b : Bool) → links_ok s h (in_hand x.number x.last x.block) p b ≡ links_ok s h x p b
 unfolding links_ok

@@ -12,7 +12,6 @@
 --   NodeMated f s h k level g r marks == what the code found beside the node in hand is what the definition's next turn does
 use Rattle.std.specs.Prelude.{◌≡◌, Bool, true, false, ◌||◌, not, List, ◌++◌, ℕ, suc, ◌+◌, ◌-◌, ◌≤◌, max, take, eqb, leb}
 use Rattle.split.specs.Value.{Shallow}
-use Rattle.siblings.specs.Outcome.{NodeJoins}
 use Rattle.store.specs.declared.Format.{Format}
 use Rattle.store.specs.declared.Head.{Head}
 use Rattle.store.specs.Format.{width}
@@ -21,7 +20,7 @@ use Rattle.split.specs.Frame.{node_of}
 use Rattle.fuse.specs.Join.{joined}
 use Rattle.siblings.specs.Pairs.{in_hand}
 use Rattle.remove.specs.Remove.{Reach, Spot, on_left, links_ok, no_nodes, both_nodes, node_joins}
-use Rattle.siblings.specs.Outcome.{Found}
+use Rattle.siblings.specs.Outcome.{Found, NodeJoins}
 use Rattle.siblings.specs.Marks.{Tracks}
 
 abbrev pub NodesR : Type 0

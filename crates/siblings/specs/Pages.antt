@@ -1,12 +1,11 @@
 -- The pages of a removal as the code has them: only the numbers of the pages joined are kept, one for each join; all else follows from them.
 --   quiet g              == without the nodes reached
 --   pages_by f s h k g ps == the stretch g after joins with the pages ps, one after another
---   no_mate ok            == no page to join with
 --   Joinable f s h p     == p is null, or a taken page that keeps the page rule
 --   records_in f s h ps   == how many records the pages ps have together
 --   Paged f s h k g z r mates marks == the code's joins r, with the pages in mates, make z of the stretch g
 --   Mated f s h k g r marks == what the code found beside the stretch g is what the definition's next turn does
-use Rattle.std.specs.Prelude.{◌≡◌, Bool, true, false, List, [], ◌∷◌, ℕ, suc, ◌+◌, ◌≤◌, ◌<◌, length, take}
+use Rattle.std.specs.Prelude.{◌≡◌, true, false, List, [], ◌∷◌, ℕ, suc, ◌+◌, ◌≤◌, ◌<◌, length, take}
 use Rattle.store.specs.declared.Format.{Format}
 use Rattle.store.specs.declared.Head.{Head}
 use Rattle.store.specs.Format.{width}
@@ -14,8 +13,7 @@ use Rattle.store.specs.Head.{page_at}
 use Rattle.page.specs.Page.{page_rule}
 use Rattle.insert.specs.Enter.{own_items}
 use Rattle.remove.specs.Remove.{Reach, Pages, on_left, stuck_pages, no_pages, both_pages, page_joins}
-use Rattle.siblings.specs.Outcome.{Mate}
-use Rattle.siblings.specs.Outcome.{PageJoins}
+use Rattle.siblings.specs.Outcome.{Mate, PageJoins}
 use Rattle.siblings.specs.Marks.{Tracks}
 
 abbrev pub quiet : Pages → Pages
@@ -32,9 +30,6 @@ pub record Joinable (f : Format) (s : List ℕ) (h : Head) (p : ℕ) : Type 0 wh
 abbrev pub records_in : Format → List ℕ → Head → List ℕ → ℕ
 records_in f s h [] = 0
 records_in f s h (p ∷ ps) = length (own_items f s h p) + records_in f s h ps
-
-abbrev pub no_mate : Bool → Mate
-no_mate b = record { ok = b; found = false; pointer = 0; count = 0 }
 
 pub record Mated (f : Format) (s : List ℕ) (h : Head) (k : ℕ) (g : Pages) (r : Mate) (marks : List ℕ) : Type 0 where
   pub reaches : List Reach

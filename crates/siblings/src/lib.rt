@@ -45,7 +45,7 @@ pub fn sibling_key(f: Format, key: u64, m: u32) -> u64
     (p + 1) << low
 }
 
-// The mark of a node that is reached after the used bits, on the way to the sibling of m bits.
+// The mark of a node that is reached after the used bits, on the way to the sibling of m bits: a byte, since all nodes have theirs in one lent slice of fixed size.
 fn mark_of(used: u32, m: u32) -> u8
     requires { used ≤ 64 }
     ensures { result ≡ mark_at used m }
@@ -65,10 +65,7 @@ fn note_node(marks: &mut [u8], n: u32, mark: u8) -> bool
     let i = store::to_index(n);
     let before = marks[i];
     marks[i] = mark;
-    if before == 0 {
-        return true;
-    }
-    before == mark
+    before == 0 || before == mark
 }
 
 // Whether node n has the mark, and its block the level.
@@ -76,10 +73,7 @@ fn seen(store: &[u32], head: Head, level: u32, n: u32, marks: &[u8], mark: u8) -
     requires { (head.theta ≤ 6) × (n < length marks.now) }
     ensures { result ≡ (eqb (get_or marks.now n 0) mark && eqb (level_word store.now (node_start head n)) level) }
 {
-    if marks[store::to_index(n)] != mark {
-        return false;
-    }
-    store::word(store, store::node_start(head, n) + 1) == level
+    marks[store::to_index(n)] == mark && store::word(store, store::node_start(head, n) + 1) == level
 }
 
 // Visits node n at this level, after the used bits. One that has the mark of these bits was checked at the level of its block before.
@@ -148,17 +142,9 @@ fn beside_ok(store: &[u32], head: Head, m: u32, n: u32, to: u32, back: bool) -> 
     if m == 0 {
         return true;
     }
-    if m == n {
-        return false;
-    }
     let at = store::node_start(head, m);
-    if store::word(store, at + 1) != 1 {
-        return false;
-    }
-    if back {
-        return store::word(store, at + 3) == to;
-    }
-    store::word(store, at + 2) == to
+    let link = if back { at + 3 } else { at + 2 };
+    m != n && store::word(store, at + 1) == 1 && store::word(store, link) == to
 }
 
 // Whether two level-1 nodes may be joined: the left one, which stands for those from a to b, with the links lb and lf, and the right one,
@@ -178,22 +164,12 @@ fn pair_ok(
     requires { head.theta ≤ 6 }
     ensures { result ≡ pair_ok store.now head lb lf rb rf a b c d }
 {
-    if lf != c {
-        return false;
-    }
-    if rb != b {
-        return false;
-    }
-    if rf == a {
-        return false;
-    }
-    if lb == c {
-        return false;
-    }
-    if !beside_ok(store, head, lb, a, a, true) {
-        return false;
-    }
-    beside_ok(store, head, rf, c, d, false)
+    lf == c
+        && rb == b
+        && rf != a
+        && lb != c
+        && beside_ok(store, head, lb, a, a, true)
+        && beside_ok(store, head, rf, c, d, false)
 }
 
 // Whether the level-1 node in hand, which stands for those from `number` to `last`, and its sibling p may be joined.
@@ -292,6 +268,7 @@ fn page_mate(
 
 // The pages of a removal joined, the longest prefix first, until a pair stays apart, and how often. The stretch has so many bits and records;
 // nothing is moved: the pages that are joined with it are named in `mates`.
+// (A lent slice of fixed size and how much of it is filled, since there is no heap; `gone` below likewise.)
 pub fn join_pages(
     store: &[u32],
     f: Format,
@@ -387,11 +364,10 @@ fn join_pair(node: &[u32], hand: &mut [u32], theta: u32, left: bool, spare: &mut
 {
     if left {
         fuse::join_into(node, hand, theta, spare);
-        split::copy(hand, spare);
-        return;
+    } else {
+        fuse::join_into(hand, node, theta, spare);
     }
-    fuse::join_into(hand, node, theta, spare);
-    split::copy(hand, spare);
+    hand.copy_from_slice(spare);
 }
 
 // Whether the links of the node in hand, on a level, allow a join with its sibling p.
@@ -408,10 +384,7 @@ fn may_join(
     requires { head.theta ≤ 6 }
     ensures { result ≡ linked_pair store.now head level number last block.now p left }
 {
-    if level != 1 {
-        return true;
-    }
-    links_ok(store, head, block, number, last, p, left)
+    level != 1 || links_ok(store, head, block, number, last, p, left)
 }
 
 // The sibling that the node in hand on a level joins with, or none.

@@ -1,5 +1,5 @@
 -- The levels done, with the definition of the rest, are the whole.
-use mathlib.Core.Path.{◌≡◌, refl, sym, ◌∙◌, subst}
+use mathlib.Core.Path.{◌≡◌, refl, sym, ap, ◌∙◌, subst}
 use Prim.Native.Nat.{◌+◌, ◌*◌, ◌≤◌, ◌<◌}
 use native.Mathlib.Omega.{arith}
 use lib.Dec.{ltb}
@@ -7,6 +7,7 @@ use lib.ListN.{length, take}
 use lib.Seq.{length-take-le, get_or-take}
 use borrow.Author.Tests.{not-true, not-false}
 use Rattle.store.specs.Format.{width}
+use Rattle.search.specs.declared.Step.{Step}
 use Rattle.search.specs.Descent.{no_step}
 use Rattle.search.proofs.WayLaws.{damage_passed}
 use Rattle.siblings.proofs.OutcomeLaws.{err_told}
@@ -17,14 +18,16 @@ use Rattle.levels.proofs.join_levels.Goals as goal
 pub path_numbers-requires : goal.path_numbers-requires
 path_numbers-requires c =
     let y = path_fine c.args.f c.args.store.now c.args.head c.args.key c.requires.0 c.requires.2 c.requires.3 c.requires.4 in
-    (omega (arith, y.few, y.long), y.long, c.requires.6)
+    omega (arith, length-take-le c.args.head.levels c.args.steps (omega (arith, y.few, y.long)), c.requires.6)
 
 pub loop-l-init : goal.loop-l-init
 loop-l-init c =
-    let a = c.args in (
+    let a = c.args in
+    let fine = path_fine a.f a.store.now a.head a.key c.requires.0 c.requires.2 c.requires.3 c.requires.4 in
+    let long = length-take-le a.head.levels a.steps (omega (arith, fine.few, fine.long)) in (
       omega arith,
       c.requires.5,
-      λ j p q. c.path_numbers.ensures j q,
+      λ j p q. c.path_numbers.ensures j (omega (arith, q, long)) ∙ ap (λ (t : Step). t.node) (get_or-take a.head.levels a.steps j no_step q),
       (λ rs y. rising_start a.f a.store.now a.head a.key (take a.head.levels a.steps) a.m a.q (ltb a.m a.used) _ _ _ _ rs refl y),
       c.requires.12,
     )
@@ -150,3 +153,13 @@ returns c =
       ),
       tt,
     )
+
+pub slice_bounds-path_numbers-end : goal.slice_bounds-path_numbers-end
+slice_bounds-path_numbers-end c =
+    let y = path_fine c.args.f c.args.store.now c.args.head c.args.key c.requires.0 c.requires.2 c.requires.3 c.requires.4 in
+    sym (length-take-le c.args.head.levels c.args.steps (omega (arith, y.few, y.long)))
+
+pub slice_bounds-steps-end : goal.slice_bounds-steps-end
+slice_bounds-steps-end c =
+    let y = path_fine c.args.f c.args.store.now c.args.head c.args.key c.requires.0 c.requires.2 c.requires.3 c.requires.4 in
+    omega (arith, y.few, y.long)

@@ -8,7 +8,6 @@ use Rattle.std.specs.Prelude.{Ok}
 use Rattle.store.proofs.HeadLaws.{width_within}
 use Rattle.search.specs.Descent.{step_of}
 use Rattle.search.proofs.WayLaws.{answered_err, visit_ok, damage_passed}
-use Rattle.siblings.proofs.LeafLaws.{set_long}
 use Rattle.siblings.proofs.MarkLaws.{passed_more}
 use Rattle.siblings.proofs.NodeMateLaws.{beside_lost, beside_none, beside_unsound, beside_twice, beside_found}
 use Rattle.siblings.proofs.OutcomeLaws.{err_told, sought_at}
@@ -61,7 +60,7 @@ returns-then-not-note_node c =
     (sym c.in_ok-visit.was ∙ c.visit.ensures) in
     let room : c.in-Some.p < length c.seek.new.marks =
     omega (arith, node.within, c.requires.6, c.seek.ensures.0) in (
-      set_long c.seek.new.marks c.in-Some.p c.mark_of-mark.result c.note_node.ensures.1 ∙ c.seek.ensures.0,
+      c.note_node.auto.marks ∙ c.seek.ensures.0,
       (λ g i y. beside_twice _ _ _ _ _ g (sought_at _ _ _ _ q c.args.level g.reached i (c.seek.ensures.1 c.args.key g.reached c.sibling_key-other.ensures.0 y)) refl refl i c.requires.2
           c.sibling_key-other.ensures.0 e refl c.mark_of-mark.ensures c.note_node.ensures.0 c.if-not-note_node.true refl _),
       λ o. absurd (false≢true o),
@@ -79,7 +78,7 @@ returns c =
     (sym c.in_ok-visit.was ∙ c.visit.ensures) in
     let room : c.in-Some.p < length c.seek.new.marks =
     omega (arith, node.within, c.requires.6, c.seek.ensures.0) in (
-      set_long c.seek.new.marks c.in-Some.p c.mark_of-mark.result c.note_node.ensures.1 ∙ c.seek.ensures.0,
+      c.note_node.auto.marks ∙ c.seek.ensures.0,
       (λ g i y. beside_found _ _ _ _ _ g (sought_at _ _ _ _ q c.args.level g.reached i (c.seek.ensures.1 c.args.key g.reached c.sibling_key-other.ensures.0 y)) refl refl i c.requires.2
           c.sibling_key-other.ensures.0 e refl c.mark_of-mark.ensures c.note_node.ensures.0 c.if-not-note_node.false room c.note_node.ensures.1),
       (λ o. (

@@ -9,7 +9,6 @@ use Rattle.search.specs.Descent.{step_of}
 use Rattle.search.proofs.BlockLaws.{under_levels, root_in_use}
 use Rattle.search.proofs.DescentLaws.{seen_bits, seen_in_use}
 use Rattle.search.proofs.WayLaws.{answered_err, visit_ok, damage_passed}
-use Rattle.siblings.proofs.LeafLaws.{set_long}
 use Rattle.siblings.proofs.MarkLaws.{marked_sound, passed_more}
 use Rattle.siblings.proofs.SeekLaws.{seen_page, seek_starts, seek_ends, going_lost, going_twice, going_far, going_near}
 use Rattle.siblings.proofs.seek.Goals as goal
@@ -75,7 +74,7 @@ returns-then-not-note_node c =
     ∙ ap (λ (x : ℕ). step_of a.f a.store.now a.head a.key x l.node l.used) (one a.target l.below c.loop-below-test.true) in
     let room : l.node < length l.marks =
     omega (arith, (l.invariant.2 (omega (arith, c.loop-below-test.true))).within, c.requires.3, l.auto.marks) in (
-      set_long l.marks l.node c.mark_of-mark.result c.note_node.ensures.1 ∙ l.auto.marks,
+      c.note_node.auto.marks ∙ l.auto.marks,
       going_twice _ _ _ _ _ _ low _ l.invariant.0 c.loop-below-test.true (l.invariant.3 low) e refl c.mark_of-mark.ensures
           c.note_node.ensures.0 c.if-not-note_node.true refl _,
       λ o. absurd (false≢true o),
@@ -103,7 +102,7 @@ returns-then-used-m c =
     ∙ ap (λ (x : ℕ). step_of a.f a.store.now a.head a.key x l.node l.used) (one a.target l.below c.loop-below-test.true) in
     let room : l.node < length l.marks =
     omega (arith, (l.invariant.2 (omega (arith, c.loop-below-test.true))).within, c.requires.3, l.auto.marks) in (
-      set_long l.marks l.node c.mark_of-mark.result c.note_node.ensures.1 ∙ l.auto.marks,
+      c.note_node.auto.marks ∙ l.auto.marks,
       going_far _ _ _ _ _ _ low _ l.invariant.0 c.loop-below-test.true (l.invariant.3 low) e refl c.mark_of-mark.ensures
           c.note_node.ensures.0 c.if-not-note_node.false room c.note_node.ensures.1 c.if-used-m.true refl,
       λ o. absurd (false≢true o),
