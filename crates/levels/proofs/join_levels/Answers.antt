@@ -41,7 +41,7 @@ pub level_turn-requires : goal.level_turn-requires
 level_turn-requires c =
     let a = c.args in
     let l = c.loop-l in
-    let inside = c.loop-l-test.true in
+    let inside : l.l < a.head.levels = omega (arith, c.loop-l-test.true) in
     let fine = path_fine c.args.f c.args.store.now c.args.head c.args.key c.requires.0 c.requires.2 c.requires.3 c.requires.4 in
     let y = fine.step l.l inside in
     let p = c.requires in (
@@ -64,7 +64,7 @@ pub returns-in_err-w : goal.returns-in_err-w
 returns-in_err-w c =
     let a = c.args in
     let l = c.loop-l in
-    let inside = c.loop-l-test.true in
+    let inside : l.l < a.head.levels = omega (arith, c.loop-l-test.true) in
     let fine = path_fine c.args.f c.args.store.now c.args.head c.args.key c.requires.0 c.requires.2 c.requires.3 c.requires.4 in
     let q = c.in_err-w.was in
     let here = sym (get_or-take a.head.levels a.steps l.l no_step inside) in
@@ -83,7 +83,7 @@ pub returns-then-not-w : goal.returns-then-not-w
 returns-then-not-w c =
     let a = c.args in
     let l = c.loop-l in
-    let inside = c.loop-l-test.true in
+    let inside : l.l < a.head.levels = omega (arith, c.loop-l-test.true) in
     let fine = path_fine c.args.f c.args.store.now c.args.head c.args.key c.requires.0 c.requires.2 c.requires.3 c.requires.4 in
     let q = c.in_ok-w.was in
     let v = rw q at c.level_turn.ensures.1 in
@@ -113,7 +113,7 @@ pub loop-l-preserved : goal.loop-l-preserved
 loop-l-preserved c =
     let a = c.args in
     let l = c.loop-l in
-    let inside = c.loop-l-test.true in
+    let inside : l.l < a.head.levels = omega (arith, c.loop-l-test.true) in
     let fine = path_fine c.args.f c.args.store.now c.args.head c.args.key c.requires.0 c.requires.2 c.requires.3 c.requires.4 in
     let q = c.in_ok-w.was in
     let v = rw q at c.level_turn.ensures.1 in

@@ -1,6 +1,6 @@
 -- What the levels up to l keep is what all keep.
 use mathlib.Core.Path.{◌≡◌, sym, ◌∙◌}
-use Prim.Native.Nat.{ℕ, zero, suc, ◌+◌, ◌-◌, ◌≤◌, min}
+use Prim.Native.Nat.{ℕ, zero, suc, ◌+◌, ◌-◌, ◌≤◌, ◌<◌, min}
 use native.Mathlib.Omega.{arith}
 use lib.ListN.{get_or}
 use Rattle.remove.specs.Remove.{no_spot}
@@ -19,7 +19,7 @@ depth_of-requires c =
 pub returns-then-depth_of-ne0 : goal.returns-then-depth_of-ne0
 returns-then-depth_of-ne0 c =
     let l = c.loop-l in
-    let some = c.loop-l-test.true in
+    let some : 1 < l.l = omega (arith, c.loop-l-test.true) in
     let one : l.l - 1 + 1 ≡ l.l = omega (arith, some) in (
       λ xs y. one ∙ keeps_top xs _ l.l y.long l.auto.l some
           (λ e. c.if-depth_of-ne0.true (c.depth_of.ensures (get_or xs (l.l - 1) no_spot) (y.each _ (omega (arith, some, l.auto.l))) ∙ e))
@@ -31,7 +31,7 @@ returns-then-depth_of-ne0 c =
 pub loop-l-preserved : goal.loop-l-preserved
 loop-l-preserved c =
     let l = c.loop-l in
-    let some = c.loop-l-test.true in (
+    let some : 1 < l.l = omega (arith, c.loop-l-test.true) in (
       λ p. omega (arith, some),
       λ xs y. keeps_turn xs _ l.l y.long l.auto.l some
           (sym (c.depth_of.ensures (get_or xs (l.l - 1) no_spot) (y.each _ (omega (arith, some, l.auto.l)))) ∙ c.if-depth_of-ne0.false)
