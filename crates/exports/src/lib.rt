@@ -110,6 +110,15 @@ pub fn plots_enter(
     }
 }
 
+// Removes the record with a key and gives it, or none: refused with 3 or 9 before any word of the store is written.
+pub fn plots_remove(store: &mut [u32], key: u32, reply: &mut [u64]) -> u32
+    ensures { let a = remove_of Plots store.old key in
+        (result ≡ a.reply.number) × (store.new ≡ a.words)
+        × (reply.new ≡ filled (record_values a.reply) reply.old) }
+{
+    told_record(reply, index::remove(store, key))
+}
+
 // The record with a key, or none.
 pub fn plots_find(store: &[u32], key: u32, reply: &mut [u64]) -> u32
     ensures { let a = find_reply Plots store.now key in

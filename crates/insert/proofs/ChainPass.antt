@@ -6,19 +6,18 @@ use mathlib.Core.List.{List, [], ◌∷◌}
 use Prim.Native.Nat.{ℕ, zero, suc, ◌+◌, ◌-◌, ◌≤◌, ◌<◌}
 use native.Mathlib.Decide.{ℕ_discrete, dec_le}
 use native.Mathlib.Omega.{arith}
-use lib.Dec.{eqb}
 use borrow.Author.Tests.{eq-eqb, ne_eqb}
 use Rattle.lists.proofs.Tests.{every_of}
 use Rattle.tree.specs.Trie.{Trie}
 use Rattle.store.specs.declared.Format.{Format}
 use Rattle.store.specs.declared.Head.{Head}
-use Rattle.store.specs.Head.{word, zeros, head_of, released_of, node_words, page_words, node_start, page_start, node_at, page_at, named}
+use Rattle.store.specs.Head.{word, zeros, head_of, released_of, node_words, page_words, node_start, page_start, node_at, page_at}
 use Rattle.store.specs.Released.{released_node, released_page, node_form, page_form, node_next, page_next, chain_of, after_all, member, link_ok, chain_ok}
 use Rattle.store.specs.Released.{nodes_ok, pages_ok, released_nodes, released_pages}
 use Rattle.store.proofs.HeadLaws.{Named, named_of, sizes_limits}
 use Rattle.store.proofs.Places.{part_word, node_end, nodes_end_lem, page_end, node_words_low, page_words_low}
-use Rattle.represent.specs.Labelled.{count, occ, occs}
-use Rattle.represent.specs.Rep.{Stretch, numbers, Rep, Sized}
+use Rattle.represent.specs.Labelled.{count}
+use Rattle.represent.specs.Rep.{Stretch, Rep, Sized}
 use Rattle.represent.proofs.LabelLaws.{ind_eq, ind_self, ind_other}
 use Rattle.represent.proofs.ImageLaws.{get_d_zeros}
 use Rattle.represent.proofs.Counting.{released_node_lem, released_page_lem}

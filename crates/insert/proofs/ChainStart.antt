@@ -1,24 +1,24 @@
 -- What the chain test says, on any words: the blocks that are to be taken are those of the chain and the unused ones, in this order; they
 -- are numbers of blocks, none stands twice among them, and the released ones have their form.
 use mathlib.Core.Path.{◌≡◌, refl, sym, ap, ◌∙◌, subst}
-use mathlib.Core.Bool.{Bool, true, false, not, ◌&&◌, ◌||◌, false≢true}
-use mathlib.Core.List.{List, [], ◌∷◌, ◌++◌}
-use Prim.Native.Nat.{ℕ, zero, suc, ◌+◌, ◌-◌, ◌≤◌, ◌<◌}
+use mathlib.Core.Bool.{Bool, true, false, not, ◌&&◌}
+use mathlib.Core.List.{List, [], ◌∷◌}
+use Prim.Native.Nat.{ℕ, zero, suc, ◌+◌, ◌-◌, ◌≤◌}
 use native.Mathlib.Decide.{ℕ_discrete, dec_le}
 use native.Mathlib.Omega.{arith}
 use lib.Dec.{eqb}
 use lib.ListN.{length, take, length-take}
-use borrow.Author.Tests.{eqb-true, eqb-false, eq-eqb, not-true}
+use borrow.Author.Tests.{eqb-true, eqb-false, not-true}
 use Rattle.lists.proofs.Tests.{and_true, or_none, every_at}
 use Rattle.store.specs.declared.Format.{Format}
 use Rattle.store.specs.declared.Head.{Head}
-use Rattle.store.specs.Head.{word, zeros, head_of, released_of, head_rule, named, nodes_left, pages_left, node_start, page_start, node_words, page_words}
+use Rattle.store.specs.Head.{word, zeros, head_of, released_of, head_rule, named, nodes_left, pages_left, node_start, page_start}
 use Rattle.store.specs.Released.{node_form, page_form, node_next, page_next, chain_of, up_from, member, link_ok, chain_ok, nodes_ok, pages_ok}
 use Rattle.store.specs.Released.{released_nodes, released_pages, nodes_to_come, pages_to_come}
 use Rattle.store.proofs.HeadLaws.{named_facts, head_facts}
 use Rattle.node.specs.Node.{level_word}
 use Rattle.represent.specs.Labelled.{count}
-use Rattle.represent.proofs.LabelLaws.{ind_eq, ind_self, ind_other}
+use Rattle.represent.proofs.LabelLaws.{ind_eq, ind_other}
 use Rattle.split.specs.Supply.{to_come}
 use Rattle.split.proofs.SupplyLaws.{up_from_low, up_from_in, up_from_high, length_come}
 use Rattle.insert.specs.Fine.{Named, Coming, Supply, PageSupply}

@@ -1,6 +1,6 @@
 -- The climb's loop: i levels are done, and the rest of the climb leads to the same end.
 --   Climbing    == where the loop stands
---   climb_start, climb_on, climb_stops, climb_tops == at its start; a node split; a node with room; above the root
+--   climb_on, climb_stops, climb_tops == a node split; a node with room; above the root
 --   climb_ready == the node of level i + 1 may be written; climb_rest: none is left
 --   climb_short == a new root has a place on the path
 use mathlib.Core.Path.{◌≡◌, refl, sym, ap, ap₂, ◌∙◌, subst, subst₂}
@@ -121,22 +121,6 @@ pub record Climbing (f : Format) (k : ℕ) (s₀ : List ℕ) (path₀ : List Pla
   pub path_is :
       take i (places f k n ts) ++ (climbed f s k (drop i (places f k n ts)) a c).path
       ≡ take 1 path₀ ++ (climbed f s₀ k (drop 1 path₀) a₀ c₀).path
-
-pub climb_start : (f : Format) (k : ℕ) (s : List ℕ) (h : Head) (ts : List Step) (a c n : ℕ) → Carries s h ts → n ≡ h.levels
-    → Climbable f s (drop 1 (places f k h.levels ts)) → Climbing f k s (places f k h.levels ts) a c n s h ts 1 a c
-climb_start f k s h ts a c n w e y =
-    subst (λ m. Climbing f k s (places f k h.levels ts) a c m s h ts 1 a c) (sym e)
-    (record {
-      head_is = w.head_is;
-      levels = refl;
-      long = w.long;
-      low = omega arith;
-      high = w.low;
-      top = w.high;
-      able = y;
-      store_is = refl;
-      path_is = refl;
-    })
 
 module _ (f : Format) (k : ℕ) (s₀ : List ℕ) (path₀ : List Place) (a₀ c₀ n : ℕ) (s : List ℕ) (h : Head) (ts : List Step) (i a c : ℕ)
     (w : Climbing f k s₀ path₀ a₀ c₀ n s h ts i a c) where

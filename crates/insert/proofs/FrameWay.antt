@@ -7,14 +7,12 @@
 use mathlib.Core.Path.{◌≡◌, refl, sym, ap, ◌∙◌, subst}
 use mathlib.Core.Bool.{Bool, true, false}
 use mathlib.Core.List.{List, [], ◌∷◌}
-use mathlib.Core.Logic.{◌⊎◌, inl, inr}
-use Prim.Native.Nat.{ℕ, zero, suc, ◌+◌, ◌-◌, ◌≤◌, ◌<◌}
+use Prim.Native.Nat.{ℕ, zero, suc, ◌+◌, ◌-◌, ◌≤◌}
 use native.Mathlib.Omega.{arith}
 use native.Mathlib.Decide.{ℕ_discrete}
 use lib.ListN.{length, get_or, set}
 use Rattle.lists.specs.Bits.{bit, bits}
 use Rattle.lists.specs.Keyed.{insert}
-use Rattle.lists.proofs.ListLaws.{all_map}
 use Rattle.lists.proofs.KeyedLaws.{length_insert}
 use Rattle.tree.specs.Build.{side, pages_at}
 use Rattle.tree.proofs.BuildLaws.{length_sides}

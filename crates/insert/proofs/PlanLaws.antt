@@ -9,7 +9,7 @@ use native.Mathlib.Numerals.{add-one}
 use native.Mathlib.Decide.{dec_lt}
 use native.Mathlib.Omega.{arith}
 use lib.Dec.{leb, ltb, eqb}
-use lib.ListN.{length, get_or, take, drop}
+use lib.ListN.{length, get_or, drop}
 use lib.Seq.{drop-cons}
 use borrow.Author.Tests.{lt-ltb, le-ltb, eq-eqb, ne_eqb, eqb-true, ltb-true, leb-true, leb-false}
 use Rattle.lists.specs.Bits.{bit}
@@ -37,7 +37,7 @@ use Rattle.search.specs.Way.{Sought}
 use Rattle.search.specs.Way.{Record, Nothing, Damaged}
 use Rattle.search.specs.declared.Step.{Step}
 use Rattle.search.specs.Descent.{no_step}
-use Rattle.search.specs.Find.{no_item, sound_page, in_page}
+use Rattle.search.specs.Find.{no_item, in_page}
 use Rattle.insert.specs.Enter.{items_in, neighbour_ok}
 
 -- the nodes that d halvings take, level by level
@@ -87,9 +87,6 @@ module _ (θ : ℕ) where
   -- what is left above the root
   pub root_more : (R t d : ℕ) {e : ℕ} → R ≡ t + bump_costs d θ [] → e ≡ d - θ → 1 ≤ θ → 1 ≤ d → R ≡ t + (1 + e) + bump_costs e θ []
   root_more R t d h g l p = omega (arith, h, costs_root d l p, ap (λ n. bump_costs n θ []) g)
-
-  pub root_out : (t d : ℕ) {R : ℕ} → R ≡ t + bump_costs d θ [] → d ≡ 0 → t ≡ R
-  root_out t d h z = omega (arith, h, ap (λ n. bump_costs n θ []) z)
 
 -- where the keys of a page part from a key
 module _ (f : Format) (pg : List ℕ) (k : ℕ) where
@@ -241,15 +238,6 @@ module _ (s : List ℕ) (h : Head) (n : ℕ) {q : ℕ} (e : q ≡ forward_word s
 -- a word of a node block
 pub word_of : (s : List ℕ) (h : Head) (n j : ℕ) {b r : ℕ} → r ≡ word s (b + j) → b ≡ node_start h n → r ≡ word s (node_start h n + j)
 word_of s h n j e g = e ∙ ap (λ x. word s (x + j)) g
-
--- the page at the end of a descent
-module _ (f : Format) (h : Head) (k p used : ℕ) (pg : List ℕ) where
-  pub own_null : p ≡ 0 → true ≡ (eqb p 0 || sound_page f h pg k used)
-  own_null z = sym (ap (λ b. b || sound_page f h pg k used) (eq-eqb p 0 z))
-
-  pub own_some : {at : List ℕ} {r : Bool} → (p ≡ 0 → ⊥) → at ≡ pg → r ≡ sound_page f h at k used → r ≡ (eqb p 0 || sound_page f h pg k used)
-  own_some z e r =
-      r ∙ ap (λ x. sound_page f h x k used) e ∙ sym (ap (λ b. b || sound_page f h pg k used) (ne_eqb p 0 z))
 
 -- a level passed: what is left to be counted where `left` halvings come to level j + 1
 pub costs_turn : (θ : ℕ) (ts : List Step) (j left t : ℕ) {R a b : ℕ} → R ≡ t + bump_costs left θ (map (λ t. t.depth) (drop j ts))

@@ -1,6 +1,6 @@
 -- Steps by value against places: what is carried is what the words say.
 --   take_unused, take_last, page_unused, page_last == a block taken, as the code writes it
---   deeper_place == a step one bit deeper; half_place: the step in the half that the key's next bit chooses
+--   half_place == the step in the half that the key's next bit chooses
 use mathlib.Core.Path.{◌≡◌, refl, sym, ap, ap₂, ◌∙◌}
 use mathlib.Core.Bool.{Bool, true, false, false≢true}
 use mathlib.Core.Logic.{◌⊎◌, inl, inr}
@@ -17,7 +17,7 @@ use Rattle.store.specs.Head.{head_of, released_of, node_start, page_start}
 use Rattle.store.specs.Released.{node_next, page_next, next_node, node_taken, next_page, page_taken}
 use Rattle.split.proofs.Frame.{taken_none, taken_some, page_none, page_some}
 use Rattle.search.specs.declared.Step.{Step}
-use Rattle.split.specs.Round.{chosen, deeper, in_half}
+use Rattle.split.specs.Round.{chosen, in_half}
 use Rattle.insert.specs.Enter.{place_of}
 
 -- a head whose eight words are the same
@@ -82,12 +82,6 @@ page_last f s h at x e p q z =
           (λ j l.
           get_or-set_other (set s 9 x) 11 j (get_or s 11 0 - 1) 0 (λ i. omega arith) ∙ get_or-set_other s 9 j x 0 (λ i. omega arith)),
     )
-
-pub deeper_place : (f : Format) (k : ℕ) (t : Step)
-    → place_of f k (record { node = t.node; entry = t.entry; depth = t.depth + 1; used = t.used }) ≡ deeper (place_of f k t)
-deeper_place f k t =
-    let n : t.depth + 1 ≡ suc t.depth = omega arith in
-    ap (λ d. record { at = t.node; bits = bits (width f - t.used) k; depth = d }) n
 
 chosen_true : (b : Bool) (k : List Bool) (x y : ℕ) → b ≡ true → chosen (b ∷ k) x y ≡ y
 chosen_true true k x y e = refl

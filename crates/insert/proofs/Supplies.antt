@@ -1,18 +1,18 @@
 -- The blocks that an enter is to take, on any words: what they are after the chain test, after one is taken, and after other blocks are
 -- written.
 --   Next s n ns == n is the next node block, and the blocks ns come after it
-use mathlib.Core.Path.{◌≡◌, refl, sym, ap, ◌∙◌, subst}
+use mathlib.Core.Path.{◌≡◌, sym, ap, ◌∙◌, subst}
 use mathlib.Core.List.{List, [], ◌∷◌}
-use Prim.Native.Nat.{ℕ, zero, suc, ◌+◌, ◌-◌, ◌≤◌, ◌<◌}
-use native.Mathlib.Decide.{ℕ_discrete, dec_le}
+use Prim.Native.Nat.{ℕ, zero, suc, ◌-◌, ◌≤◌}
+use native.Mathlib.Decide.{ℕ_discrete}
 use native.Mathlib.Omega.{arith}
 use lib.ListN.{length, take}
 use Rattle.store.specs.declared.Format.{Format}
 use Rattle.store.specs.declared.Head.{Head}
 use Rattle.store.specs.declared.Released.{Released}
-use Rattle.store.specs.Head.{word, head_of, released_of, node_words, node_start}
+use Rattle.store.specs.Head.{word, head_of, released_of, node_words}
 use Rattle.store.specs.Released.{node_next, next_node, node_taken}
-use Rattle.represent.specs.Labelled.{ind, count}
+use Rattle.represent.specs.Labelled.{count}
 use Rattle.represent.specs.Rep.{Sized}
 use Rattle.represent.proofs.LabelLaws.{ind_eq, ind_self, ind_other}
 use Rattle.split.specs.Frame.{node_of, put_node}

@@ -1,4 +1,4 @@
--- What crate removal's remove replies and writes. The key of what it gives has 32 bits.
+-- The key of what remove gives has 32 bits.
 use mathlib.Core.Path.{subst, sym}
 use Prim.Native.Nat.{◌^◌, ◌<◌}
 use Rattle.store.specs.Format.{width}

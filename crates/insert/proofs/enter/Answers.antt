@@ -18,11 +18,11 @@ use lib.ListN.{length}
 use Rattle.store.proofs.HeadLaws.{head_long, head_whole}
 use Rattle.page.specs.Page.{lawful_item}
 use Rattle.page.specs.Schema.{key_of, unlawful}
-use Rattle.search.specs.Way.{End, sound_end}
+use Rattle.search.specs.Way.{End}
 use Rattle.search.specs.Descent.{descent, end_of}
 use Rattle.search.proofs.WayLaws.{answered_err, damage_passed, end_is}
 use Rattle.insert.specs.Enter.{own_items, undamaged, enter_reply}
-use Rattle.insert.specs.Fine.{Accepted, Placing, Putting}
+use Rattle.insert.specs.Fine.{Accepted, Putting}
 use Rattle.insert.proofs.Refusals.{enter_3, enter_6}
 use Rattle.insert.proofs.EnterCode.{Begun, begun_limits, way_is, end_sound, begun_damaged, begun_held, accepted_limits, refuses}
 use Rattle.insert.proofs.EnterCode.{Tested, tested_placing, room_tested, no_blocks, no_need, still, enters}
@@ -56,8 +56,8 @@ returns-then-not-head_ok c = refuses (enter_3 _ _ _ (sym c.head_ok.ensures ∙ c
 pub returns-then-not-lawful_item : goal.returns-then-not-lawful_item
 returns-then-not-lawful_item c =
     let r =
-        refuses
-        (enter_6 _ _ _ (sym c.head_ok.ensures ∙ c.if-not-head_ok.false) (sym c.lawful_item.ensures ∙ c.if-not-lawful_item.true)) in
+    refuses
+    (enter_6 _ _ _ (sym c.head_ok.ensures ∙ c.if-not-head_ok.false) (sym c.lawful_item.ensures ∙ c.if-not-lawful_item.true)) in
     (ap refused (sym (outside c.args.f)) ∙ r.0, r.1)
 
 pub head_of-head-requires : goal.head_of-head-requires
@@ -109,8 +109,8 @@ page_full-requires c =
     let e = end_is _ (sym c.in_ok-e.was ∙ c.end_of.ensures.0) in
     let o = sym (c.way_ok.ensures _ e) ∙ c.if-not-way_ok.false in
     let k =
-        accepted (begun c.head_ok.ensures c.if-not-head_ok.false c.lawful_item.ensures c.if-not-lawful_item.false c.head_of-head.ensures)
-        e o (sym c.held_at.ensures ∙ c.if-held_at.false) in
+    accepted (begun c.head_ok.ensures c.if-not-head_ok.false c.lawful_item.ensures c.if-not-lawful_item.false c.head_of-head.ensures)
+    e o (sym c.held_at.ensures ∙ c.if-held_at.false) in
     let l = accepted_limits k in
     (l.1, l.2, l.3)
 
@@ -119,8 +119,8 @@ enter_full-requires c =
     let e = end_is _ (sym c.in_ok-e.was ∙ c.end_of.ensures.0) in
     let o = sym (c.way_ok.ensures _ e) ∙ c.if-not-way_ok.false in
     let k =
-        accepted (begun c.head_ok.ensures c.if-not-head_ok.false c.lawful_item.ensures c.if-not-lawful_item.false c.head_of-head.ensures)
-        e o (sym c.held_at.ensures ∙ c.if-held_at.false) in
+    accepted (begun c.head_ok.ensures c.if-not-head_ok.false c.lawful_item.ensures c.if-not-lawful_item.false c.head_of-head.ensures)
+    e o (sym c.held_at.ensures ∙ c.if-held_at.false) in
     k
 
 pub enter_null-requires : goal.enter_null-requires
@@ -128,8 +128,8 @@ enter_null-requires c =
     let e = end_is _ (sym c.in_ok-e.was ∙ c.end_of.ensures.0) in
     let o = sym (c.way_ok.ensures _ e) ∙ c.if-not-way_ok.false in
     let k =
-        accepted (begun c.head_ok.ensures c.if-not-head_ok.false c.lawful_item.ensures c.if-not-lawful_item.false c.head_of-head.ensures)
-        e o (sym c.held_at.ensures ∙ c.if-held_at.false) in
+    accepted (begun c.head_ok.ensures c.if-not-head_ok.false c.lawful_item.ensures c.if-not-lawful_item.false c.head_of-head.ensures)
+    e o (sym c.held_at.ensures ∙ c.if-held_at.false) in
     (k, e, c.if-e-eq0.true)
 
 pub page_start-at-requires : goal.page_start-at-requires
@@ -137,8 +137,8 @@ page_start-at-requires c =
     let e = end_is _ (sym c.in_ok-e.was ∙ c.end_of.ensures.0) in
     let o = sym (c.way_ok.ensures _ e) ∙ c.if-not-way_ok.false in
     let k =
-        accepted (begun c.head_ok.ensures c.if-not-head_ok.false c.lawful_item.ensures c.if-not-lawful_item.false c.head_of-head.ensures)
-        e o (sym c.held_at.ensures ∙ c.if-held_at.false) in
+    accepted (begun c.head_ok.ensures c.if-not-head_ok.false c.lawful_item.ensures c.if-not-lawful_item.false c.head_of-head.ensures)
+    e o (sym c.held_at.ensures ∙ c.if-held_at.false) in
     let l = accepted_limits k in
     (l.1, l.3)
 
@@ -159,8 +159,8 @@ put_own-requires c =
     let e = end_is _ (sym c.in_ok-e.was ∙ c.end_of.ensures.0) in
     let o = sym (c.way_ok.ensures _ e) ∙ c.if-not-way_ok.false in
     let k =
-        accepted (begun c.head_ok.ensures c.if-not-head_ok.false c.lawful_item.ensures c.if-not-lawful_item.false c.head_of-head.ensures)
-        e o (sym c.held_at.ensures ∙ c.if-held_at.false) in
+    accepted (begun c.head_ok.ensures c.if-not-head_ok.false c.lawful_item.ensures c.if-not-lawful_item.false c.head_of-head.ensures)
+    e o (sym c.held_at.ensures ∙ c.if-held_at.false) in
     let t = tested k e c.if-e-eq0.false c.page_full.ensures c.if-page_full.false in
     record { head = _; end = _; way = _; putting = putting t e c.if-e-eq0.false c.page_start-at.ensures.0 }
 
@@ -169,8 +169,8 @@ entry_done-requires c =
     let e = end_is _ (sym c.in_ok-e.was ∙ c.end_of.ensures.0) in
     let o = sym (c.way_ok.ensures _ e) ∙ c.if-not-way_ok.false in
     let k =
-        accepted (begun c.head_ok.ensures c.if-not-head_ok.false c.lawful_item.ensures c.if-not-lawful_item.false c.head_of-head.ensures)
-        e o (sym c.held_at.ensures ∙ c.if-held_at.false) in
+    accepted (begun c.head_ok.ensures c.if-not-head_ok.false c.lawful_item.ensures c.if-not-lawful_item.false c.head_of-head.ensures)
+    e o (sym c.held_at.ensures ∙ c.if-held_at.false) in
     let t = tested k e c.if-e-eq0.false c.page_full.ensures c.if-page_full.false in
     let p = putting t e c.if-e-eq0.false c.page_start-at.ensures.0 in
     (omega (arith, c.put_own.auto.store, head_whole _ _ k.rule), (c.put_own.ensures _ _ _ p).0)
@@ -180,8 +180,8 @@ returns c =
     let e = end_is _ (sym c.in_ok-e.was ∙ c.end_of.ensures.0) in
     let o = sym (c.way_ok.ensures _ e) ∙ c.if-not-way_ok.false in
     let k =
-        accepted (begun c.head_ok.ensures c.if-not-head_ok.false c.lawful_item.ensures c.if-not-lawful_item.false c.head_of-head.ensures)
-        e o (sym c.held_at.ensures ∙ c.if-held_at.false) in
+    accepted (begun c.head_ok.ensures c.if-not-head_ok.false c.lawful_item.ensures c.if-not-lawful_item.false c.head_of-head.ensures)
+    e o (sym c.held_at.ensures ∙ c.if-held_at.false) in
     let t = tested k e c.if-e-eq0.false c.page_full.ensures c.if-page_full.false in
     let p = putting t e c.if-e-eq0.false c.page_start-at.ensures.0 in
     enters (still t (no_need _) (no_blocks _ _)) (c.put_own.ensures _ _ _ p).1 (Ok c.entry_done.result)

@@ -82,8 +82,8 @@ place-h-requires c =
     let m = c.make_room-course.ensures in
     let t = accepted_tested c.requires d c.plan_for-plan.ensures in
     let r =
-        room_made t (sym c.room_for.ensures ∙ c.if-not-room_for.false) (sym c.chains_ok.ensures ∙ c.if-not-chains_ok.false)
-        m.0.head_is m.1 in
+    room_made t (sym c.room_for.ensures ∙ c.if-not-room_for.false) (sym c.chains_ok.ensures ∙ c.if-not-chains_ok.false)
+    m.0.head_is m.1 in
     (record { way = _; placing = room_placing r m.0 c.ending.ensures }, begun_narrow t.begun)
 
 pub entry_done-requires : goal.entry_done-requires
@@ -96,6 +96,6 @@ returns c =
     let m = c.make_room-course.ensures in
     let t = accepted_tested c.requires d c.plan_for-plan.ensures in
     let r =
-        room_made t (sym c.room_for.ensures ∙ c.if-not-room_for.false) (sym c.chains_ok.ensures ∙ c.if-not-chains_ok.false)
-        m.0.head_is m.1 in
+    room_made t (sym c.room_for.ensures ∙ c.if-not-room_for.false) (sym c.chains_ok.ensures ∙ c.if-not-chains_ok.false)
+    m.0.head_is m.1 in
     enters r (c.place-h.ensures.1 _ (room_placing r m.0 c.ending.ensures)) (Ok c.entry_done.result) (c.entry_done.ensures c.args.item refl)

@@ -1,9 +1,9 @@
 -- The plan is known: no round, and a page. Blocks, the chain, the put.
-use Rattle.std.proofs.Common.{◌≡◌, refl, sym, ap, ◌∙◌}
+use Rattle.std.proofs.Common.{refl, sym, ◌∙◌}
 use native.Mathlib.Omega.{arith}
 use Rattle.std.specs.Prelude.{Ok}
 use Rattle.store.proofs.HeadLaws.{head_whole}
-use Rattle.insert.proofs.EnterCode.{Tested, one_page, no_room, no_chain, begun_narrow, tested_placing, null_tested, still, enters, refuses}
+use Rattle.insert.proofs.EnterCode.{one_page, no_room, no_chain, begun_narrow, tested_placing, null_tested, still, enters, refuses}
 use Rattle.insert.proofs.enter_null.Goals as goal
 
 pub room_for-requires : goal.room_for-requires

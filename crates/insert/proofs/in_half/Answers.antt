@@ -1,5 +1,5 @@
 -- The key's next bit chooses the half.
-use Rattle.std.proofs.Common.{◌≡◌, sym, ◌∙◌, ◌-◌, inl, inr}
+use Rattle.std.proofs.Common.{sym, ◌∙◌, ◌-◌, inl, inr}
 use native.Mathlib.Omega.{arith}
 use Rattle.insert.proofs.StepCode.{half_place}
 use Rattle.insert.proofs.in_half.Goals as goal

@@ -1,7 +1,7 @@
 -- A page has the key where find finds it.
-use mathlib.Core.Path.{◌≡◌, refl, sym, ap, ◌∙◌}
-use mathlib.Core.Bool.{Bool, true, false}
-use Rattle.std.specs.Prelude.{Option, Some, None, Result, Ok, Err, is_some}
+use mathlib.Core.Path.{◌≡◌, refl, ap, ◌∙◌}
+use mathlib.Core.Bool.{Bool, false}
+use Rattle.std.specs.Prelude.{Option, Result, Ok, Err, is_some}
 use Rattle.answers.specs.declared.Refusal.{Refusal}
 use Rattle.store.specs.declared.Item.{Item}
 use Rattle.page.proofs.Inside.{filled}

@@ -1,10 +1,9 @@
 -- The rounds that are left, made from where the loop stands, come to what all of them come to from the start.
-use mathlib.Core.Path.{◌≡◌, refl, sym, ap, ◌∙◌}
+use mathlib.Core.Path.{◌≡◌, ap, ◌∙◌}
 use Prim.Native.Nat.{ℕ, ◌+◌, ◌-◌, ◌<◌, ◌≤◌}
 use native.Mathlib.Omega.{arith}
 use Rattle.search.specs.Way.{sound_descent}
 use Rattle.insert.specs.Enter.{way_of, rounds_of}
-use Rattle.insert.specs.Fine.{Fine}
 use Rattle.insert.proofs.EnterCode.{turn_can, turn_fine, turn_rest, rounds_over}
 use Rattle.insert.proofs.make_room.Goals as goal
 

@@ -1,5 +1,5 @@
 -- The rounds that are left, made from where the loop stands, come to what all of them come to from the start.
-use Rattle.std.proofs.Common.{◌≡◌, ◌-◌, length}
+use Rattle.std.proofs.Common.{◌≡◌, ◌-◌}
 use Rattle.search.specs.Way.{sound_descent}
 use Rattle.insert.specs.Enter.{way_of, rounds_of}
 use Rattle.insert.specs.Fine.{Carries, Fine}

@@ -1,5 +1,5 @@
 -- By its tests, in order.
-use Rattle.std.proofs.Common.{◌≡◌, refl, sym, ap, ◌∙◌, true, false, eqb}
+use Rattle.std.proofs.Common.{refl, sym, ap, ◌∙◌, true, false, eqb}
 use mathlib.Core.Bool.{not}
 use borrow.Author.Tests.{eq-eqb, ne_eqb, lt-leb, le-leb}
 use Rattle.insert.proofs.PlanLaws.{word_of, no_neighbour, neighbour_is}

@@ -1,5 +1,5 @@
 -- Each level passes on the halvings that come when its run is at theta.
-use Rattle.std.proofs.Common.{◌≡◌, ◌+◌, ◌*◌, ◌≤◌, take}
+use Rattle.std.proofs.Common.{take}
 use native.Mathlib.Omega.{arith}
 use Rattle.insert.proofs.PlanLaws.{costs_turn}
 use Rattle.insert.proofs.nodes_for.Goals as goal

@@ -1,5 +1,5 @@
 -- What is left, by the head and by the released blocks.
-use Rattle.std.proofs.Common.{◌≡◌, refl, sym, ap, ap₂, ◌∙◌, Bool, ◌&&◌, true, false, ℕ, ◌+◌, ◌-◌, ◌<◌, ◌≤◌, List, leb}
+use Rattle.std.proofs.Common.{◌≡◌, sym, ap, ap₂, ◌∙◌, Bool, ◌&&◌, false, ℕ, ◌+◌, ◌-◌, ◌<◌, ◌≤◌, List, leb}
 use native.Mathlib.Omega.{arith}
 use borrow.Author.Tests.{lt-leb, le-leb}
 use Rattle.store.specs.declared.Head.{Head}

@@ -46,7 +46,7 @@ climb-requires c =
     let g = c.split_first-g.ensures in
     let p = c.requires in
     let r =
-        round_climbs _ _ _ _ _ _ _ p.0 p.2 c.in_half.result _ _ _ c.if-t-head.false g.0 g.1 g.2 c.in_half.ensures p.3 in
+    round_climbs _ _ _ _ _ _ _ p.0 p.2 c.in_half.result _ _ _ c.if-t-head.false g.0 g.1 g.2 c.in_half.ensures p.3 in
     (r.0, p.1, r.1, r.2)
 
 pub returns : goal.returns
@@ -56,6 +56,6 @@ returns c =
     let u = c.climb in
     let e = u.ensures in
     let r =
-        round_ends _ _ _ _ _ _ _ p.0 p.2 c.in_half.result _ _ _ u.result.head u.result.steps _ c.if-t-head.false g.0 g.1 g.2
-        c.in_half.ensures e.1 e.2 in
+    round_ends _ _ _ _ _ _ _ p.0 p.2 c.in_half.result _ _ _ u.result.head u.result.steps _ c.if-t-head.false g.0 g.1 g.2
+    c.in_half.ensures e.1 e.2 in
     (e.0, r.0, r.1)

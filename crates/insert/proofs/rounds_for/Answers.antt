@@ -1,5 +1,5 @@
 -- Each bit in which all keys agree with the key is a round more.
-use Rattle.std.proofs.Common.{◌≡◌, sym, ◌∙◌, ◌≤◌, ◌<◌}
+use Rattle.std.proofs.Common.{sym, ◌∙◌, ◌≤◌, ◌<◌}
 use native.Mathlib.Omega.{arith}
 use Rattle.store.specs.Format.{width}
 use Rattle.insert.proofs.PlanLaws.{rounds_more, rounds_done, rounds_next, rounds_last, rounds_out}

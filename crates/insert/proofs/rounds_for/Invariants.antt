@@ -1,5 +1,5 @@
 -- The keys agree in all bits so far: each is a round more.
-use Rattle.std.proofs.Common.{◌≡◌, true, ◌+◌, ◌-◌, ◌≤◌}
+use Rattle.std.proofs.Common.{◌≡◌, true, ◌+◌, ◌-◌}
 use Rattle.tree.specs.Build.{rounds}
 use Rattle.store.specs.Format.{width}
 use Rattle.page.specs.Page.{agrees}

@@ -22,5 +22,5 @@ returns c =
     let p = c.requires in
     let e = c.take_node-g.ensures in
     let k =
-        split_done a.f a.store.now (place_of a.f a.key a.t) a.a a.c p.2 a.head _ _ _ _ p.0 p.4 p.5 e.1 e.2 e.0 c.split_block.ensures in
+    split_done a.f a.store.now (place_of a.f a.key a.t) a.a a.c p.2 a.head _ _ _ _ p.0 p.4 p.5 e.1 e.2 e.0 c.split_block.ensures in
     (e.0, k.0, k.1)

@@ -54,5 +54,5 @@ returns c =
     let t = place_of a.f a.key a.t in
     let b = behind a.f a.store.now t p.2 a.head p.0 c.word-behind.ensures c.node_start.ensures.0 in
     let k =
-        first_done a.f a.store.now t a.a a.c p.2 a.head _ _ _ _ _ _ p.0 p.4 p.5 p.6 e.1 e.2 e.0 c.split_linked.ensures b c.relink.ensures in
+    first_done a.f a.store.now t a.a a.c p.2 a.head _ _ _ _ _ _ p.0 p.4 p.5 p.6 e.1 e.2 e.0 c.split_linked.ensures b c.relink.ensures in
     (e.0, k.0, k.1)

@@ -2,7 +2,6 @@
 use Rattle.std.proofs.Common.{◌≡◌, refl, sym, ap, ◌∙◌, ℕ, suc, ◌-◌, inl, inr}
 use native.Mathlib.Omega.{arith}
 use Rattle.lists.specs.Bits.{bit}
-use Rattle.store.specs.Format.{width}
 use Rattle.store.proofs.HeadLaws.{width_within}
 use Rattle.insert.proofs.TurnCode.{turn_bit, turn_page, turn_round, turn_done}
 use Rattle.insert.proofs.turn.Goals as goal

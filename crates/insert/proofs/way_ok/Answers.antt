@@ -1,5 +1,5 @@
 -- By its tests.
-use mathlib.Core.Path.{◌≡◌, refl, sym, ◌∙◌}
+use mathlib.Core.Path.{refl, sym, ◌∙◌}
 use mathlib.Core.Bool.{true, false}
 use Rattle.insert.proofs.EnterCode.{way_is}
 use Rattle.insert.proofs.way_ok.Goals as goal
