@@ -3,7 +3,7 @@
 --   left_at high more       == how many keys are left from the first one not written
 --   survey_rest s high n p  == what the survey gives after n records, the last part among them having replied p
 use mathlib.Core.Path.{◌≡◌, refl, sym, ap, ◌∙◌, subst}
-use mathlib.Core.Bool.{Bool, true, false}
+use mathlib.Core.Bool.{true, false}
 use mathlib.Core.List.{List, [], ◌++◌}
 use Prim.Native.Nat.{ℕ, zero, suc, ◌+◌, ◌-◌, ◌*◌, ◌/◌, ◌≤◌, ◌<◌}
 use native.Mathlib.Decide.{ℕ_discrete}
@@ -13,11 +13,9 @@ use lib.ListN.{length, replicate}
 use borrow.Author.Tests.{eq-eqb, ne_eqb, eqb-false}
 use Rattle.std.specs.Prelude.{Option, Some, None, Result, Ok, Err}
 use Rattle.lists.proofs.Cases.{by_cases}
-use Rattle.lines.specs.declared.Reply.{Reply}
 use Rattle.lines.specs.declared.Kind.TheVariants as kinds
 use Rattle.lines.specs.declared.Reply.TheVariants.{Refused, SetUpLine}
 use Rattle.store.specs.declared.Format.TheVariants.{Plots}
-use Rattle.store.specs.declared.Head.{Head}
 use Rattle.store.specs.Format.{words}
 use Rattle.store.specs.Head.{word, head_of}
 use Rattle.scan.specs.Range.{RangeReply, range_refused, range_of}
@@ -154,6 +152,14 @@ module _ (s : List ℕ) (high : ℕ) where
   unfolding survey_rest
   rest_done n p e = rw (eq-eqb p.more 0 e, survey_rest)
 
+-- a call that is refused ends it
+pub rest_refused : (s : List ℕ) (high n m : ℕ) (p : RangeReply) → (m ≡ 0 → ⊥) → (p.more ≡ 0 → ⊥)
+    → (part_of s p.more high).reply ≡ range_refused m → survey_rest s high n p ≡ Err m
+rest_refused s high n m p nonzero h r =
+    let number = ap (λ (a : RangeReply). a.number) r in
+    rest_turn s high n p _ h refl ∙ rest_done s high _ _ (ap (λ (a : RangeReply). a.more) r)
+    ∙ survey_refused _ _ (λ z. nonzero (sym number ∙ z)) ∙ ap (λ (i : ℕ). Err i) number
+
 unfoldable pub left_at : ℕ → ℕ → ℕ
 left_at high more = elim (eqb more 0) [ true ↦ 0 | false ↦ suc (high - more) ]
 
@@ -191,7 +197,7 @@ module _ (s : List ℕ) (n : ℕ) (a : Result ℕ ℕ) (e : a ≡ surveyed s 1 l
 
 -- the first call is refused
 module _ (s : List ℕ) (low high n : ℕ) (nonzero : n ≡ 0 → ⊥) (r : (part_of s low high).reply ≡ range_refused n) where
-  survey_first : surveyed s low high ≡ Err n
+  pub survey_first : surveyed s low high ≡ Err n
   survey_first =
       let number = ap (λ (a : RangeReply). a.number) r in
       survey_turn s high low ∙ rest_done s high _ _ (ap (λ (a : RangeReply). a.more) r)

@@ -9,7 +9,7 @@ use lib.ListN.{length, take, drop, replicate, length-append, length-take, length
 use lib.ListN.{take-append-drop}
 use lib.Seq.{take_all}
 use borrow.Author.Tests.{le-leb, lt-leb, leb-true, le-ltb, lt-ltb}
-use Rattle.std.specs.Prelude.{Option, Some, None, Result, Ok, Err}
+use Rattle.std.specs.Prelude.{Option, Some, None, Ok}
 use Rattle.lists.specs.Lists.{All}
 use Rattle.lists.specs.Keyed.{Sorted}
 use Rattle.lists.proofs.Cases.{by_cases}
@@ -32,7 +32,6 @@ use Rattle.lines.specs.declared.Kind.TheVariants as kinds
 use Rattle.lines.specs.declared.Reply.TheVariants.{RangeEnd, Refused, SetUpLine}
 use Rattle.lines.specs.Reply.{reply_line}
 use Rattle.desk.specs.declared.Listing.{Listing}
-use Rattle.desk.specs.declared.Outcome.TheVariants.{Parts}
 use Rattle.desk.specs.Replies.{listed_lines}
 use Rattle.desk.specs.Listing.{part_records, part_of, part_items, counted, surveyed, last_line, part_lines, carried}
 use Rattle.desk.specs.Transcript.{listing, opened, largest_key, dumped, outcome_bytes}

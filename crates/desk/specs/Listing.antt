@@ -1,12 +1,12 @@
 -- A range of any length, or the register, listed in parts: the call is repeated from the first key not written.
 --   part_records          == how many records a part has at most
 --   part_bytes            == how many bytes it has at most, with the last line of the listing
---   piece_reply p         == the answer to one call, as range's definition has it
 --   part_of s low high    == one call of range on the store s, with room for a part
 --   part_items s low high == the records that it writes
 --   item_from ws at       == the record whose words stand at an index; items_of n ws: n records, one after another
 --   surveyed s low high  == what all the calls together give: the records counted, or the number that refuses one of them
 --   counted n a, survey_from fuel s low high == n records in front of a survey; the survey with so many calls at most
+--   survey_told a        == the answer a to a survey, with the number of what refuses it
 --   survey_of p n         == the survey whose last call gave p, after n records in all
 --   part_lines s l, listing_after s l == the bytes of the next part of the listing l, and what is left of the listing after it, if anything is
 --   kind_listed dump      == the kind of a listing: of a range, or of the register
@@ -15,6 +15,8 @@
 --   carried s l          == the bytes of what is left of a listing l, part after part; none where no listing is open
 --   carried_from fuel s l == the same with so many parts at most
 use Rattle.std.specs.Prelude.{Bool, true, false, Option, Some, None, Result, Ok, Err, List, [], ◌++◌, ℕ, zero, suc, ◌+◌, ◌-◌, ◌*◌, eqb, get_or, replicate}
+use Rattle.answers.specs.declared.Refusal.{Refusal}
+use Rattle.answers.specs.Answers.{number}
 use Rattle.lists.specs.Lists.{tab}
 use Rattle.lines.specs.declared.Kind.{Kind}
 use Rattle.lines.specs.declared.Kind.TheVariants as kinds
@@ -24,7 +26,6 @@ use Rattle.store.specs.declared.Format.TheVariants.{Plots}
 use Rattle.store.specs.declared.Item.{Item}
 use Rattle.store.specs.Head.{head_of}
 use Rattle.scan.specs.Range.{RangeReply, After, ranged, range_of}
-use Rattle.desk.specs.declared.Piece.{Piece}
 use Rattle.desk.specs.declared.Listing.{Listing}
 use Rattle.desk.specs.Replies.{listed_lines}
 
@@ -34,9 +35,6 @@ part_records = 64
 -- 64 records and the last line, 45 bytes each
 abbrev pub part_bytes : ℕ
 part_bytes = 2925
-
-abbrev pub piece_reply : Piece → RangeReply
-piece_reply p = record { number = p.number; count = p.count; more = p.more }
 
 unfoldable pub part_of : List ℕ → ℕ → ℕ → After
 part_of s low high = range_of Plots s low high (replicate (4 * part_records) 0)
@@ -66,6 +64,10 @@ survey_from (suc fuel) s low high =
       | true ↦ survey_of (part_of s low high).reply (part_of s low high).reply.count
       | false ↦ counted (part_of s low high).reply.count (survey_from fuel s (part_of s low high).reply.more high)
     ]
+
+abbrev pub survey_told : Result ℕ Refusal → Result ℕ ℕ
+survey_told (Ok count) = Ok count
+survey_told (Err e) = Err (number e)
 
 unfoldable pub surveyed : List ℕ → ℕ → ℕ → Result ℕ ℕ
 surveyed s low high = survey_from (suc (high - low)) s low high

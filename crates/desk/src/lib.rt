@@ -5,11 +5,11 @@
 ghost use Rattle.std.specs.Prelude.{◌≡◌, true, is_some, [], ◌++◌, ◌⊎◌, ◌+◌, ◌*◌, ◌^◌, ◌≤◌, ◌<◌, min, length, drop};
 ghost use Rattle.store.specs.declared.Format.TheVariants.{Plots};
 ghost use Rattle.store.specs.SetUp;
-ghost use Rattle.scan.specs.Range.{range_refused, range_of};
+ghost use Rattle.scan.specs.Range.{range_of};
 ghost use Rattle.index.specs.Answers.{reply, enter_reply, range_reply, summary_reply};
 ghost use Rattle.lines.specs.Request.{parsed};
 ghost use Rattle.desk.specs.Replies.{set_up_told, enter_told, found_told, summary_told, listed_told, listed_lines};
-ghost use Rattle.desk.specs.Listing.{part_bytes, piece_reply, part_of, item_from, items_of, survey_of, surveyed};
+ghost use Rattle.desk.specs.Listing.{part_bytes, part_of, item_from, items_of, survey_told, surveyed};
 ghost use Rattle.desk.specs.Listing.{kind_listed, last_line, part_lines, listing_after};
 ghost use Rattle.desk.specs.Transcript.{opened, dumped, answered, answered_line};
 ghost use Rattle.desk.specs.Serving.{line_of, kept_line, until_feed, goes_on, GetsOn, Answers, Serves, Finishes};
@@ -33,14 +33,6 @@ pub struct Listing {
     pub count: u32,
 }
 
-// What one call of range says: its number, the records written, and the first key not written, 0 if none.
-#[derive(Clone, Copy)]
-pub struct Piece {
-    pub number: u32,
-    pub count: u32,
-    pub more: u32,
-}
-
 // What a request is answered with: one line, a listing in parts, or a line and then a listing.
 #[derive(Clone, Copy)]
 pub enum Outcome {
@@ -50,7 +42,7 @@ pub enum Outcome {
 }
 
 // What is under way between two bytes: the line so far (one byte more than a line has, so that a longer one is seen to be too long), how
-// many bytes of it are held, and a listing that is not at its end.
+// many bytes of it are held, and a listing that is not at its end. (A fixed line with its length beside: there is no heap.)
 #[derive(Clone, Copy)]
 pub struct Desk {
     pub line: [u8; 43],
@@ -109,72 +101,40 @@ fn summary_told(a: Result<Summed, Refusal>) -> Reply
     }
 }
 
-// A range's answer as numbers.
-fn piece_of(a: Result<index::Listing, Refusal>) -> Piece
-    requires { (range_reply a).count < 2 ^ 32 }
-    ensures { piece_reply result ≡ range_reply a }
-{
-    match a {
-        Ok(l) => Piece {
-            number: 0,
-            count: l.count as u32,
-            more: l.more,
-        },
-        Err(e) => refused(e.number()),
-    }
-}
-
-// A refused call.
-fn refused(number: u32) -> Piece
-    ensures { piece_reply result ≡ range_refused number }
-{
-    Piece {
-        number,
-        count: 0,
-        more: 0,
-    }
-}
-
 // One call of range, with room for a part.
-fn read_part(store: &[u32], low: u32, high: u32, part: &mut [u32]) -> Piece
-    requires { length part.old ≡ 256 }
-    ensures { (piece_reply result ≡ (range_of Plots store.now low high part.old).reply)
+fn read_part(
+    store: &[u32],
+    low: u32,
+    high: u32,
+    part: &mut [u32],
+) -> Result<index::Listing, Refusal>
+    ensures { (range_reply result ≡ (range_of Plots store.now low high part.old).reply)
         × (part.new ≡ (range_of Plots store.now low high part.old).words) }
 {
-    piece_of(index::range(store, low, high, part))
+    index::range(store, low, high, part)
 }
 
 // The same, for what it says alone.
-fn probe(store: &[u32], low: u32, high: u32) -> Piece
-    ensures { piece_reply result ≡ (part_of store.now low high).reply }
+#[tactic(auto, unfolding(crate::specs::Listing::part_of))]
+fn probe(store: &[u32], low: u32, high: u32) -> Result<index::Listing, Refusal>
+    ensures { range_reply result ≡ (part_of store.now low high).reply }
 {
     let mut part = [0u32; 256];
     read_part(store, low, high, &mut part)
 }
 
-// The end of a survey: the records counted in all, or the number that refuses the last call.
-#[tactic(auto, unfolding(crate::specs::Listing::survey_of))]
-fn survey_of(p: Piece, count: u32) -> Result<u32, u32>
-    ensures { result ≡ survey_of (piece_reply p) count }
+// Calls range from the first key not written, as long as one is named, and counts the records; or gives what refuses a call.
+fn count_range(store: &[u32], low: u32, high: u32) -> Result<u32, Refusal>
+    ensures { survey_told result ≡ surveyed store.now low high }
 {
-    if p.number == 0 {
-        Ok(count)
-    } else {
-        Err(p.number)
-    }
-}
-
-// Calls range from the first key not written, as long as one is named, and counts the records; or gives the number that refuses a call.
-fn count_range(store: &[u32], low: u32, high: u32) -> Result<u32, u32>
-    ensures { result ≡ surveyed store.now low high }
-{
-    let mut p = probe(store, low, high);
-    let mut count = p.count;
+    let mut p = probe(store, low, high)?;
+    let mut count = p.count as u32;
+    // no index is counted: each call names the key from which the next one reads
     while p.more != 0 {
-        p = probe(store, p.more, high);
-        count += p.count;
+        p = probe(store, p.more, high)?;
+        count += p.count as u32;
     }
-    survey_of(p, count)
+    Ok(count)
 }
 
 // A range: refused with one line, or counted and then listed from low on.
@@ -188,7 +148,7 @@ fn open_range(store: &[u32], low: u32, high: u32) -> Outcome
             high,
             count,
         }),
-        Err(number) => Outcome::Line(Reply::Refused(Kind::Range, number)),
+        Err(e) => Outcome::Line(Reply::Refused(Kind::Range, e.number())),
     }
 }
 
@@ -211,7 +171,7 @@ fn open_dump(store: &[u32]) -> Outcome
                 count,
             },
         ),
-        Err(number) => Outcome::Line(Reply::Refused(Kind::Dump, number)),
+        Err(e) => Outcome::Line(Reply::Refused(Kind::Dump, e.number())),
     }
 }
 
@@ -301,22 +261,25 @@ fn list_part(store: &[u32], l: Listing, out: &mut [u8]) -> Listed
         × (out.new ≡ part_lines store.now l ++ drop result.put out.old) }
 {
     let mut part = [0u32; 256];
-    let p = read_part(store, l.at, l.high, &mut part);
-    if p.number != 0 {
-        let put = lines::write(out, Reply::Refused(kind_listed(l.dump), p.number));
-        return Listed { listing: None, put };
-    }
-    let put = write_records(&part, l.dump, p.count, out);
-    if p.more != 0 {
-        return Listed {
-            listing: Some(Listing { at: p.more, ..l }),
-            put,
-        };
-    }
-    let end = put_last(l.dump, l.count, &mut out[put..]);
-    Listed {
-        listing: None,
-        put: put + end,
+    match read_part(store, l.at, l.high, &mut part) {
+        Err(e) => {
+            let put = lines::write(out, Reply::Refused(kind_listed(l.dump), e.number()));
+            Listed { listing: None, put }
+        }
+        Ok(p) => {
+            let put = write_records(&part, l.dump, p.count as u32, out);
+            if p.more != 0 {
+                return Listed {
+                    listing: Some(Listing { at: p.more, ..l }),
+                    put,
+                };
+            }
+            let end = put_last(l.dump, l.count, &mut out[put..]);
+            Listed {
+                listing: None,
+                put: put + end,
+            }
+        }
     }
 }
 
@@ -446,6 +409,7 @@ pub fn serve(store: &mut [u32], d: Desk, input: &[u8], out: &mut [u8]) -> Progre
     let mut desk = d;
     let mut taken: usize = 0;
     let mut put: usize = 0;
+    // no index is counted: each turn says how many bytes it took and put
     while goes_on(desk, input.len() - taken, out.len() - put) {
         let t = turn(store, desk, &input[taken..], &mut out[put..]);
         desk = t.desk;

@@ -1,19 +1,25 @@
 -- The laws of the reply words.
 use mathlib.Core.Path.{◌≡◌, refl, ap, ◌∙◌}
 use mathlib.Core.List.{List, [], ◌∷◌, ◌++◌}
-use Prim.Native.Nat.{ℕ}
-use native.Mathlib.Numerals.{unary_clauses}
+use Prim.Native.Nat.{ℕ, ◌≤◌, ◌<◌}
+use native.Mathlib.Omega.{arith}
 use lib.ListN.{length, take, drop}
-use Rattle.std.specs.Prelude.{min}
 use Rattle.exports.specs.Reply.{filled}
 
--- the front of the values, and the words behind it
-pub put_front : (vs out : List ℕ) → take (min (length out) (length vs)) vs ++ drop (min (length out) (length vs)) out ≡ filled vs out
+-- all the values, where the words are as many
+pub put_all : (vs out : List ℕ) → length vs ≤ length out → vs ++ drop (length vs) out ≡ filled vs out
 unfolding filled
-put_front [] [] = refl
-put_front [] (w ∷ ws) = simp unary_clauses refl
-put_front (v ∷ vs) [] = simp unary_clauses refl
-put_front (v ∷ vs) (w ∷ ws) = simp unary_clauses (ap (λ l. v ∷ l) (put_front vs ws))
+put_all [] [] h = refl
+put_all [] (w ∷ ws) h = refl
+put_all (v ∷ vs) [] h = absurd (omega arith)
+put_all (v ∷ vs) (w ∷ ws) h = ap (λ l. v ∷ l) (put_all vs ws (omega arith))
+
+-- or as many as there are words
+pub put_some : (vs out : List ℕ) → length out < length vs → take (length out) vs ≡ filled vs out
+unfolding filled
+put_some [] out h = absurd (omega arith)
+put_some (v ∷ vs) [] h = refl
+put_some (v ∷ vs) (w ∷ ws) h = ap (λ l. v ∷ l) (put_some vs ws (omega arith))
 
 -- the number and the values of a reply are told of an equal one
 pub told_of : {R : Type 0} (number : R → ℕ) (values : R → List ℕ) {a b : R} {r : ℕ} {after : List ℕ} (before : List ℕ)

@@ -21,12 +21,18 @@ ghost use Rattle.exports.specs.Reply.{summary_values, balance_values, key_values
 use answers::Refusal;
 use plot::{Label, Record};
 
-// Writes an answer's values at the front of the reply, as far as they fit, and gives its number.
+// Writes an answer's values at the front of the reply, as far as they fit, and gives its number. (Where all fit, their number is known at
+// each call, and so they are written without a call to copy memory.)
 fn told(reply: &mut [u64], number: u32, values: &[u64]) -> u32
     ensures { (result ≡ number) × (reply.new ≡ filled values.now reply.old) }
 {
-    let n = reply.len().min(values.len());
-    reply[..n].copy_from_slice(&values[..n]);
+    let n = values.len();
+    if n <= reply.len() {
+        reply[..n].copy_from_slice(values);
+    } else {
+        let room = reply.len();
+        reply.copy_from_slice(&values[..room]);
+    }
     number
 }
 

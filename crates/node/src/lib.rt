@@ -1,7 +1,7 @@
 // A node block of a store: the rule that a visited one keeps, and the entry that a key takes in it.
 #![tactic(auto)]
 
-ghost use Rattle.std.specs.Prelude.{◌≡◌, ◌+◌, ◌-◌, ◌*◌, ◌^◌, ◌<◌, ◌≤◌, max, length};
+ghost use Rattle.std.specs.Prelude.{◌≡◌, ◌+◌, ◌-◌, ◌*◌, ◌^◌, ◌<◌, ◌≤◌, length};
 ghost use Rattle.store.specs.Format.{width};
 ghost use Rattle.store.specs.Head.{node_words};
 ghost use Rattle.node.specs.Node.{back_word, entry_of, good_runs, link_rule, pointer_low, pointer_high, node_rule, entry_number};
@@ -73,13 +73,6 @@ fn gathered(
         torn: g.torn | torn(h, p, node[2 + 2 * i], node[3 + 2 * i], apart),
         full: g.full | u32::from(h == depth),
     }
-}
-
-// The larger of two numbers.
-pub fn larger(a: u32, b: u32) -> u32
-    ensures { result ≡ max a b }
-{
-    a.max(b)
 }
 
 // Whether the entries of a node fall into lawful runs, the largest local depth being the node's: without a branch at each entry.

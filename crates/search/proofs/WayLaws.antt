@@ -78,7 +78,7 @@ span_is w q =
     let h = answered_ok w.ok q in
     let k = some_is (eqb w.page 0) h.1 in (
       ap sound_span k.1
-      ∙ ap (λ (o : Bool). record { ok = o; page = w.page; from = w.from; to = w.to; last = w.last; node = w.node; used = w.used; behind = w.behind }) (sym h.0),
+          ∙ ap (λ (o : Bool). record { ok = o; page = w.page; from = w.from; to = w.to; last = w.last; node = w.node; used = w.used; behind = w.behind }) (sym h.0),
       eqb-false _ _ k.0,
     )
 

@@ -311,13 +311,6 @@ pub fn find(store: &[u32], f: Format, key: u64) -> Result<Option<Item>, Refusal>
     find_under(store, f, store::head_of(store), key)
 }
 
-// x - y, and 0 where that is below 0.
-pub fn less(x: u32, y: u32) -> u32
-    ensures { result ≡ x - y }
-{
-    x.saturating_sub(y)
-}
-
 // The first pointer of a node that is not null, from entry `start` on; 0 if there is none.
 fn first_pointer(node: &[u32], depth: u32, start: usize) -> u32
     requires { (depth ≤ 6) × (4 + 2 * 2 ^ depth ≤ length node.now) × (start < 2 ^ 40) }

@@ -43,15 +43,15 @@ returns-in_err-v c =
     let t : 1 ≤ l.below = omega arith in
     let h = answered_err _ _ (sym c.in_err-v.was ∙ c.visit_node.ensures) in
     let e =
-        turn_lost a.f a.store.now a.head a.key l.below l.node l.used l.steps _
-        (ap (λ (x : ℕ). step_of a.f a.store.now a.head a.key x l.node l.used) (one l.below t)) t _ l.invariant.3 h.0 in
+    turn_lost a.f a.store.now a.head a.key l.below l.node l.used l.steps _
+    (ap (λ (x : ℕ). step_of a.f a.store.now a.head a.key x l.node l.used) (one l.below t)) t _ l.invariant.3 h.0 in
     (damage_passed _ c.from_residual.ensures.1 h.1 ∙ ap descent_result e, rw (← e) (omega arith))
 
 pub overflow_add-used : goal.overflow_add-used
 overflow_add-used c =
     let l = c.loop-below in
     let e = visit_ok (step_of c.args.f c.args.store.now c.args.head c.args.key (l.below - 1 + 1) l.node l.used)
-        (sym c.in_ok-v.was ∙ c.visit_node.ensures) in
+    (sym c.in_ok-v.was ∙ c.visit_node.ensures) in
     omega (arith, width_within c.args.f, seen_bits _ _ _ _ _ l.node l.used e refl)
 
 pub loop-below-preserved : goal.loop-below-preserved
@@ -61,8 +61,8 @@ loop-below-preserved c =
     let l = c.loop-below in
     let t : 1 ≤ l.below = omega arith in
     let e =
-        visit_ok _ (sym c.in_ok-v.was ∙ c.visit_node.ensures)
-        ∙ ap (λ (x : ℕ). step_of a.f a.store.now a.head a.key x l.node l.used) (one l.below t) in (
+    visit_ok _ (sym c.in_ok-v.was ∙ c.visit_node.ensures)
+    ∙ ap (λ (x : ℕ). step_of a.f a.store.now a.head a.key x l.node l.used) (one l.below t) in (
       omega arith,
       seen_bits _ _ _ _ _ l.node l.used e refl,
       λ z. seen_in_use _ _ _ _ _ l.node l.used e refl (omega arith),

@@ -47,7 +47,7 @@ reached_rows-requires c =
 pub returns : goal.returns
 returns c =
     let e =
-        c.reached_rows.ensures
-        ∙ page_gives _ _ _ _ _ _ _ refl c.page_at-page.ensures (sym c.page_passes.ensures ∙ c.if-not-page_passes.false)
-        c.read_one-item.ensures (sym c.is_above.ensures ∙ c.if-not-is_above.false) in
+    c.reached_rows.ensures
+    ∙ page_gives _ _ _ _ _ _ _ refl c.page_at-page.ensures (sym c.page_passes.ensures ∙ c.if-not-page_passes.false)
+    c.read_one-item.ensures (sym c.is_above.ensures ∙ c.if-not-is_above.false) in
     span_some e (λ z. c.requires.2 (sym (ap (λ r. r.page) c.reached_rows.ensures ∙ rows_page _ _ _ _ _ _ _) ∙ z))

@@ -57,9 +57,9 @@ read_one-last-requires c =
 pub returns-then-from-to : goal.returns-then-from-to
 returns-then-from-to c =
     let e =
-        at_rows _ _ _ c.args.strict _ _ refl c.own_entry-v.ensures c.if-p-ne0.true c.page_at-page.ensures
-        (sym c.page_sound.ensures ∙ c.if-not-page_sound.false) c.first_above-from.ensures.0 c.count_of-to.ensures.0 c.if-from-to.true
-        (ap (λ (x : Item). x.key) c.read_one-last.ensures) c.run_behind-behind.ensures.0 in
+    at_rows _ _ _ c.args.strict _ _ refl c.own_entry-v.ensures c.if-p-ne0.true c.page_at-page.ensures
+    (sym c.page_sound.ensures ∙ c.if-not-page_sound.false) c.first_above-from.ensures.0 c.count_of-to.ensures.0 c.if-from-to.true
+    (ap (λ (x : Item). x.key) c.read_one-last.ensures) c.run_behind-behind.ensures.0 in
     span_some e c.if-p-ne0.true
 
 pub span_behind-requires : goal.span_behind-requires

@@ -48,7 +48,7 @@ pub overflow_add-used : goal.overflow_add-used
 overflow_add-used c =
     let l = c.loop-below in
     let e = visit_ok (step_of c.args.f c.args.store.now c.args.head c.args.key (l.below - 1 + 1) l.node l.used)
-        (sym c.in_ok-v.was ∙ c.visit_node.ensures) in
+    (sym c.in_ok-v.was ∙ c.visit_node.ensures) in
     omega (arith, width_within c.args.f, seen_bits _ _ _ _ _ l.node l.used e refl)
 
 pub loop-below-preserved : goal.loop-below-preserved
@@ -57,8 +57,8 @@ loop-below-preserved c =
     let l = c.loop-below in
     let t : 1 < l.below = omega arith in
     let e =
-        visit_ok _ (sym c.in_ok-v.was ∙ c.visit_node.ensures)
-        ∙ ap (λ (x : ℕ). step_of a.f a.store.now a.head a.key x l.node l.used) (one l.below t) in (
+    visit_ok _ (sym c.in_ok-v.was ∙ c.visit_node.ensures)
+    ∙ ap (λ (x : ℕ). step_of a.f a.store.now a.head a.key x l.node l.used) (one l.below t) in (
       omega arith,
       seen_bits _ _ _ _ _ l.node l.used e refl,
       seen_in_use _ _ _ _ _ l.node l.used e refl t,
