@@ -1,4 +1,4 @@
--- A refusal is told by its number, which is not 0.
+-- A refusal is told by its number, which is not 0; one that a `?` passes on ends a survey with that number.
 use mathlib.Core.Path.{◌≡◌, refl, ap}
 use native.Mathlib.Omega.{arith}
 use Rattle.std.specs.Prelude.{ℕ, Result, Ok, Err, IsErrAnd}

@@ -1,25 +1,33 @@
 -- The laws of the reply words.
 use mathlib.Core.Path.{◌≡◌, refl, ap, ◌∙◌}
 use mathlib.Core.List.{List, [], ◌∷◌, ◌++◌}
-use Prim.Native.Nat.{ℕ, ◌≤◌, ◌<◌}
+use Prim.Native.Nat.{ℕ, zero, suc, ◌≤◌, ◌<◌}
 use native.Mathlib.Omega.{arith}
-use lib.ListN.{length, take, drop}
+use lib.ListN.{length, take, set, get_or}
 use Rattle.exports.specs.Reply.{filled}
 
--- all the values, where the words are as many
-pub put_all : (vs out : List ℕ) → length vs ≤ length out → vs ++ drop (length vs) out ≡ filled vs out
+-- one value more
+pub filled_none : (vs out : List ℕ) → out ≡ filled (take 0 vs) out
 unfolding filled
-put_all [] [] h = refl
-put_all [] (w ∷ ws) h = refl
-put_all (v ∷ vs) [] h = absurd (omega arith)
-put_all (v ∷ vs) (w ∷ ws) h = ap (λ l. v ∷ l) (put_all vs ws (omega arith))
+filled_none vs out = refl
 
--- or as many as there are words
-pub put_some : (vs out : List ℕ) → length out < length vs → take (length out) vs ≡ filled vs out
+pub filled_more : (vs out : List ℕ) (i : ℕ) → i < length vs → set (filled (take i vs) out) i (get_or vs i 0) ≡ filled (take (suc i) vs) out
 unfolding filled
-put_some [] out h = absurd (omega arith)
-put_some (v ∷ vs) [] h = refl
-put_some (v ∷ vs) (w ∷ ws) h = ap (λ l. v ∷ l) (put_some vs ws (omega arith))
+filled_more [] out i h = absurd (omega arith)
+filled_more (v ∷ vs) [] zero h = refl
+filled_more (v ∷ vs) [] (suc i) h = refl
+filled_more (v ∷ vs) (w ∷ ws) zero h = refl
+filled_more (v ∷ vs) (w ∷ ws) (suc i) h = ap (λ l. v ∷ l) (filled_more vs ws i (omega arith))
+
+-- a value past the words
+pub filled_past : (vs out : List ℕ) (i : ℕ) → length out ≤ i → filled (take i vs) out ≡ filled (take (suc i) vs) out
+unfolding filled
+filled_past [] out zero h = refl
+filled_past [] out (suc i) h = refl
+filled_past (v ∷ vs) [] zero h = refl
+filled_past (v ∷ vs) [] (suc i) h = refl
+filled_past (v ∷ vs) (w ∷ ws) zero h = absurd (omega arith)
+filled_past (v ∷ vs) (w ∷ ws) (suc i) h = ap (λ l. v ∷ l) (filled_past vs ws i (omega arith))
 
 -- the number and the values of a reply are told of an equal one
 pub told_of : {R : Type 0} (number : R → ℕ) (values : R → List ℕ) {a b : R} {r : ℕ} {after : List ℕ} (before : List ℕ)

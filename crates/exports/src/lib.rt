@@ -21,17 +21,15 @@ ghost use Rattle.exports.specs.Reply.{summary_values, balance_values, key_values
 use answers::Refusal;
 use plot::{Label, Record};
 
-// Writes an answer's values at the front of the reply, as far as they fit, and gives its number. (Where all fit, their number is known at
-// each call, and so they are written without a call to copy memory.)
+// Writes an answer's values at the front of the reply, as far as they fit, and gives its number. (Word by word: how many values there are is
+// known at each call, so the loop goes, and no memory is copied by a call.)
 fn told(reply: &mut [u64], number: u32, values: &[u64]) -> u32
     ensures { (result ≡ number) × (reply.new ≡ filled values.now reply.old) }
 {
-    let n = values.len();
-    if n <= reply.len() {
-        reply[..n].copy_from_slice(values);
-    } else {
-        let room = reply.len();
-        reply.copy_from_slice(&values[..room]);
+    for (i, value) in values.iter().enumerate() {
+        if i < reply.len() {
+            reply[i] = *value;
+        }
     }
     number
 }
