@@ -32,7 +32,7 @@ fn walk_from(
     requires { (Under f store.now head) × (checked ≡ false → (span_of f store.now head strict key).ok ≡ true) }
     ensures { result ≡ span_result (span_of f store.now head strict key) }
 {
-    let t = search::terminal_of(store, f, head, key, checked)?;
+    let t = search::terminal_of(store, f, head, key, checked);
     search::span_at(store, f, head, strict, key, t, checked)
 }
 

@@ -12,7 +12,7 @@ ghost use Rattle.search.specs.Way.{visit_result, descent_result, terminal_result
 ghost use Rattle.search.specs.Descent.{limited, sound_node, TerminalNode, step_of, descent, end_of, terminal, own_visit};
 ghost use Rattle.search.specs.Find.{reply, sound_page, in_page, find_of, find_reply};
 ghost use Rattle.search.specs.Next.{first_pointer, run_after, run_behind, linked, pointer_from, onward, reach, next_of, next_reply};
-ghost use Rattle.search.specs.Span.{first_row, reached_rows, reached_span, span_at, GoesBehind};
+ghost use Rattle.search.specs.Span.{first_row, reached_rows, reached_span, span_at, span_of, GoesBehind};
 
 use answers::Refusal;
 use store::{Format, Head, Item};
@@ -529,7 +529,7 @@ pub fn span_behind(
 }
 
 // The records that follow a key, whose terminal node is t, in its own page or the one after it.
-pub fn span_at(
+fn span_from(
     store: &[u32],
     f: Format,
     head: Head,
@@ -568,6 +568,23 @@ pub fn span_at(
     span_behind(store, f, head, strict, key, t, behind, checked)
 }
 
+// The records that follow a key, whose terminal node is t, in its own page or the one after it; damage on the way to the node is handed up.
+pub fn span_at(
+    store: &[u32],
+    f: Format,
+    head: Head,
+    strict: bool,
+    key: u64,
+    t: Result<Terminal, Refusal>,
+    checked: bool,
+) -> Result<Option<Span>, Refusal>
+    requires { (Under f store.now head) × (t ≡ terminal_result (terminal f store.now head key))
+        × (checked ≡ false → (span_of f store.now head strict key).ok ≡ true) }
+    ensures { result ≡ span_result (span_of f store.now head strict key) }
+{
+    span_from(store, f, head, strict, key, t?, checked)
+}
+
 // Next, in a store that keeps the head rule: the first record above the key, or, if not strict, at or above it.
 fn next_under(
     store: &[u32],
@@ -579,7 +596,7 @@ fn next_under(
     requires { Under f store.now head }
     ensures { result ≡ sought_result (next_of f store.now head strict key) }
 {
-    let t = terminal_of(store, f, head, key, true)?;
+    let t = terminal_of(store, f, head, key, true);
     let Some(r) = span_at(store, f, head, strict, key, t, true)? else {
         return Ok(None);
     };
