@@ -5,11 +5,12 @@ use mathlib.Core.Path.{◌≡◌, refl, sym, ap, ap₂, ◌∙◌, subst}
 use mathlib.Core.Bool.{Bool, true, false, ◌&&◌, ◌||◌, not, true≢false}
 use mathlib.Core.List.{List, [], ◌∷◌, map}
 use Prim.Native.Nat.{ℕ, zero, suc, ◌+◌, ◌-◌, ◌/◌, ◌%◌, ◌^◌, ◌≤◌, ◌<◌}
+use native.Mathlib.Nat.{zero-add}
 use native.Mathlib.Numerals.{add-one}
 use native.Mathlib.Decide.{dec_lt}
 use native.Mathlib.Omega.{arith}
 use lib.Dec.{leb, ltb, eqb}
-use lib.ListN.{length, get_or, drop}
+use lib.ListN.{length, get_or, take, drop}
 use lib.Seq.{drop-cons}
 use borrow.Author.Tests.{lt-ltb, le-ltb, eq-eqb, ne_eqb, eqb-true, ltb-true, leb-true, leb-false}
 use Rattle.lists.specs.Bits.{bit}
@@ -253,3 +254,46 @@ costs_turn θ ts j left t {b = b} e l ea eb =
       ap (λ q. bump_costs left θ (map (λ (t : Step). t.depth) q)) d,
       costs_level θ left x.depth rest ∙ ap (λ m. m + bump_costs m θ rest) same,
     )
+
+-- the same over a path's first n steps with a count of its own: the levels from number i on
+levels_next : (xs : List Step) (i n : ℕ) → i < n → n ≤ length xs
+    → map (λ t. t.depth) (take (n - i) (drop i xs)) ≡ (get_or xs i no_step).depth ∷ map (λ t. t.depth) (take (n - (i + 1)) (drop (i + 1) xs))
+levels_next [] i n h l = absurd (omega arith)
+levels_next (x ∷ xs) zero (suc n) h l =
+    let e : suc n - 0 ≡ suc n = omega arith in
+    let g : suc n - (0 + 1) ≡ n = omega arith in
+    rw (e, g) refl
+levels_next (x ∷ xs) zero zero h l = absurd (omega arith)
+levels_next (x ∷ xs) (suc i) zero h l = absurd (omega arith)
+levels_next (x ∷ xs) (suc i) (suc n) h l =
+    let e : suc n - suc i ≡ n - i = omega arith in
+    let g : suc n - (suc i + 1) ≡ n - (i + 1) = omega arith in
+    let d : suc i + 1 ≡ suc (i + 1) = omega arith in
+    rw (e, g, d) (levels_next xs i n (omega arith) (omega arith))
+
+-- what is left to be counted where `left` halvings come to level i + 1
+abbrev pub costs_from : ℕ → List Step → ℕ → ℕ → ℕ → ℕ
+costs_from θ xs n i left = bump_costs left θ (map (λ t. t.depth) (take (n - i) (drop i xs)))
+
+costs_next : (θ : ℕ) (xs : List Step) (n i left : ℕ) {h a b : ℕ} → i < n → n ≤ length xs → h ≡ (get_or xs i no_step).depth → a ≡ θ - h
+    → b ≡ left - a → costs_from θ xs n i left ≡ b + costs_from θ xs n (i + 1) b
+costs_next θ xs n i left p q eh ea eb =
+    ap (bump_costs left θ) (levels_next xs i n p q)
+    ∙ costs_level θ left (get_or xs i no_step).depth _
+    ∙ ap (λ m. m + costs_from θ xs n (i + 1) m) (sym (eb ∙ ap (λ m. left - m) (ea ∙ ap (λ m. θ - m) eh)))
+
+pub costs_first : (θ : ℕ) (xs : List Step) (levels left : ℕ) {n : ℕ} → n ≡ levels
+    → bump_costs left θ (map (λ t. t.depth) (take levels xs)) ≡ 0 + costs_from θ xs n 0 left
+costs_first θ xs levels left {n} e =
+    let g : n - 0 ≡ levels = omega (arith, e) in
+    sym (zero-add (costs_from θ xs n 0 left) ∙ ap (λ m. bump_costs left θ (map (λ (t : Step). t.depth) (take m xs))) g)
+
+pub costs_more : (θ : ℕ) (xs : List Step) (n i left t : ℕ) {R h a b : ℕ} → R ≡ t + costs_from θ xs n i left → i < n → n ≤ length xs
+    → h ≡ (get_or xs i no_step).depth → a ≡ θ - h → b ≡ left - a → R ≡ t + b + costs_from θ xs n (i + 1) b
+costs_more θ xs n i left t e p q eh ea eb = omega (arith, e, costs_next θ xs n i left p q eh ea eb)
+
+pub costs_out : (θ : ℕ) (xs : List Step) (n i left t : ℕ) {R a : ℕ} → R ≡ t + costs_from θ xs n i left → n ≤ i → a ≡ bump_costs left θ []
+    → t + a ≡ R
+costs_out θ xs n i left t h l e =
+    let z : n - i ≡ 0 = omega arith in
+    omega (arith, h, e, ap (λ m. bump_costs left θ (map (λ (t : Step). t.depth) (take m (drop i xs)))) z)
