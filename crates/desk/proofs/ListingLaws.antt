@@ -15,6 +15,7 @@ use Rattle.std.specs.Prelude.{Option, Some, None, Result, Ok, Err}
 use Rattle.lists.proofs.Cases.{by_cases}
 use Rattle.lines.specs.declared.Kind.TheVariants as kinds
 use Rattle.lines.specs.declared.Reply.TheVariants.{Refused, SetUpLine}
+use Rattle.lines.specs.Request.{kind_number}
 use Rattle.store.specs.declared.Format.TheVariants.{Plots}
 use Rattle.store.specs.Format.{words}
 use Rattle.store.specs.Head.{word, head_of}
@@ -181,7 +182,7 @@ module _ (s : List ℕ) (low high n : ℕ) (a : Result ℕ ℕ) (e : a ≡ surve
   unfolding opened
   opened_parts is = ap (opened_by low high) (sym is ∙ e)
 
-  pub opened_refused : a ≡ Err n → Line (Refused kinds.Range n) ≡ opened s low high
+  pub opened_refused : a ≡ Err n → Line (Refused (kind_number kinds.Range) n) ≡ opened s low high
   unfolding opened
   opened_refused is = ap (opened_by low high) (sym is ∙ e)
 
@@ -191,7 +192,7 @@ module _ (s : List ℕ) (n : ℕ) (a : Result ℕ ℕ) (e : a ≡ surveyed s 1 l
   unfolding dumped head_of
   dumped_register is i j k l = rw (i, j, k, l) (ap (dumped_by (head_of s)) (sym is ∙ e))
 
-  pub dumped_refused : a ≡ Err n → Line (Refused kinds.Dump n) ≡ dumped s
+  pub dumped_refused : a ≡ Err n → Line (Refused (kind_number kinds.Dump) n) ≡ dumped s
   unfolding dumped
   dumped_refused is = ap (dumped_by (head_of s)) (sym is ∙ e)
 
@@ -203,11 +204,11 @@ module _ (s : List ℕ) (low high n : ℕ) (nonzero : n ≡ 0 → ⊥) (r : (par
       survey_turn s high low ∙ rest_done s high _ _ (ap (λ (a : RangeReply). a.more) r)
       ∙ survey_refused _ _ (λ z. nonzero (sym number ∙ z)) ∙ ap (λ (i : ℕ). Err i) number
 
-  pub first_refused : Line (Refused kinds.Range n) ≡ opened s low high
+  pub first_refused : Line (Refused (kind_number kinds.Range) n) ≡ opened s low high
   first_refused = opened_refused s low high n _ refl survey_first
 
 pub dump_refused : (s : List ℕ) (n : ℕ) → (n ≡ 0 → ⊥) → (part_of s 1 largest_key).reply ≡ range_refused n
-    → Line (Refused kinds.Dump n) ≡ dumped s
+    → Line (Refused (kind_number kinds.Dump) n) ≡ dumped s
 dump_refused s n nonzero r = dumped_refused s n _ refl (survey_first s 1 largest_key n nonzero r)
 
 -- the parts

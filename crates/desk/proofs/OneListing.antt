@@ -30,6 +30,7 @@ use Rattle.readings.proofs.ListingLaws.{within_all}
 use Rattle.readings.proofs.Promises.{range_reads, ranged_reads}
 use Rattle.lines.specs.declared.Kind.TheVariants as kinds
 use Rattle.lines.specs.declared.Reply.TheVariants.{RangeEnd, Refused, SetUpLine}
+use Rattle.lines.specs.Request.{kind_number}
 use Rattle.lines.specs.Reply.{reply_line}
 use Rattle.desk.specs.declared.Listing.{Listing}
 use Rattle.desk.specs.Replies.{listed_lines}
@@ -259,7 +260,7 @@ module _ (s : List ℕ) (S : List Item) (h : Holds Plots s S) (high : ℕ) (q : 
       let c = counted_whole low p in
       ap (outcome_bytes s) (sym (opened_parts s low high _ _ c refl)) ∙ carried_whole false low p
 
-  pub refused_whole : (low : ℕ) → high < low → outcome_bytes s (opened s low high) ≡ reply_line (Refused kinds.Range 7)
+  pub refused_whole : (low : ℕ) → high < low → outcome_bytes s (opened s low high) ≡ reply_line (Refused (kind_number kinds.Range) 7)
   unfolding outcome_bytes
   refused_whole low p = ap (outcome_bytes s) (sym (first_refused s low high 7 (λ z. omega arith) (refused_is low p)))
 

@@ -12,8 +12,8 @@ use Rattle.std.specs.Prelude.{Some, None}
 use Rattle.lists.specs.Lists.{All, tab}
 use Rattle.lists.proofs.ListLaws.{all_map}
 use Rattle.lists.proofs.Tests.{tab_ext}
-use Rattle.lines.specs.declared.Kind.{Kind}
 use Rattle.lines.specs.declared.Reply.TheVariants.{Refused}
+use Rattle.lines.specs.Request.{kind_number}
 use Rattle.lines.specs.Reply.{reply_line}
 use Rattle.store.specs.declared.Format.TheVariants.{Plots}
 use Rattle.store.specs.declared.Item.{Item}
@@ -79,7 +79,7 @@ module _ (s : List ℕ) (l : Listing) where
   abbrev q : RangeReply
   q = (part_of s l.at l.high).reply
 
-  lines_refused : (q.number ≡ 0 → ⊥) → part_lines s l ≡ reply_line (Refused (kind_listed l.dump) q.number)
+  lines_refused : (q.number ≡ 0 → ⊥) → part_lines s l ≡ reply_line (Refused (kind_number (kind_listed l.dump)) q.number)
   unfolding part_lines
   lines_refused n = rw (ne_eqb q.number 0 n, part_lines)
 
@@ -107,12 +107,12 @@ module _ (s : List ℕ) (l : Listing) where
 
   -- the call replied p and left the words ws
   module _ (p : RangeReply) (ws : List ℕ) (e : p ≡ q) (w : ws ≡ (part_of s l.at l.high).words) (narrow : l.high < 2 ^ 32) where
-    pub refused_lines : (asked : Kind) → asked ≡ kind_listed l.dump → (p.number ≡ 0 → ⊥)
+    pub refused_lines : (asked : ℕ) → asked ≡ kind_number (kind_listed l.dump) → (p.number ≡ 0 → ⊥)
         → part_lines s l ≡ reply_line (Refused asked p.number)
     refused_lines asked k n =
         lines_refused (λ z. n (ap (λ (r : RangeReply). r.number) e ∙ z))
-        ∙ ap (λ (r : RangeReply). reply_line (Refused (kind_listed l.dump) r.number)) (sym e)
-        ∙ ap (λ (i : Kind). reply_line (Refused i p.number)) (sym k)
+        ∙ ap (λ (r : RangeReply). reply_line (Refused (kind_number (kind_listed l.dump)) r.number)) (sym e)
+        ∙ ap (λ (i : ℕ). reply_line (Refused i p.number)) (sym k)
 
     pub refused_after : (p.number ≡ 0 → ⊥) → listing_after s l ≡ None
     refused_after n =

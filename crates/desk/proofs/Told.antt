@@ -8,10 +8,11 @@ use Rattle.answers.specs.Answers.{number}
 use Rattle.lines.specs.declared.Kind.{Kind}
 use Rattle.lines.specs.declared.Reply.{Reply}
 use Rattle.lines.specs.declared.Reply.TheVariants.{Refused}
+use Rattle.lines.specs.Request.{kind_number}
 use Rattle.desk.specs.Listing.{survey_told}
 use Rattle.desk.specs.Replies.{told}
 
-pub refused_told : (k : Kind) (e : Refusal) (r : Reply) → Refused k (number e) ≡ told k (number e) r
+pub refused_told : (k : Kind) (e : Refusal) (r : Reply) → Refused (kind_number k) (number e) ≡ told k (number e) r
 unfolding told
 refused_told k HeadBroken r = refl
 refused_told k SizesOutside r = refl

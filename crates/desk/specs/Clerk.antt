@@ -18,7 +18,7 @@ use Rattle.lines.specs.declared.Request.{Request}
 use Rattle.lines.specs.declared.Request.TheVariants.{SetUp, Enter, Find, Next, Range, Summary, Dump, Remove}
 use Rattle.lines.specs.declared.Kind.TheVariants as kinds
 use Rattle.lines.specs.declared.Reply.TheVariants.{RangeEnd, Refused, SetUpLine, WrongLine}
-use Rattle.lines.specs.Request.{parsed}
+use Rattle.lines.specs.Request.{kind_number, parsed}
 use Rattle.lines.specs.Reply.{line_feed, reply_line}
 use Rattle.store.specs.declared.Format.TheVariants.{Plots}
 use Rattle.store.specs.declared.Item.{Item}
@@ -60,7 +60,7 @@ after_set_up θ C N P r = elim (eqb (set_up_reply θ C N P).number 0) [ true ↦
 unfoldable pub range_lines : List Item → ℕ → ℕ → List ℕ
 range_lines S low high =
     elim (ltb high low) [
-      | true ↦ reply_line (Refused kinds.Range 7)
+      | true ↦ reply_line (Refused (kind_number kinds.Range) 7)
       | false ↦ listed_lines false (within low high S) ++ reply_line (RangeEnd (length (within low high S)))
     ]
 
@@ -73,13 +73,13 @@ dump_lines m =
 -- on a store that nobody has set up every request but set-up gets 3
 unfoldable pub reckoned : Register → Request → Reckoned
 reckoned r (SetUp θ C N P) = record { bytes = reply_line (set_up_told (set_up_reply θ C N P)); register = after_set_up θ C N P r }
-reckoned unset (Enter k p l d) = record { bytes = reply_line (Refused kinds.Enter 3); register = unset }
-reckoned unset (Find k) = record { bytes = reply_line (Refused kinds.Find 3); register = unset }
-reckoned unset (Next k) = record { bytes = reply_line (Refused kinds.Next 3); register = unset }
-reckoned unset (Range low high) = record { bytes = reply_line (Refused kinds.Range 3); register = unset }
-reckoned unset (Summary low high today) = record { bytes = reply_line (Refused kinds.Summary 3); register = unset }
-reckoned unset Dump = record { bytes = reply_line (Refused kinds.Dump 3); register = unset }
-reckoned unset (Remove k) = record { bytes = reply_line (Refused kinds.Remove 3); register = unset }
+reckoned unset (Enter k p l d) = record { bytes = reply_line (Refused (kind_number kinds.Enter) 3); register = unset }
+reckoned unset (Find k) = record { bytes = reply_line (Refused (kind_number kinds.Find) 3); register = unset }
+reckoned unset (Next k) = record { bytes = reply_line (Refused (kind_number kinds.Next) 3); register = unset }
+reckoned unset (Range low high) = record { bytes = reply_line (Refused (kind_number kinds.Range) 3); register = unset }
+reckoned unset (Summary low high today) = record { bytes = reply_line (Refused (kind_number kinds.Summary) 3); register = unset }
+reckoned unset Dump = record { bytes = reply_line (Refused (kind_number kinds.Dump) 3); register = unset }
+reckoned unset (Remove k) = record { bytes = reply_line (Refused (kind_number kinds.Remove) 3); register = unset }
 reckoned (holding m) (Enter k p l d) =
     let it : Item = record { key = k; price = p; lease = l; last = d } in
     record {

@@ -21,6 +21,7 @@ use Rattle.lists.specs.Lists.{tab}
 use Rattle.lines.specs.declared.Kind.{Kind}
 use Rattle.lines.specs.declared.Kind.TheVariants as kinds
 use Rattle.lines.specs.declared.Reply.TheVariants.{RangeEnd, Refused}
+use Rattle.lines.specs.Request.{kind_number}
 use Rattle.lines.specs.Reply.{reply_line}
 use Rattle.store.specs.declared.Format.TheVariants.{Plots}
 use Rattle.store.specs.declared.Item.{Item}
@@ -88,7 +89,7 @@ unfoldable pub part_lines : List ℕ → Listing → List ℕ
 part_lines s l =
     elim (eqb (part_of s l.at l.high).reply.number 0) [
       | true ↦ listed_lines l.dump (part_items s l.at l.high) ++ part_end l.dump (part_of s l.at l.high).reply.more l.count
-      | false ↦ reply_line (Refused (kind_listed l.dump) (part_of s l.at l.high).reply.number)
+      | false ↦ reply_line (Refused (kind_number (kind_listed l.dump)) (part_of s l.at l.high).reply.number)
     ]
 
 unfoldable pub listing_after : List ℕ → Listing → Option Listing

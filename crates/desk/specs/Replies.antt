@@ -7,6 +7,7 @@ use Rattle.lines.specs.declared.Kind.{Kind}
 use Rattle.lines.specs.declared.Kind.TheVariants as kinds
 use Rattle.lines.specs.declared.Reply.{Reply}
 use Rattle.lines.specs.declared.Reply.TheVariants.{SetUpDone, Entered, Found, Listed, Totals, Refused, EnterLine}
+use Rattle.lines.specs.Request.{kind_number}
 use Rattle.lines.specs.Reply.{reply_line}
 use Rattle.tree.specs.Book.{}
 use Rattle.store.specs.declared.Item.{Item}
@@ -16,7 +17,7 @@ use Rattle.scan.specs.Summary.{SummaryReply}
 
 -- "Each reply is kind, answer (2 columns each), four fields. .. Other fields are 0."
 unfoldable pub told : Kind → ℕ → Reply → Reply
-told kind n r = elim (eqb n 0) [ true ↦ r | false ↦ Refused kind n ]
+told kind n r = elim (eqb n 0) [ true ↦ r | false ↦ Refused (kind_number kind) n ]
 
 -- "Set-up gives the size."
 unfoldable pub set_up_told : Rattle.store.specs.SetUp.Reply → Reply
@@ -28,7 +29,7 @@ enter_told a = told kinds.Enter a.number (Entered a.key a.levels a.nodes a.pages
 
 -- "Find and next give the record."; M-106: "It gives the removed record, or answer 1 if absent"
 unfoldable pub found_told : Kind → Rattle.search.specs.Find.Reply → Reply
-found_told kind a = told kind a.number (Found kind a.item.key a.item.price a.item.lease a.item.last)
+found_told kind a = told kind a.number (Found (kind_number kind) a.item.key a.item.price a.item.lease a.item.last)
 
 -- "Summary gives count, total in 20 columns, earliest key."
 unfoldable pub summary_told : SummaryReply → Reply

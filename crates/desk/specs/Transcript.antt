@@ -15,7 +15,7 @@ use Rattle.lines.specs.declared.Request.{Request}
 use Rattle.lines.specs.declared.Request.TheVariants.{SetUp, Enter, Find, Next, Range, Summary, Dump, Remove}
 use Rattle.lines.specs.declared.Kind.TheVariants as kinds
 use Rattle.lines.specs.declared.Reply.TheVariants.{Refused, SetUpLine, WrongLine}
-use Rattle.lines.specs.Request.{parsed}
+use Rattle.lines.specs.Request.{kind_number, parsed}
 use Rattle.lines.specs.Reply.{line_feed, reply_line}
 use Rattle.store.specs.declared.Format.TheVariants.{Plots}
 use Rattle.store.specs.declared.Head.{Head}
@@ -42,7 +42,7 @@ listing dump low high count = record { dump = dump; at = low; high = high; count
 -- a refused range is one line; else its records are counted, and listed from low on
 abbrev pub opened_by : ℕ → ℕ → Result ℕ ℕ → Outcome
 opened_by low high (Ok count) = Parts (listing false low high count)
-opened_by low high (Err number) = Line (Refused kinds.Range number)
+opened_by low high (Err number) = Line (Refused (kind_number kinds.Range) number)
 
 unfoldable pub opened : List ℕ → ℕ → ℕ → Outcome
 opened s low high = opened_by low high (surveyed s low high)
@@ -54,7 +54,7 @@ largest_key = 4294967295
 -- fails 3 or 9 prints only the usual refusal line." (All blocks are visited before the first line is written.)
 abbrev pub dumped_by : Head → Result ℕ ℕ → Outcome
 dumped_by h (Ok count) = Register (SetUpLine h.theta h.capacity h.node_blocks h.page_blocks) (listing true 1 largest_key count)
-dumped_by h (Err number) = Line (Refused kinds.Dump number)
+dumped_by h (Err number) = Line (Refused (kind_number kinds.Dump) number)
 
 unfoldable pub dumped : List ℕ → Outcome
 dumped s = dumped_by (head_of s) (surveyed s 1 largest_key)

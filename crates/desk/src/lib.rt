@@ -11,7 +11,7 @@ ghost use Rattle.lines.specs.Request.{parsed};
 ghost use Rattle.desk.specs.Replies.{set_up_told, enter_told, found_told, summary_told, listed_told, listed_lines};
 ghost use Rattle.desk.specs.Listing.{part_bytes, part_of, item_from, items_of, survey_told, surveyed};
 ghost use Rattle.desk.specs.Listing.{kind_listed, last_line, part_lines, listing_after};
-ghost use Rattle.desk.specs.Transcript.{opened, dumped, answered, answered_line};
+ghost use Rattle.desk.specs.Transcript.{opened, dumped, answered_line};
 ghost use Rattle.desk.specs.Serving.{line_of, kept_line, until_feed, goes_on, GetsOn, Answers, Serves, Finishes};
 ghost use Rattle.desk.specs.Serving.{finished};
 
@@ -64,7 +64,7 @@ fn set_up_told(a: Result<u32, Refusal>) -> Reply
 {
     match a {
         Ok(size) => Reply::SetUpDone(size),
-        Err(e) => Reply::Refused(Kind::SetUp, e.number()),
+        Err(e) => Reply::Refused(Kind::SetUp.number(), e.number()),
     }
 }
 
@@ -74,7 +74,7 @@ fn enter_told(a: Result<Entered, Refusal>) -> Reply
 {
     match a {
         Ok(e) => Reply::Entered(e.key, e.levels, e.nodes, e.pages),
-        Err(e) => Reply::Refused(Kind::Enter, e.number()),
+        Err(e) => Reply::Refused(Kind::Enter.number(), e.number()),
     }
 }
 
@@ -83,10 +83,11 @@ fn enter_told(a: Result<Entered, Refusal>) -> Reply
 fn found_told(kind: Kind, a: Result<Option<Record>, Refusal>) -> Reply
     ensures { result ≡ found_told kind (reply a) }
 {
+    let number = kind.number();
     match a {
-        Ok(Some(r)) => Reply::Found(kind, r.key, r.price, r.lease, r.last),
-        Ok(None) => Reply::Refused(kind, 1),
-        Err(e) => Reply::Refused(kind, e.number()),
+        Ok(Some(r)) => Reply::Found(number, r.key, r.price, r.lease, r.last),
+        Ok(None) => Reply::Refused(number, 1),
+        Err(e) => Reply::Refused(number, e.number()),
     }
 }
 
@@ -97,7 +98,7 @@ fn summary_told(a: Result<Summed, Refusal>) -> Reply
 {
     match a {
         Ok(s) => Reply::Totals(s.count as u32, s.total, s.key),
-        Err(e) => Reply::Refused(Kind::Summary, e.number()),
+        Err(e) => Reply::Refused(Kind::Summary.number(), e.number()),
     }
 }
 
@@ -148,7 +149,7 @@ fn open_range(store: &[u32], low: u32, high: u32) -> Outcome
             high,
             count,
         }),
-        Err(e) => Outcome::Line(Reply::Refused(Kind::Range, e.number())),
+        Err(e) => Outcome::Line(Reply::Refused(Kind::Range.number(), e.number())),
     }
 }
 
@@ -171,16 +172,19 @@ fn open_dump(store: &[u32]) -> Outcome
                 count,
             },
         ),
-        Err(e) => Outcome::Line(Reply::Refused(Kind::Dump, e.number())),
+        Err(e) => Outcome::Line(Reply::Refused(Kind::Dump.number(), e.number())),
     }
 }
 
-// Answers a request.
+// Answers what a line makes: a request, or none where the line is wrong.
 #[tactic(auto, unfolding(crate::specs::Transcript::answered))]
-pub fn answer(store: &mut [u32], request: Request) -> Outcome
-    ensures { (result ≡ (answered store.old request).outcome)
-        × (store.new ≡ (answered store.old request).words) }
+pub fn answer(store: &mut [u32], request: Option<Request>) -> Outcome
+    ensures { (result ≡ (answered_line store.old request).outcome)
+        × (store.new ≡ (answered_line store.old request).words) }
 {
+    let Some(request) = request else {
+        return Outcome::Line(Reply::WrongLine);
+    };
     match request {
         Request::SetUp(theta, capacity, nodes, pages) => {
             Outcome::Line(set_up_told(index::set_up(store, theta, capacity, nodes, pages)))
@@ -263,7 +267,10 @@ fn list_part(store: &[u32], l: Listing, out: &mut [u8]) -> Listed
     let mut part = [0u32; 256];
     match read_part(store, l.at, l.high, &mut part) {
         Err(e) => {
-            let put = lines::write(out, Reply::Refused(kind_listed(l.dump), e.number()));
+            let put = lines::write(
+                out,
+                Reply::Refused(kind_listed(l.dump).number(), e.number()),
+            );
             Listed { listing: None, put }
         }
         Ok(p) => {
@@ -320,15 +327,12 @@ fn fresh(listing: Option<Listing>) -> Desk
     }
 }
 
-// Answers a line; one that makes no request is wrong.
+// Answers a line.
 fn outcome_of(store: &mut [u32], line: &[u8]) -> Outcome
     ensures { (result ≡ (answered_line store.old (parsed line.now)).outcome)
         × (store.new ≡ (answered_line store.old (parsed line.now)).words) }
 {
-    match lines::parse(line) {
-        Some(request) => answer(store, request),
-        None => Outcome::Line(Reply::WrongLine),
-    }
+    answer(store, lines::parse(line))
 }
 
 // Answers the line that is held: with one line, or by opening a listing, or with both.

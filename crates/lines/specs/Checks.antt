@@ -12,7 +12,6 @@ use Prim.Native.String.{String}
 use Prim.Native.String as text
 use Rattle.lines.specs.declared.Request.{Request}
 use Rattle.lines.specs.declared.Request.TheVariants.{SetUp, Enter, Find, Next, Range, Summary, Dump, Remove}
-use Rattle.lines.specs.declared.Kind.TheVariants as kinds
 use Rattle.lines.specs.declared.Reply.{Reply}
 use Rattle.lines.specs.declared.Reply.TheVariants.{SetUpDone, Entered, Found, Listed, RangeEnd, Totals, Refused, SetUpLine, EnterLine, WrongLine}
 use Rattle.lines.specs.Request.{kind_number, kind_of, fields_of, request_line, parsed}
@@ -59,17 +58,17 @@ table =
     ∷ reply (Entered 2147483648 1 1 1) " 1 02147483648         1         1         1\n"
     ∷ reply (Entered 3221225472 2 3 2) " 1 03221225472         2         3         2\n"
     ∷ reply (Entered 1073741824 2 3 3) " 1 01073741824         2         3         3\n"
-    ∷ reply (Found kinds.Find 3221225472 90000 0 0) " 2 03221225472     90000         0         0\n"
+    ∷ reply (Found 2 3221225472 90000 0 0) " 2 03221225472     90000         0         0\n"
     ∷ reply (Totals 3 684496 1073741824) " 5 0         3              6844961073741824\n"
     -- kinds 3, 4 and 99: "next, 4 range (low, high)"; "Range gives a line a record, then answer 1 with the count."; "A wrong line replies
     -- kind 99, answer 2. Other fields are 0."
     ∷ request " 32147483648         0         0         0" (Next 2147483648)
     ∷ request " 4         13221225472         0         0" (Range 1 3221225472)
     ∷ wrong "99         0         0         0         0"
-    ∷ reply (Found kinds.Next 3221225472 90000 0 0) " 3 03221225472     90000         0         0\n"
+    ∷ reply (Found 3 3221225472 90000 0 0) " 3 03221225472     90000         0         0\n"
     ∷ reply (Listed 1073741824 60000 9131 45999) " 4 01073741824     60000      9131     45999\n"
     ∷ reply (RangeEnd 3) " 4 1         3         0         0         0\n"
-    ∷ reply (Refused kinds.Range 7) " 4 7         0         0         0         0\n"
+    ∷ reply (Refused 4 7) " 4 7         0         0         0         0\n"
     ∷ reply WrongLine "99 2         0         0         0         0\n"
     -- M-101
     ∷ request " 6         0         0         0         0" Dump
@@ -77,5 +76,5 @@ table =
     ∷ reply (EnterLine 2147483648 1250000 36525 66000) " 12147483648   1250000     36525     66000\n"
     -- M-106
     ∷ request " 73221225472         0         0         0" (Remove 3221225472)
-    ∷ reply (Found kinds.Remove 3221225472 90000 0 0) " 7 03221225472     90000         0         0\n"
+    ∷ reply (Found 7 3221225472 90000 0 0) " 7 03221225472     90000         0         0\n"
     ∷ []

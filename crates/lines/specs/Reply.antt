@@ -10,7 +10,7 @@ use Rattle.lines.specs.declared.Reply.{Reply}
 use Rattle.lines.specs.declared.Reply.TheVariants.{SetUpDone, Entered, Found, Listed, RangeEnd, Totals, Refused, WrongLine}
 use Rattle.lines.specs.declared.Reply.TheVariants.{SetUpLine, EnterLine}
 use Rattle.lines.specs.Columns.{column}
-use Rattle.lines.specs.Request.{kind_number, columns}
+use Rattle.lines.specs.Request.{columns}
 
 -- "then byte 0A hexadecimal"
 abbrev pub line_feed : ℕ
@@ -32,11 +32,11 @@ request_fields kind a b c d = column 2 kind ++ columns (a ∷ b ∷ c ∷ d ∷ 
 unfoldable pub reply_line : Reply → List ℕ
 reply_line (SetUpDone size) = four_fields 0 0 size 0 0 0
 reply_line (Entered key levels nodes pages) = four_fields 1 0 key levels nodes pages
-reply_line (Found asked key price lease last) = four_fields (kind_number asked) 0 key price lease last
+reply_line (Found kind key price lease last) = four_fields kind 0 key price lease last
 reply_line (Listed key price lease last) = four_fields 4 0 key price lease last
 reply_line (RangeEnd count) = four_fields 4 1 count 0 0 0
 reply_line (Totals count total key) = summary_fields count total key
-reply_line (Refused asked answer) = four_fields (kind_number asked) answer 0 0 0 0
+reply_line (Refused kind answer) = four_fields kind answer 0 0 0 0
 reply_line (SetUpLine θ C N P) = request_fields 0 θ C N P
 reply_line (EnterLine key price lease last) = request_fields 1 key price lease last
 reply_line WrongLine = four_fields 99 2 0 0 0 0
@@ -48,11 +48,11 @@ pub record After : Type 0 where
 abbrev pub line_size : Reply → ℕ
 line_size (SetUpDone size) = 45
 line_size (Entered key levels nodes pages) = 45
-line_size (Found asked key price lease last) = 45
+line_size (Found kind key price lease last) = 45
 line_size (Listed key price lease last) = 45
 line_size (RangeEnd count) = 45
 line_size (Totals count total key) = 45
-line_size (Refused asked answer) = 45
+line_size (Refused kind answer) = 45
 line_size (SetUpLine θ C N P) = 43
 line_size (EnterLine key price lease last) = 43
 line_size WrongLine = 45

@@ -37,7 +37,7 @@ pub enum Kind {
 
 impl Kind {
     // The number of a kind.
-    fn number(self) -> u32
+    pub fn number(self) -> u32
         ensures { result ≡ kind_number self }
     {
         match self {
@@ -75,17 +75,17 @@ impl Kind {
 // The kind of the reply to a wrong line.
 const WRONG_KIND: u32 = 99;
 
-// What is replied. Found has the kind of its request before the record: find, next or remove. SetUpLine and EnterLine are lines of a
-// register written out: requests, with no answer.
+// What is replied. The first field of Found and of Refused is the number in the line's first column, whatever it is: the number of the
+// request's kind (Found: of find, next or remove). SetUpLine and EnterLine are lines of a register written out: requests, with no answer.
 #[derive(Clone, Copy)]
 pub enum Reply {
     SetUpDone(u32),
     Entered(u32, u32, u32, u32),
-    Found(Kind, u32, u32, u32, u32),
+    Found(u32, u32, u32, u32, u32),
     Listed(u32, u32, u32, u32),
     RangeEnd(u32),
     Totals(u32, u64, u32),
-    Refused(Kind, u32),
+    Refused(u32, u32),
     SetUpLine(u32, u32, u32, u32),
     EnterLine(u32, u32, u32, u32),
     WrongLine,
@@ -275,13 +275,7 @@ pub fn write(out: &mut [u8], reply: Reply) -> usize
             pages,
         ),
         Reply::Found(kind, key, price, lease, last) => put_fields(
-            out,
-            kind.number(),
-            0,
-            key,
-            price,
-            lease,
-            last,
+            out, kind, 0, key, price, lease, last,
         ),
         Reply::Listed(key, price, lease, last) => put_fields(
             out,
@@ -294,7 +288,7 @@ pub fn write(out: &mut [u8], reply: Reply) -> usize
         ),
         Reply::RangeEnd(count) => put_fields(out, Kind::Range.number(), 1, count, 0, 0, 0),
         Reply::Totals(count, total, key) => put_summary(out, count, total, key),
-        Reply::Refused(kind, answer) => put_fields(out, kind.number(), answer, 0, 0, 0, 0),
+        Reply::Refused(kind, answer) => put_fields(out, kind, answer, 0, 0, 0, 0),
         Reply::SetUpLine(theta, capacity, nodes, pages) => put_request(
             out,
             Kind::SetUp,

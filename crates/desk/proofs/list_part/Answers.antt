@@ -3,6 +3,7 @@ use Rattle.std.proofs.Common.{◌≡◌, ◌++◌, ◌≤◌, ◌<◌, ◌^◌, 
 use Rattle.std.proofs.Math.ListN.{length-take}
 use Rattle.lists.proofs.Parts.{length_over}
 use Rattle.lines.specs.declared.Reply.TheVariants.{Refused}
+use Rattle.lines.specs.Request.{kind_number}
 use Rattle.lines.specs.Reply.{reply_line}
 use Rattle.store.specs.declared.Format.TheVariants.{Plots}
 use Rattle.scan.specs.Range.{RangeReply, range_of}
@@ -66,8 +67,8 @@ returns-in-Err c =
     let narrow : a.l.high < 2 ^ 32 = search rules in
     let n = number_some c.in-Err.e in
     let x =
-    refused_lines a.store.now a.l _ _ t.0 t.1 narrow _ c.kind_listed.ensures n
-    ∙ ap (λ (i : ℕ). reply_line (Refused c.kind_listed.result i)) (sym c.number.ensures) in
+    refused_lines a.store.now a.l _ _ t.0 t.1 narrow _ (c.number.ensures ∙ ap kind_number c.kind_listed.ensures) n
+    ∙ ap (λ (i : ℕ). reply_line (Refused c.number.result i)) (sym c.number-in-Err.ensures) in
     let y = put_line _ _ _ _ _ x (omega (arith, c.requires)) c.write-put.ensures.0 c.write-put.ensures.1 in
     (sym (refused_after a.store.now a.l _ _ t.0 t.1 narrow n), y.0, y.1)
 

@@ -2,6 +2,7 @@
 use Rattle.std.proofs.Common.{◌∙◌, ℕ, ap}
 use Rattle.lines.specs.declared.Kind.TheVariants as kinds
 use Rattle.lines.specs.declared.Reply.TheVariants.{Refused}
+use Rattle.lines.specs.Request.{kind_number}
 use Rattle.desk.specs.declared.Outcome.TheVariants.{Line}
 use Rattle.desk.specs.Listing.{survey_told}
 use Rattle.desk.proofs.ListingLaws.{dumped_register, dumped_refused}
@@ -14,5 +15,6 @@ returns-in-Ok c =
 
 pub returns-in-Err : goal.returns-in-Err
 returns-in-Err c =
-    ap (λ (n : ℕ). Line (Refused kinds.Dump n)) c.number.ensures
+    ap (λ (k : ℕ). Line (Refused k c.number-in-Err.result)) c.number.ensures
+    ∙ ap (λ (n : ℕ). Line (Refused (kind_number kinds.Dump) n)) c.number-in-Err.ensures
     ∙ dumped_refused _ _ _ c.count_range.ensures (ap survey_told c.in-Err.is)
