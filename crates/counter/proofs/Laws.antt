@@ -21,7 +21,7 @@ use Rattle.desk.proofs.ServeLaws.{part_from, part_long_lem}
 use Rattle.desk.proofs.Delivery.{delivered, end_put}
 use Rattle.counter.specs.declared.Failure.{Failure}
 use Rattle.counter.specs.declared.Failure.TheVariants.{Reading, Writing, Ending}
-use Rattle.counter.specs.Program.{Known, Whole, Turned, most_reads, joined, SoFar, ServedAll, Ran, Transcribed, Ended}
+use Rattle.counter.specs.Program.{Known, Whole, Turned, most_reads, joined, NoneEmpty, SoFar, ServedAll, Ran, Transcribed, OutOfReads, Ended}
 
 -- runs, one after another
 pub run_then : {s : List ℕ} {d : Desk} {is xs t : List ℕ} {e : Desk} {bs ys u : List ℕ} {f : Desk} → Run s d is xs t e → Run t e bs ys u f
@@ -118,12 +118,21 @@ joined_then : (cs : List (List ℕ)) (c : List ℕ) → joined (cs ++ c ∷ []) 
 joined_then [] c = append-nil c
 joined_then (b ∷ cs) c = ap (λ (xs : List ℕ). b ++ xs) (joined_then cs c) ∙ sym (append_assoc b (joined cs) c)
 
+none_empty_then : (cs : List (List ℕ)) (c : List ℕ) → NoneEmpty cs → 1 ≤ length c → NoneEmpty (cs ++ c ∷ [])
+none_empty_then [] c all full = (full, tt)
+none_empty_then (b ∷ cs) c all full = (all.0, none_empty_then cs c all.1 full)
+
+many_bytes : (cs : List (List ℕ)) → NoneEmpty cs → length cs ≤ length (joined cs)
+many_bytes [] all = omega arith
+many_bytes (c ∷ cs) all = omega (arith, many_bytes cs all.1, all.0, length-append c (joined cs))
+
 pub so_start : (s : List ℕ) (d : Desk) (r w : Known) → s ≡ replicate store_words 0 → line_of d ≡ [] → d.listing ≡ None
     → SoFar s d most_reads r r w w
 so_start s d r w zeros empty none = (
   [],
   [],
   omega arith,
+  tt,
   (
     d,
     empty,
@@ -135,44 +144,64 @@ so_start s d r w zeros empty none = (
   Appends-nil w,
 )
 
-pub so_then : (s : List ℕ) (d : Desk) (chunk t : List ℕ) (e : Desk) (left next : ℕ) (r q p w v x : Known) → next + 1 ≡ left → SoFar s d left r q w v
-    → Whole s d chunk t e v x → Consumes q p chunk → SoFar t e next r p w x
-so_then s d chunk t e left next r q p z v x one a w came =
-    let b = a.3 in
-    let all = run_then b.3 w.1 in (
-      a.0 ++ chunk ∷ [],
-      a.1 ++ w.0,
-      omega (arith, length-append a.0 (chunk ∷ []), a.2),
-      (
-        b.0,
-        b.1,
-        b.2,
-        subst (λ is. Run (replicate store_words 0) b.0 is (a.1 ++ w.0) t e) (sym (joined_then a.0 chunk)) all,
-        w.2,
-      ),
-      subst (Consumes r p) (sym (joined_then a.0 chunk)) (Consumes-trans r q p (joined a.0) chunk a.4 came),
-      Appends-trans z v x a.1 w.0 a.5 w.3,
-    )
+-- one read more: chunks, and then what it brought
+module _ (s : List ℕ) (d : Desk) (chunk t : List ℕ) (e : Desk) (left : ℕ) (r q p w v x : Known) (a : SoFar s d left r q w v)
+    (b : Whole s d chunk t e v x) (came : Consumes q p chunk) where
+  so_on : (next : ℕ) (cs : List (List ℕ)) → length cs + next ≡ most_reads → NoneEmpty cs → joined cs ≡ joined a.0 ++ chunk
+      → SoFar t e next r p w x
+  so_on next cs n full is =
+      let c = a.4 in (
+        cs,
+        a.1 ++ b.0,
+        n,
+        full,
+        (
+          c.0,
+          c.1,
+          c.2,
+          subst (λ input. Run (replicate store_words 0) c.0 input (a.1 ++ b.0) t e) (sym is) (run_then c.3 b.1),
+          b.2,
+        ),
+        subst (Consumes r p) (sym is) (Consumes-trans r q p (joined a.0) chunk a.5 came),
+        Appends-trans w v x a.1 b.0 a.6 b.3,
+      )
+
+  pub so_then : (next : ℕ) → next + 1 ≡ left → 1 ≤ length chunk → SoFar t e next r p w x
+  so_then next one full =
+      let cs : List (List ℕ) = a.0 ++ chunk ∷ [] in
+      let n : length cs + next ≡ most_reads = omega (arith, length-append a.0 (chunk ∷ []), a.2, one) in
+      so_on next cs n (none_empty_then a.0 chunk a.3 full) (joined_then a.0 chunk)
+
+  -- it brought nothing
+  pub so_still : chunk ≡ [] → SoFar t e left r p w x
+  so_still none =
+      so_on left a.0 a.2 a.3 (sym (append-nil (joined a.0)) ∙ ap (λ (c : List ℕ). joined a.0 ++ c) (sym none))
 
 pub so_quiet : (s : List ℕ) (d : Desk) (left : ℕ) (r q w v : Known) → SoFar s d left r q w v → d.listing ≡ None
-so_quiet s d left r q w v a = a.3.4
+so_quiet s d left r q w v a = a.4.4
 
 -- the last reply, where all is well
 module _ (s : List ℕ) (e : Desk) (last : List ℕ) (left : ℕ) (r q w v : Known) (a : SoFar s e left r q w v) where
   whole_transcript : last ≡ ending (line_of e) → a.1 ++ last ≡ transcript (joined a.0)
   whole_transcript end =
-      let b = a.3 in
+      let b = a.4 in
       ap (λ (xs : List ℕ). a.1 ++ xs) end ∙ delivered (joined a.0) a.1 s b.0 e b.1 b.2 b.3 b.4
 
   pub ran_well : (ok : Bool) → last ≡ ending (line_of e) → Ran s e ok last left
-  ran_well ok end = (a.0, a.1, a.2, a.3, λ well. whole_transcript end)
+  ran_well ok end = (a.0, a.1, a.2, a.3, a.4, λ well. whole_transcript end)
 
   pub ran_ill : (ok : Bool) → ok ≡ false → Ran s e ok last left
-  ran_ill ok ill = (a.0, a.1, a.2, a.3, λ well. absurd (false≢true (sym ill ∙ well)))
+  ran_ill ok ill = (a.0, a.1, a.2, a.3, a.4, λ well. absurd (false≢true (sym ill ∙ well)))
 
-  pub transcribed : (x : Known) → last ≡ ending (line_of e) → Appends v x last → IsAtEnd q → Transcribed r q w x
-  transcribed x end sent done =
-      (joined a.0, a.4, done, subst (Appends w x) (whole_transcript end) (Appends-trans w v x a.1 last a.5 sent))
+  module _ (x : Known) (end : last ≡ ending (line_of e)) (sent : Appends v x last) where
+    whole_written : Appends w x (transcript (joined a.0))
+    whole_written = subst (Appends w x) (whole_transcript end) (Appends-trans w v x a.1 last a.6 sent)
+
+    pub transcribed : IsAtEnd q → Transcribed r q w x
+    transcribed done = (joined a.0, a.5, done, whole_written)
+
+    pub out_of_reads : left ≡ 0 → OutOfReads r q w x
+    out_of_reads none = (joined a.0, omega (arith, many_bytes a.0 a.3, a.2, none), a.5, whole_written)
 
 -- where a read brought nothing
 pub whole_none : (s : List ℕ) (d : Desk) (w : Known) → d.listing ≡ None → Whole s d [] s d w w
@@ -199,25 +228,27 @@ turned_failed s d w (Err Reading) quiet ill f = (refl, whole_none s d w quiet)
 turned_failed s d w (Err Writing) quiet ill f = tt
 turned_failed s d w (Err Ending) quiet ill f = cc
 
--- one read more
-module _ (s : List ℕ) (d : Desk) (left next : ℕ) (r q w v : Known) (one : next + 1 ≡ left) (a : SoFar s d left r q w v) (chunk t : List ℕ)
-    (p x : Known) (came : Consumes q p chunk) where
-  pub more_read : (o : Option Desk) (e : Desk) → Turned s d chunk t v x (Ok o) → o ≡ Some e → SoFar t e next r p w x
-  more_read o e turned is =
-      so_then s d chunk t e left next r q p w v x one a (subst (λ (i : Option Desk). Turned s d chunk t v x (Ok i)) is turned).1 came
+-- what a read leaves
+module _ (s : List ℕ) (d : Desk) (left : ℕ) (r q w v : Known) (a : SoFar s d left r q w v) (chunk t : List ℕ) (p x : Known)
+    (came : Consumes q p chunk) where
+  pub more_read : (next : ℕ) (o : Option Desk) (e : Desk) → next + 1 ≡ left → Turned s d chunk t v x (Ok o) → o ≡ Some e
+      → SoFar t e next r p w x
+  more_read next o e one turned is =
+      let b = subst (λ (i : Option Desk). Turned s d chunk t v x (Ok i)) is turned in
+      so_then s d chunk t e left r q p w v x a b.1 came next one b.0
 
   pub all_read : (room : ℕ) (o : Option Desk) → Turned s d chunk t v x (Ok o) → o ≡ None → (0 < room → IsAtEnd p)
       → ServedAll t room r p w x (Ok d)
   all_read room o turned is end =
-      let none = subst (λ (i : Option Desk). Turned s d chunk t v x (Ok i)) is turned in
-      (next, so_then s d chunk t d left next r q p w v x one a none.1 came, inr end)
+      let b = subst (λ (i : Option Desk). Turned s d chunk t v x (Ok i)) is turned in
+      (left, so_still s d chunk t d left r q p w v x a b.1 came b.0, inr end)
 
   pub read_failed : (room : ℕ) (f : Failure) (b : Result Desk Failure) → Turned s d chunk t v x (Err f) → IsErr b → IfErr b (λ g. g ≡ f)
       → ServedAll t room r p w x b
   read_failed room f (Ok e) turned ill same = absurd (false≢true ill)
   read_failed room f (Err Reading) turned ill same =
-      let none = subst (λ (g : Failure). Turned s d chunk t v x (Err g)) (sym same) turned in
-      (d, next, so_then s d chunk t d left next r q p w v x one a none.1 came)
+      let b = subst (λ (g : Failure). Turned s d chunk t v x (Err g)) (sym same) turned in
+      (d, left, so_still s d chunk t d left r q p w v x a b.1 came b.0)
   read_failed room f (Err Writing) turned ill same = tt
   read_failed room f (Err Ending) turned ill same = subst (λ (g : Failure). Turned s d chunk t v x (Err g)) (sym same) turned
 
@@ -242,7 +273,7 @@ module _ {A : Type 0} (s out : List ℕ) (room : ℕ) (r q w v : Known) where
         a.0,
         ran_well s e bytes a.0 r q w v a.1 true last.1,
         elim a.2 [
-          | inl z ↦ inl z
+          | inl z ↦ inl (z, out_of_reads s e bytes a.0 r q w v a.1 x last.1 last.2 z)
           | inr h ↦ inr (λ k. transcribed s e bytes a.0 r q w v a.1 x last.1 last.2 (h k))
         ],
       )

@@ -9,15 +9,19 @@
 --                           words s, the desk e and no listing open
 --   most_reads            == how many reads the program makes at most
 --   joined chunks        == the chunks, one after another
---   SoFar s e left r q w v == chunks, one for each read, are taken from the reader and answered so, their replies are written, and so many
---                           reads are left to make
+--   NoneEmpty chunks     == each chunk has a byte
+--   SoFar s e left r q w v == chunks, none empty, one for each read that brought bytes, are taken from the reader and answered so, their
+--                           replies are written, and so many more reads may bring bytes
 --   ServedAll s room r q w v a == how reading ends: with no read left to make, or at the end of the input (of a buffer with room), or by a
 --                           failure; where a read failed, all that came before it is answered
 --   Transcribed r q w v  == what a reader gave, to its end, has been answered: the transcript of it is written behind the bytes w
---   Ran s e ok last left == chunks, one for each read, are answered so, and so many reads are left to make; where all is well, the bytes
---                           put, and then the last reply, are the transcript of the chunks
---   Ended s out room r q w v a == how a run ends: all is written, or a read failed, or a write of replies, or the write of the last reply, which
---                           then stands in the output
+--   OutOfReads r q w v   == a reader gave so many bytes that no read was left to make, and they have been answered: the transcript of them
+--                           is written behind the bytes w
+--   Ran s e ok last left == chunks, none empty, one for each read that brought bytes, are answered so, and so many more reads may bring
+--                           bytes; where all is well, the bytes put, and then the last reply, are the transcript of the chunks
+--   Ended s out room r q w v a == how a run ends: the transcript is written of all that came, to the end of the input (of a buffer with room) or
+--                           till no read was left; or a read failed, or a write of replies, or the write of the last reply, which then stands
+--                           in the output
 use Rattle.std.specs.Prelude.{◌≡◌, Bool, true, false, List, [], ◌∷◌, ◌++◌, ◌⊎◌, ⊤, Option, Some, None, Result, Ok, Err, ℕ, ◌+◌, ◌≤◌, ◌<◌, length, take, replicate}
 use Rattle.std.specs.Io.KnownBytes.{Appends, Consumes, IsAtEnd}
 use Rattle.desk.specs.declared.Desk.{Desk}
@@ -55,9 +59,13 @@ abbrev pub joined : List (List ℕ) → List ℕ
 joined [] = []
 joined (c ∷ cs) = c ++ joined cs
 
+abbrev pub NoneEmpty : List (List ℕ) → Type 0
+NoneEmpty [] = ⊤
+NoneEmpty (c ∷ cs) = (1 ≤ length c) × NoneEmpty cs
+
 abbrev pub SoFar : List ℕ → Desk → ℕ → Known → Known → Known → Known → Type 0
 SoFar s e left r q w v =
-    (chunks : List (List ℕ)) × (bytes : List ℕ) × (length chunks + left ≡ most_reads) × Answered s e (joined chunks) bytes
+    (chunks : List (List ℕ)) × (bytes : List ℕ) × (length chunks + left ≡ most_reads) × NoneEmpty chunks × Answered s e (joined chunks) bytes
     × Consumes r q (joined chunks) × Appends w v bytes
 
 abbrev pub ServedAll : List ℕ → ℕ → Known → Known → Known → Known → Result Desk Failure → Type 0
@@ -68,15 +76,19 @@ ServedAll s room r q w v (Err Ending) = ⊥
 
 abbrev pub Ran : List ℕ → Desk → Bool → List ℕ → ℕ → Type 0
 Ran s e ok last left =
-    (chunks : List (List ℕ)) × (bytes : List ℕ) × (length chunks + left ≡ most_reads) × Answered s e (joined chunks) bytes
+    (chunks : List (List ℕ)) × (bytes : List ℕ) × (length chunks + left ≡ most_reads) × NoneEmpty chunks × Answered s e (joined chunks) bytes
     × (ok ≡ true → bytes ++ last ≡ transcript (joined chunks))
 
 abbrev pub Transcribed : Known → Known → Known → Known → Type 0
 Transcribed r q w v = (input : List ℕ) × Consumes r q input × IsAtEnd q × Appends w v (transcript input)
 
+abbrev pub OutOfReads : Known → Known → Known → Known → Type 0
+OutOfReads r q w v = (input : List ℕ) × (most_reads ≤ length input) × Consumes r q input × Appends w v (transcript input)
+
 abbrev pub Ended : {A : Type 0} → List ℕ → List ℕ → ℕ → Known → Known → Known → Known → Result A Failure → Type 0
 Ended s out room r q w v (Ok a) =
-    (e : Desk) × (put left : ℕ) × Ran s e true (take put out) left × ((left ≡ 0) ⊎ (0 < room → Transcribed r q w v))
+    (e : Desk) × (put left : ℕ) × Ran s e true (take put out) left
+    × (((left ≡ 0) × OutOfReads r q w v) ⊎ (0 < room → Transcribed r q w v))
 Ended s out room r q w v (Err Reading) = (e : Desk) × (left : ℕ) × Ran s e false [] left
 Ended s out room r q w v (Err Writing) = ⊤
 Ended s out room r q w v (Err Ending) = (e : Desk) × (put left : ℕ) × Ran s e true (take put out) left

@@ -14,15 +14,13 @@ pub returns-in_err-next : goal.returns-in_err-next
 returns-in_err-next g c =
     let l = c.loop in
     let e = c.in_err-next.ensures.came in
-    let one : most_reads - (l.counter + 1) + 1 ≡ most_reads - l.counter = omega (arith, c.loop-test.true) in
-    read_failed _ _ _ _ _ _ _ _ one l.invariant _ _ _ _ e.2 _ _ _ e.3 (search rules) (search rules)
+    read_failed _ _ _ _ _ _ _ l.invariant _ _ _ _ e.2 _ _ _ e.3 (search rules) (search rules)
 
 pub returns-in-None : goal.returns-in-None
 returns-in-None g c =
     let l = c.loop in
     let e = c.in_ok-next.ensures in
-    let one : most_reads - (l.counter + 1) + 1 ≡ most_reads - l.counter = omega (arith, c.loop-test.true) in
-    all_read _ _ _ _ _ _ _ _ one l.invariant _ _ _ _ e.came.2 _ _ e.came.3 c.in-None.is
+    all_read _ _ _ _ _ _ _ l.invariant _ _ _ _ e.came.2 _ _ e.came.3 c.in-None.is
     (λ k. e.ended (cc) (omega (arith, k, c.read_once.auto.input, l.auto.input)))
 
 pub loop-preserved : goal.loop-preserved
@@ -30,4 +28,4 @@ loop-preserved g c =
     let l = c.loop in
     let e = c.in_ok-next.ensures.came in
     let one : most_reads - (l.counter + 1) + 1 ≡ most_reads - l.counter = omega (arith, c.loop-test.true) in
-    more_read _ _ _ _ _ _ _ _ one l.invariant _ _ _ _ e.2 _ _ e.3 c.in-Some.is
+    more_read _ _ _ _ _ _ _ l.invariant _ _ _ _ e.2 _ _ _ one e.3 c.in-Some.is
