@@ -3,18 +3,16 @@ use mathlib.Core.Path.{◌≡◌, refl, sym, ap, ◌∙◌}
 use mathlib.Core.Bool.{Bool, true, false, true≢false, false≢true}
 use Prim.Native.Nat.{ℕ}
 use lib.Dec.{eqb}
-use borrow.Author.Tests.{ne_eqb, eq-eqb, eqb-true, eqb-false}
+use borrow.Author.Tests.{ne_eqb, eqb-true, eqb-false}
 use Rattle.std.specs.Prelude.{Option, Some, None, Result, Ok, Err, is_ok, is_some, IsErrAnd}
 use Rattle.answers.specs.declared.Refusal.{Refusal}
 use Rattle.answers.specs.declared.Refusal.TheVariants.{DamageMet}
-use Rattle.store.specs.declared.Item.{Item}
-use Rattle.lists.proofs.Cases.{by_cases}
 use mathlib.Core.List.{List}
 use Rattle.store.specs.declared.Head.{Head}
-use Rattle.search.specs.Find.{Reply, reply, sought_reply}
+use Rattle.search.specs.Find.{reply, sought_reply}
 use Rattle.search.specs.Next.{onward}
 use Rattle.search.proofs.NextLaws.{onward_rule}
-use Rattle.search.specs.Way.{Visit, Descent, Terminal, End, Span, Sought, Reached, Hop, Record, Nothing, Damaged, Page, Past, Broken, Ends, On, answered}
+use Rattle.search.specs.Way.{Visit, Descent, Terminal, End, Span, Sought, Reached, Record, Nothing, Damaged, Page, Past, Broken, Ends, On, answered}
 use Rattle.search.specs.Way.{sound_visit, sound_descent, sound_terminal, sound_end, sound_span}
 use Rattle.search.specs.Way.{visit_result, descent_result, terminal_result, end_result, span_option, span_result, sought_result, reached_result, hop_result}
 

@@ -565,7 +565,11 @@ fn span_from(
             }));
         }
     }
-    span_behind(store, f, head, strict, key, t, behind, checked)
+    let own = Terminal {
+        node: t.node,
+        used: t.used,
+    };
+    span_behind(store, f, head, strict, key, own, behind, checked)
 }
 
 // The records that follow a key, whose terminal node is t, in its own page or the one after it; damage on the way to the node is handed up.

@@ -1,5 +1,5 @@
 -- A broken head is told; a sound one has the limits that find asks for.
-use mathlib.Core.Path.{◌≡◌, refl, sym, ap, ◌∙◌}
+use mathlib.Core.Path.{sym, ap, ◌∙◌}
 use Rattle.store.proofs.HeadLaws.{head_long}
 use Rattle.search.specs.Find.{reply}
 use Rattle.search.specs.Find.{find_reply}

@@ -1,5 +1,5 @@
 -- Test by test, from the node's forward link.
-use mathlib.Core.Path.{◌≡◌, sym, ap, ◌∙◌}
+use mathlib.Core.Path.{sym, ap, ◌∙◌}
 use native.Mathlib.Omega.{arith}
 use Rattle.search.specs.Way.{hop_result}
 use Rattle.search.proofs.NextLaws.{onward_none, onward_spent, onward_broken, onward_goes, onward_linked}

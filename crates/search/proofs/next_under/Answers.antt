@@ -1,6 +1,5 @@
 -- Next is the first record of the span from the root.
-use mathlib.Core.Path.{◌≡◌, sym, refl, ap, ◌∙◌}
-use mathlib.Core.Bool.{true≢false}
+use mathlib.Core.Path.{sym, refl, ap, ◌∙◌}
 use Rattle.std.specs.Prelude.{Ok}
 use Rattle.search.specs.Way.{sought_result}
 use Rattle.search.specs.Span.{span_of, sought_of}
@@ -9,9 +8,6 @@ use Rattle.search.proofs.BlockLaws.{under_page, under_levels}
 use Rattle.search.proofs.RowLaws.{row_asked}
 use Rattle.search.proofs.WayLaws.{answered_err, damage_passed, span_is, span_none}
 use Rattle.search.proofs.next_under.Goals as goal
-
-pub span_at-requires : goal.span_at-requires
-span_at-requires c = (c.requires, c.terminal_of-t.ensures, λ q. absurd (true≢false q))
 
 pub returns-in_err-r : goal.returns-in_err-r
 returns-in_err-r c =

@@ -1,6 +1,5 @@
 -- What the way from where the loop stands leads to is what the whole way leads to.
 use mathlib.Core.Path.{◌≡◌, refl, sym, ap, ◌∙◌}
-use Prim.Native.Nat.{ℕ, ◌+◌, ◌-◌, ◌<◌}
 use native.Mathlib.Omega.{arith}
 use Rattle.std.specs.Prelude.{Ok}
 use Rattle.store.proofs.Places.{under_limits, under_counts}

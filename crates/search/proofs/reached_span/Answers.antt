@@ -1,5 +1,5 @@
 -- The first key of a page that keeps the rule speaks for all.
-use mathlib.Core.Path.{◌≡◌, refl, sym, ap, ◌∙◌}
+use mathlib.Core.Path.{refl, sym, ap, ◌∙◌}
 use borrow.Author.Rules.{rules}
 use Rattle.page.proofs.Inside.{record_inside}
 use Rattle.page.proofs.Laws.{rule_facts}

@@ -1,8 +1,8 @@
 -- The way on from the run, and what it leads to.
-use mathlib.Core.Path.{◌≡◌, refl, sym, ap, subst, ◌∙◌}
+use mathlib.Core.Path.{refl, sym, ap, subst, ◌∙◌}
 use Prim.Native.Nat.{◌+◌}
 use Rattle.std.specs.Prelude.{Ok}
-use Rattle.search.specs.Way.{Page, span_result}
+use Rattle.search.specs.Way.{span_result}
 use Rattle.search.specs.Span.{reached_span, no_span}
 use Rattle.search.proofs.NextLaws.{Some, reach_some}
 use Rattle.search.proofs.SpanLaws.{reached_past, reached_lost}

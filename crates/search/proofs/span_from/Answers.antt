@@ -1,12 +1,12 @@
 -- One law for each way out; both ways to the page after the key's own meet where no record of that is left.
-use mathlib.Core.Path.{◌≡◌, refl, sym, ap, ◌∙◌}
-use Prim.Native.Nat.{ℕ, ◌+◌, ◌-◌, ◌≤◌, ◌<◌}
+use mathlib.Core.Path.{refl, sym, ap, ◌∙◌}
+use Prim.Native.Nat.{◌+◌}
 use native.Mathlib.Omega.{arith}
 use borrow.Author.Rules.{rules}
 use Rattle.store.specs.declared.Item.{Item}
 use Rattle.store.proofs.HeadLaws.{width_within}
 use Rattle.page.proofs.Inside.{record_inside}
-use Rattle.search.specs.Way.{Page, span_result, sound_terminal}
+use Rattle.search.specs.Way.{span_result}
 use Rattle.search.specs.Next.{reach, behind}
 use Rattle.search.specs.Span.{no_span, reached_span}
 use Rattle.search.proofs.BlockLaws.{under_page}

@@ -1,6 +1,6 @@
 -- What is left of the way to the terminal node is the whole way.
 use mathlib.Core.Path.{◌≡◌, refl, sym, ap, ◌∙◌}
-use Prim.Native.Nat.{ℕ, ◌+◌, ◌-◌, ◌≤◌, ◌<◌}
+use Prim.Native.Nat.{ℕ, ◌+◌, ◌-◌, ◌<◌}
 use native.Mathlib.Omega.{arith}
 use Rattle.store.proofs.HeadLaws.{width_within}
 use Rattle.search.specs.Way.{terminal_result}
