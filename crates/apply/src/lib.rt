@@ -40,7 +40,7 @@ fn write_page(store: &mut [u32], f: Format, head: Head, p: u32, items: &[u32])
     }
     let at = store::page_start(f, head, p);
     let end = at + store::page_words(f, head.capacity);
-    store[at..end].copy_from_slice(items);
+    store::copy(&mut store[at..end], items);
 }
 
 // Writes a carried block, whose words begin at `at`, into node block n.

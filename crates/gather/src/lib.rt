@@ -40,7 +40,7 @@ fn first_page(
         × ((k used : ℕ) (rs : List Reach) → key_at f (page_at f store.now head page) i ≡ k
         → Holds f head.capacity (start_of f store.now head k used page rs) result items.new lost.new) }
 {
-    items.copy_from_slice(store::page_at(store, f, head, page));
+    store::copy(items, store::page_at(store, f, head, page));
     merge::take_out(items, f, head.capacity, i);
     if page::count_of(items) != 0 {
         return Gathered { page, lost: 0 };

@@ -98,7 +98,7 @@ pub fn release_roots(numbers: &[u32], kept: u32, levels: u32, gone: &mut [u32], 
 {
     let end = at + (levels - kept) as usize;
     let roots = &mut gone[at..end];
-    roots.copy_from_slice(&numbers[kept as usize..levels as usize]);
+    store::copy(roots, &numbers[kept as usize..levels as usize]);
     roots.reverse();
     end
 }
@@ -130,7 +130,7 @@ fn take_node(
         × HandFine f head.theta m t.used hand.new }
 {
     let node = store::node_at(store, f, head, t.node);
-    hand.copy_from_slice(node);
+    store::copy(hand, node);
     siblings::cover_hand(hand, f, head.theta, key, t.used, m, q);
 }
 

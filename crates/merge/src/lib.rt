@@ -42,6 +42,6 @@ pub fn add_page(part: &mut [u32], f: Format, capacity: u32, other: &[u32], befor
         part.copy_within(1..at, 1 + w * m);
         at = 1;
     }
-    part[at..at + w * m].copy_from_slice(&other[1..1 + w * m]);
+    store::copy(&mut part[at..at + w * m], &other[1..1 + w * m]);
     put::cut_page(part, f, capacity, n + m);
 }

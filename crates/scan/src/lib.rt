@@ -120,7 +120,7 @@ fn copy_rows(page: &[u32], f: Format, i: usize, n: usize, out: &mut [u32])
     let w = store::words_of(f);
     let first = 1 + w * i;
     let size = w * n;
-    out[0..size].copy_from_slice(&page[first..first + size]);
+    store::copy(&mut out[0..size], &page[first..first + size]);
 }
 
 // Writes the first n records at or above low. They were found before, on the same words, so no block is checked again.

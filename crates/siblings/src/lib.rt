@@ -367,7 +367,7 @@ fn join_pair(node: &[u32], hand: &mut [u32], theta: u32, left: bool, spare: &mut
     } else {
         fuse::join_into(hand, node, theta, spare);
     }
-    hand.copy_from_slice(spare);
+    store::copy(hand, spare);
 }
 
 // Whether the links of the node in hand, on a level, allow a join with its sibling p.

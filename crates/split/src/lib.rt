@@ -236,7 +236,7 @@ pub fn copy(part: &mut [u32], words: &[u32])
     requires { length words.now ≡ length part.old }
     ensures { part.new ≡ words.now }
 {
-    part.copy_from_slice(words);
+    store::copy(part, words);
 }
 
 // Writes words into block n, which is lent as a part of the store.
@@ -248,7 +248,7 @@ pub fn put_block(store: &mut [u32], head: Head, n: u32, words: &[u32])
 {
     let at = store::node_start(head, n);
     let end = at + store::node_words(head.theta);
-    store[at..end].copy_from_slice(words);
+    store::copy(&mut store[at..end], words);
 }
 
 // The entry of node n that a key takes.

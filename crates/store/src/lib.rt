@@ -470,6 +470,16 @@ pub fn clear(part: &mut [u32])
     part.fill(0);
 }
 
+// Copies words over a part of as many. (Word by word: the library's copy of a slice calls memmove, which the archive for C then needs.)
+pub fn copy(part: &mut [u32], words: &[u32])
+    requires { length part.old ≡ length words.now }
+    ensures { part.new ≡ words.now }
+{
+    for (i, word) in words.iter().enumerate() {
+        part[i] = *word;
+    }
+}
+
 // Writes the words of a store just set up that are not 0: its head, and the level of node 1.
 fn mark(part: &mut [u32], theta: u32, capacity: u32, nodes: u32, pages: u32)
     requires { 18 ≤ length part.old }

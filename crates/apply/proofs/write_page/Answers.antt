@@ -7,5 +7,5 @@ returns c =
     let a = c.args in (
       λ e. absurd (c.if-p-eq0.false e),
       λ e. page_back a.store.now a.head c.requires.0 a.f a.p _ c.page_words.result _ _ c.page_start-at.ensures.0 c.page_words.ensures.0
-          c.copy_from_slice.ensures.after,
+          c.copy.ensures,
     )

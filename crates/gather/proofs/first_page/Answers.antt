@@ -19,15 +19,15 @@ use Rattle.gather.proofs.first_page.Goals as goal
 pub page_at-requires : goal.page_at-requires
 page_at-requires c = under_page c.requires.0
 
-pub copy_from_slice-requires : goal.copy_from_slice-requires
-copy_from_slice-requires c =
+pub copy-requires : goal.copy-requires
+copy-requires c =
     let p = c.requires in
     p.2 ∙ sym (ap length c.page_at.ensures ∙ page_long p.0 p.1.some p.1.taken)
 
 pub take_out-requires : goal.take_out-requires
 take_out-requires c =
     let p = c.requires in
-    let e = c.copy_from_slice.ensures.after ∙ c.page_at.ensures in (
+    let e = c.copy.ensures ∙ c.page_at.ensures in (
       ap length e ∙ page_long p.0 p.1.some p.1.taken,
       omega (arith, ap count e, own_fits p.0 p.1.some p.1.taken p.1.rule),
       omega (arith, ap count e, p.1.inside),
@@ -45,12 +45,12 @@ module _ {f : Format} {s : List ℕ} {h : Head} {page i : ℕ} (u : Under f s h)
 
 pub returns-then-count_of-ne0 : goal.returns-then-count_of-ne0
 returns-then-count_of-ne0 c =
-    let x = left c.requires.0 c.requires.1 (c.copy_from_slice.ensures.after ∙ c.page_at.ensures) c.take_out.ensures in
+    let x = left c.requires.0 c.requires.1 (c.copy.ensures ∙ c.page_at.ensures) c.take_out.ensures in
     (search rules, search rules, search rules, first_some _ _ _ _ _ x c.count_of.ensures.0 c.if-count_of-ne0.true _)
 
 pub returns : goal.returns
 returns c =
-    let x = left c.requires.0 c.requires.1 (c.copy_from_slice.ensures.after ∙ c.page_at.ensures) c.take_out.ensures in (
+    let x = left c.requires.0 c.requires.1 (c.copy.ensures ∙ c.page_at.ensures) c.take_out.ensures in (
       search rules,
       search rules,
       search rules,

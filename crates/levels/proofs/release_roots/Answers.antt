@@ -17,7 +17,7 @@ returns c =
     length-take-le (a.at + (a.levels - a.kept) - a.at) (drop a.at a.gone.now) (omega (arith, length-drop a.at a.gone.now, p.2)) in (
       refl,
       λ xs y e.
-          take-put_mid a.at _ a.gone.now c.reverse.new.self _ (omega (arith, c.reverse.ensures.len, c.copy_from_slice.ensures.len, part)) (omega (arith, p.2))
+          take-put_mid a.at _ a.gone.now c.reverse.new.self _ (omega (arith, c.reverse.ensures.len, c.copy.auto.part, part)) (omega (arith, p.2))
           ∙ ap (λ ns. take a.at a.gone.now ++ ns)
-          (c.reverse.ensures.after ∙ ap reverse c.copy_from_slice.ensures.after ∙ roots_are xs a.levels a.numbers.now y p.1 e),
+          (c.reverse.ensures.after ∙ ap reverse c.copy.ensures ∙ roots_are xs a.levels a.numbers.now y p.1 e),
     )

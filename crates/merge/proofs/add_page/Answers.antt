@@ -23,13 +23,13 @@ pub copy_within-requires-clause-dest_in_bounds : goal.copy_within-requires-claus
 copy_within-requires-clause-dest_in_bounds c =
     omega (arith, (room (goal.at.copy_within-requires-clause-dest_in_bounds c).After-words_of-w).0)
 
-pub slice_bounds-copy_from_slice-end : goal.slice_bounds-copy_from_slice-end
-slice_bounds-copy_from_slice-end c =
-    let r = (room (goal.at.slice_bounds-copy_from_slice-end c).After-words_of-w).0 in
+pub slice_bounds-copy-end : goal.slice_bounds-copy-end
+slice_bounds-copy-end c =
+    let r = (room (goal.at.slice_bounds-copy-end c).After-words_of-w).0 in
     elim c.if-before.branch [ then-before w ↦ omega (arith, r, w.at-is) | else-before w ↦ omega (arith, r, w.at-is) ]
 
-pub slice_bounds-copy_from_slice-end-2 : goal.slice_bounds-copy_from_slice-end-2
-slice_bounds-copy_from_slice-end-2 c = omega (arith, (room (goal.at.slice_bounds-copy_from_slice-end-2 c).After-words_of-w).1)
+pub slice_bounds-copy-end-2 : goal.slice_bounds-copy-end-2
+slice_bounds-copy-end-2 c = omega (arith, (room (goal.at.slice_bounds-copy-end-2 c).After-words_of-w).1)
 
 pub returns : goal.returns
 returns c rs its is os =
@@ -41,9 +41,9 @@ returns c rs its is os =
     let m_is : c.count_of-m.result ≡ length its = c.count_of-m.ensures.0 ∙ page_count_lem a.f a.capacity a.other.now its os in
     let k : b.at + size - b.at ≡ size = omega arith in
     let l : 1 + size - 1 ≡ size = omega arith in
-    let t : List ℕ = lent b.part b.at (b.at + size - b.at) c.copy_from_slice.new.self in
+    let t : List ℕ = lent b.part b.at (b.at + size - b.at) c.copy.new.part in
     let written : t ≡ replaced b.at size (row a.other.now 1 size) b.part =
-    placed b.part a.other.now c.copy_from_slice.new.self b.at (b.at + size - b.at) 1 (1 + size - 1) size k l c.copy_from_slice.ensures.after in
+    placed b.part a.other.now c.copy.new.part b.at (b.at + size - b.at) 1 (1 + size - 1) size k l c.copy.ensures in
     c.cut_page.ensures
     ∙ elim b.branch [
       | then-before x ↦

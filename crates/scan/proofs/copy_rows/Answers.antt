@@ -13,5 +13,5 @@ returns c =
     let a = c.args in
     let e = c.words_of-w.ensures.0 in
     let w = c.words_of-w.result in
-    copied_part a.page.now a.out.now _ (1 + w * a.i) (w * a.n) (rw e (omega (arith, c.requires.1))) c.copy_from_slice.ensures.after
+    copied_part a.page.now a.out.now _ (1 + w * a.i) (w * a.n) (rw e (omega (arith, c.requires.1))) c.copy.ensures
     ∙ ap (λ v. part a.page.now (1 + v * a.i) (v * a.n) ++ drop (v * a.n) a.out.now) e
