@@ -353,5 +353,5 @@ pub fn run(rt: &impl Print, sound: &mut [u32], store: &mut [u32], tally: &mut [u
     report::start(tally, 5);
     tables_in(rt, sound, store, tally);
     deep_paths(rt, store, tally);
-    report::finish(rt, tally, "broken rules");
+    report::finish(rt, tally, b"broken rules");
 }

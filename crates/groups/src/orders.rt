@@ -128,7 +128,7 @@ pub fn fill_store(
         (result ≡ q.size) × (store.new ≡ q.played.store) × (tally.new ≡ q.played.tally) }
 {
     let size = sets::prepare(store, setting);
-    report::hold(rt, tally, size > 0, "the store is set up");
+    report::hold(rt, tally, size > 0, b"the store is set up");
     enter_all(rt, store, list, drawn, order, tally);
     size
 }
@@ -143,7 +143,7 @@ fn compare(rt: &impl Print, first: &[u32], store: &mut [u32], list: &[u32], tall
         rt,
         tally,
         twins::same_tree(first, store),
-        "the trees are the same",
+        b"the trees are the same",
     );
 }
 
@@ -211,5 +211,5 @@ pub fn run(
 ) {
     report::start(tally, 3);
     sets_of(rt, first, store, list, drawn, tally);
-    report::finish(rt, tally, "orders of entry");
+    report::finish(rt, tally, b"orders of entry");
 }

@@ -222,7 +222,7 @@ fn part_in(
         rt,
         tally,
         model::lists(list, call.a, out, words::low(reply.a)),
-        "the records are listed",
+        b"the records are listed",
     );
     words::low(reply.b)
 }
@@ -331,7 +331,7 @@ pub fn parts(rt: &impl Print, store: &mut [u32], list: &[u32], room: u32, tally:
             return;
         }
     }
-    report::hold(rt, tally, false, "the parts end");
+    report::hold(rt, tally, false, b"the parts end");
 }
 
 // Sets a store up for a setting; the size, 0 if refused.
@@ -371,7 +371,7 @@ fn set_of(
         rt,
         tally,
         prepare(store, setting) > 0,
-        "the store is set up",
+        b"the store is set up",
     );
     list.fill(0);
     tries(rt, store, list, setting, tally);
@@ -392,5 +392,5 @@ fn sets(rt: &impl Print, store: &mut [u32], list: &mut [u32], tally: &mut [u64])
 pub fn run(rt: &impl Print, store: &mut [u32], list: &mut [u32], tally: &mut [u64]) {
     report::start(tally, 2);
     sets(rt, store, list, tally);
-    report::finish(rt, tally, "random sets");
+    report::finish(rt, tally, b"random sets");
 }

@@ -74,13 +74,15 @@ fn failure(rt: &impl Print, tally: &mut [u64]) -> bool
 }
 
 // A trial of a fact.
-pub fn hold(rt: &impl Print, tally: &mut [u64], holds: bool, fact: &str)
+pub fn hold(rt: &impl Print, tally: &mut [u64], holds: bool, fact: &[u8])
     ensures { tally.new ≡ tried tally.old holds }
 {
     add(tally, TRIED);
     if !holds {
         if failure(rt, tally) {
-            let _ = println!(rt; "expected that {fact}, got that not");
+            let _ = print!(rt; "expected that ");
+            let _ = rt.write_all(fact);
+            let _ = println!(rt; ", got that not");
         }
     }
 }
@@ -111,7 +113,7 @@ pub fn judge_outcome(rt: &impl Print, tally: &mut [u64], expected: Reply, got: O
 {
     let reply = got.reply;
     judge(rt, tally, expected, reply);
-    hold(rt, tally, got.kept, "the words stay");
+    hold(rt, tally, got.kept, b"the words stay");
 }
 
 // Prints how many answers had a number, if any.
@@ -136,11 +138,13 @@ fn say_entries(rt: &impl Print, tally: &[u64]) {
 }
 
 // Prints a group's line.
-pub fn finish(rt: &impl Print, tally: &[u64], name: &str) {
+pub fn finish(rt: &impl Print, tally: &[u64], name: &[u8]) {
     let group = count(tally, GROUP);
     let tried = count(tally, TRIED);
     let failed = count(tally, FAILED);
-    let _ = print!(rt; "{group} {name}: tried {tried}, failed {failed}");
+    let _ = print!(rt; "{group} ");
+    let _ = rt.write_all(name);
+    let _ = print!(rt; ": tried {tried}, failed {failed}");
     say_entries(rt, tally);
     let _ = print!(rt; ", answers");
     say_counts(rt, tally);

@@ -89,7 +89,7 @@ fn found_again(rt: &impl Print, store: &mut [u32], call: Call, tally: &mut [u64]
 
 // What holds after a call that was done.
 fn judge_done(rt: &impl Print, store: &mut [u32], call: Call, reply: Reply, tally: &mut [u64]) {
-    report::hold(rt, tally, sensible(call, reply), "the reply fits the key");
+    report::hold(rt, tally, sensible(call, reply), b"the reply fits the key");
     if call.kind == Kind::Enter {
         found_again(rt, store, call, tally);
     }
@@ -204,5 +204,5 @@ pub fn run(
 ) {
     report::start(tally, 6);
     damage_settings(rt, sound, store, list, drawn, tally);
-    report::finish(rt, tally, "damaged stores");
+    report::finish(rt, tally, b"damaged stores");
 }

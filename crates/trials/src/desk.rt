@@ -98,5 +98,5 @@ pub fn run(rt: &impl Print, store: &mut [u32], tally: &mut [u64]) {
     report::start(tally, 1);
     sizes(rt, store, tally);
     sample(rt, store, tally);
-    report::finish(rt, tally, "desk checks");
+    report::finish(rt, tally, b"desk checks");
 }

@@ -126,5 +126,5 @@ pub fn run(rt: &impl Print, store: &mut [u32], tally: &mut [u64]) {
     sound(rt, store, tally);
     broken(rt, store, tally);
     shorter(rt, store, tally);
-    report::finish(rt, tally, "refusals");
+    report::finish(rt, tally, b"refusals");
 }
