@@ -36,6 +36,22 @@ fn walk_from(
     search::span_at(store, f, head, strict, key, t, checked)
 }
 
+// A span, field by field: copied as a whole it would wait for the stores of its fields.
+fn copied(next: Option<Span>) -> Option<Span>
+    ensures { result ≡ next }
+{
+    let r = next?;
+    Some(Span {
+        page: r.page,
+        from: r.from,
+        node: r.node,
+        to: r.to,
+        used: r.used,
+        behind: r.behind,
+        last: r.last,
+    })
+}
+
 // The records after the last one of a span: on with the run behind its page, where that is known, without that record's way down.
 fn advance(
     store: &[u32],
@@ -53,9 +69,9 @@ fn advance(
             node: r.node,
             used: r.used,
         };
-        return search::span_behind(store, f, head, true, r.last, t, r.behind, checked);
+        return Ok(copied(search::span_behind(store, f, head, true, r.last, t, r.behind, checked)?));
     }
-    walk_from(store, f, head, true, r.last, checked)
+    Ok(copied(walk_from(store, f, head, true, r.last, checked)?))
 }
 
 // Where the records of a span that are not above high end.
