@@ -2,7 +2,7 @@
 
 #![tactic(auto)]
 
-ghost use Rattle.std.specs.Prelude.{◌≡◌, true, false, List, [], ◌∷◌, ℕ, suc, ◌*◌, ◌≤◌, ◌<◌, length, take, drop};
+ghost use Rattle.std.specs.Prelude.{◌≡◌, true, false, List, [], ◌∷◌, ℕ, suc, ◌+◌, ◌*◌, ◌≤◌, ◌<◌, length, take, drop};
 ghost use Rattle.lists.specs.Bits.{bit as bit_of};
 ghost use Rattle.lists.specs.Lists.{All, replaced, part};
 ghost use Rattle.lists.specs.Keyed.{Sorted, Prefix, insert};
@@ -16,6 +16,14 @@ ghost use Rattle.put.specs.Put.{Halvable, cut_to};
 
 use store::{Format, Item};
 
+// Moves n words up by so many places.
+fn move_up(part: &mut [u32], from: usize, n: usize, by: usize)
+    requires { from + n + by ≤ length part.old }
+    ensures { part.new ≡ replaced (from + by) n (take n (drop from part.old)) part.old }
+{
+    part.copy_within(from..from + n, from + by);
+}
+
 // Puts a record in order into a page that has room. Only the records behind it are moved.
 pub fn put_record(part: &mut [u32], f: Format, capacity: u32, item: Item)
     requires { (length part.old ≡ page_words f capacity) × (count part.old < capacity) × (Filled f part.old) }
@@ -26,7 +34,7 @@ pub fn put_record(part: &mut [u32], f: Format, capacity: u32, item: Item)
     let i = page::first_above(part, f, true, item.key);
     let w = store::words_of(f);
     let at = 1 + w * i;
-    part.copy_within(at..1 + w * n, at + w);
+    move_up(part, at, w * (n - i), w);
     page::write_item(&mut part[at..], f, item);
     part[0] = (n + 1) as u32;
 }
@@ -68,6 +76,14 @@ pub fn low_count(page: &[u32], f: Format, bit: u32) -> usize
     n
 }
 
+// Copies n words to another place.
+fn copy_words(store: &mut [u32], from: usize, to: usize, n: usize)
+    requires { (from + n ≤ length store.old) × (to + n ≤ length store.old) }
+    ensures { store.new ≡ replaced to n (take n (drop from store.old)) store.old }
+{
+    store.copy_within(from..from + n, to);
+}
+
 // Gives a page n records: its first n stay, and all words behind them are cleared.
 pub fn cut_page(part: &mut [u32], f: Format, capacity: u32, n: usize)
     requires { (n ≤ capacity) × (length part.old ≡ page_words f capacity) }
@@ -89,7 +105,7 @@ pub fn halve_page(store: &mut [u32], f: Format, capacity: u32, from: usize, to: 
     let n = store::to_index(store::word(store, from));
     let size = store::page_words(f, capacity);
     let high = n - i;
-    store.copy_within(from + 1 + w * i..from + 1 + w * n, to + 1);
+    copy_words(store, from + 1 + w * i, to + 1, w * high);
     let from_end = from + size;
     cut_page(&mut store[from..from_end], f, capacity, i);
     let to_end = to + size;

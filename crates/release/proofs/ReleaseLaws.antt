@@ -71,23 +71,23 @@ module _ (s : List ℕ) (h : Head) (z : SameSizes (head_of s) h) where
   unfolding put_page
   page_put f p next = rw (page_place f p, z.capacity)
 
-  -- what the code leaves
-  pub node_released : (n a w : ℕ) (t : List ℕ) → a ≡ node_start h n → w ≡ node_words h.theta
-      → t ≡ set (set (replaced a w (set (replicate w 0) 2 (word s 8)) s) 8 n) 10 (word s 10 + 1)
+  -- what the code leaves: the block names number x, and the head has the count k
+  pub node_released : (n a w x k : ℕ) (t : List ℕ) → a ≡ node_start h n → w ≡ node_words h.theta
+      → t ≡ set (set (replaced a w (set (replicate w 0) 2 x) s) 8 n) 10 k → x ≡ word s 8 → k ≡ word s 10 + 1
       → t ≡ release_node s n
   unfolding release_node released_of
-  node_released n a w t start size is =
-      let put : replaced a w (set (replicate w 0) 2 (word s 8)) s ≡ put_node s n (released_node (head_of s).theta (word s 8)) =
-      ap₂ (λ x y. replaced x y (set (replicate y 0) 2 (word s 8)) s) start size
+  node_released n a w x k t start size is link many =
+      let put : replaced a w (set (replicate w 0) 2 x) s ≡ put_node s n (released_node (head_of s).theta (word s 8)) =
+      ap (λ y. replaced a w (set (replicate w 0) 2 y) s) link ∙ ap₂ (λ y z. replaced y z (set (replicate z 0) 2 (word s 8)) s) start size
       ∙ ap (λ l. replaced (node_start h n) (node_words h.theta) l s) (node_form_lem h.theta (word s 8)) ∙ node_put_lem n (word s 8) in
-      is ∙ ap₂ (λ l c. set (set l 8 n) 10 c) put (add-one (word s 10))
+      is ∙ ap₂ (λ l c. set (set l 8 n) 10 c) put (many ∙ add-one (word s 10))
 
-  pub page_released : (f : Format) (p a w : ℕ) (t : List ℕ) → 1 ≤ h.capacity → a ≡ page_start f h p → w ≡ page_words f h.capacity
-      → t ≡ set (set (replaced a w (set (replicate w 0) 1 (word s 9)) s) 9 p) 11 (word s 11 + 1)
+  pub page_released : (f : Format) (p a w x k : ℕ) (t : List ℕ) → 1 ≤ h.capacity → a ≡ page_start f h p → w ≡ page_words f h.capacity
+      → t ≡ set (set (replaced a w (set (replicate w 0) 1 x) s) 9 p) 11 k → x ≡ word s 9 → k ≡ word s 11 + 1
       → t ≡ release_page f s p
   unfolding release_page released_of
-  page_released f p a w t low start size is =
-      let put : replaced a w (set (replicate w 0) 1 (word s 9)) s ≡ put_page f s p (released_page f (head_of s).capacity (word s 9)) =
-      ap₂ (λ x y. replaced x y (set (replicate y 0) 1 (word s 9)) s) start size
+  page_released f p a w x k t low start size is link many =
+      let put : replaced a w (set (replicate w 0) 1 x) s ≡ put_page f s p (released_page f (head_of s).capacity (word s 9)) =
+      ap (λ y. replaced a w (set (replicate w 0) 1 y) s) link ∙ ap₂ (λ y z. replaced y z (set (replicate z 0) 1 (word s 9)) s) start size
       ∙ ap (λ l. replaced (page_start f h p) (page_words f h.capacity) l s) (page_form_lem f h.capacity (word s 9) low) ∙ page_put f p (word s 9) in
-      is ∙ ap₂ (λ l c. set (set l 9 p) 11 c) put (add-one (word s 11))
+      is ∙ ap₂ (λ l c. set (set l 9 p) 11 c) put (many ∙ add-one (word s 11))

@@ -10,20 +10,26 @@ ghost use Rattle.release.specs.Release.{release_node, release_page};
 
 use store::{Format, Head};
 
-// Releases the block of so many words from `at` on: it is cleared, its word number `link` gets the last released block's number, which word
-// `last` of the head has, and the head names block n there and counts it two words on.
-fn release_block(store: &mut [u32], at: usize, size: usize, link: usize, last: usize, n: u32)
-    requires { (at + size ≤ length store.old) × (link < size) × (last + 2 < length store.old) × (word store.old (last + 2) + 1 < 2 ^ 32) }
-    ensures { store.new ≡ set (set (replaced at size (set (replicate size 0) link (word store.old last)) store.old) last n)
-        (last + 2) (word store.old (last + 2) + 1) }
+// Releases block n, of so many words from `at` on: it is cleared, its word number `link` gets the number of the block released before it, and
+// the head names block n in its word `last` and has the count two words on.
+fn release_block(
+    store: &mut [u32],
+    at: usize,
+    size: usize,
+    link: usize,
+    next: u32,
+    last: usize,
+    n: u32,
+    count: u32,
+)
+    requires { (at + size ≤ length store.old) × (link < size) × (last + 2 < length store.old) }
+    ensures { store.new ≡ set (set (replaced at size (set (replicate size 0) link next) store.old) last n) (last + 2) count }
 {
-    let next = store[last];
-    let count = store[last + 2];
     let block = &mut store[at..at + size];
     block.fill(0);
     block[link] = next;
     store[last] = n;
-    store[last + 2] = count + 1;
+    store[last + 2] = count;
 }
 
 // Releases a node block: words 8 and 10 of the head.
@@ -34,7 +40,9 @@ pub fn release_node(store: &mut [u32], head: Head, n: u32)
 {
     let at = store::node_start(head, n);
     let size = store::node_words(head.theta);
-    release_block(store, at, size, 2, 8, n);
+    let next = store[8];
+    let count = store[10];
+    release_block(store, at, size, 2, next, 8, n, count + 1);
 }
 
 // Releases a page block: words 9 and 11 of the head.
@@ -46,5 +54,7 @@ pub fn release_page(store: &mut [u32], f: Format, head: Head, p: u32)
 {
     let at = store::page_start(f, head, p);
     let size = store::page_words(f, head.capacity);
-    release_block(store, at, size, 1, 9, p);
+    let next = store[9];
+    let count = store[11];
+    release_block(store, at, size, 1, next, 9, p, count + 1);
 }

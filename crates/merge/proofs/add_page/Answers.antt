@@ -29,7 +29,9 @@ slice_bounds-copy-end c =
     elim c.if-before.branch [ then-before w ↦ omega (arith, r, w.at-is) | else-before w ↦ omega (arith, r, w.at-is) ]
 
 pub slice_bounds-copy-end-2 : goal.slice_bounds-copy-end-2
-slice_bounds-copy-end-2 c = omega (arith, (room (goal.at.slice_bounds-copy-end-2 c).After-words_of-w).1)
+slice_bounds-copy-end-2 c =
+    let r = (room (goal.at.slice_bounds-copy-end-2 c).After-words_of-w).1 in
+    elim c.if-before.branch [ then-before w ↦ omega (arith, r) | else-before w ↦ omega (arith, r) ]
 
 pub returns : goal.returns
 returns c rs its is os =
@@ -40,19 +42,22 @@ returns c rs its is os =
     let n_is : c.count_of-n.result ≡ length rs = c.count_of-n.ensures.0 ∙ page_count_lem a.f a.capacity a.part.now rs is in
     let m_is : c.count_of-m.result ≡ length its = c.count_of-m.ensures.0 ∙ page_count_lem a.f a.capacity a.other.now its os in
     let k : b.at + size - b.at ≡ size = omega arith in
-    let l : 1 + size - 1 ≡ size = omega arith in
     let t : List ℕ = lent b.part b.at (b.at + size - b.at) c.copy.new.part in
-    let written : t ≡ replaced b.at size (row a.other.now 1 size) b.part =
-    placed b.part a.other.now c.copy.new.part b.at (b.at + size - b.at) 1 (1 + size - 1) size k l c.copy.ensures in
     c.cut_page.ensures
     ∙ elim b.branch [
       | then-before x ↦
+          let written : t ≡ replaced b.at size (row a.other.now 1 size) b.part =
+          placed b.part a.other.now c.copy.new.part b.at (b.at + size - b.at) 1 size size k refl
+          (grind (arith, c.copy.ensures)) in
           before_words a.f a.capacity rs its a.part.now a.other.now x.copy_within.new.self t c.count_of-n.result c.count_of-m.result w.result is
           os n_is m_is w.ensures.0 (omega (arith, (room (goal.at.returns c).After-words_of-w).0))
           (x.copy_within.ensures.after ∙ moved a.part.now _ _ _ (w.result * c.count_of-n.result) refl)
           (written ∙ ap₂ (λ i u. replaced i size (row a.other.now 1 size) u) x.at-is x.part-is)
           ∙ ap (page_image a.f a.capacity) (added_before a.before rs its x.if-before.true)
       | else-before x ↦
+          let written : t ≡ replaced b.at size (row a.other.now 1 size) b.part =
+          placed b.part a.other.now c.copy.new.part b.at (b.at + size - b.at) 1 size size k refl
+          (grind (arith, c.copy.ensures)) in
           behind_words a.f a.capacity rs its a.part.now a.other.now t c.count_of-n.result c.count_of-m.result w.result is os n_is m_is w.ensures.0
           (written ∙ ap₂ (λ i u. replaced i size (row a.other.now 1 size) u) x.at-is x.part-is)
           ∙ ap (page_image a.f a.capacity) (added_behind a.before rs its x.if-before.false)

@@ -3,7 +3,7 @@ use Rattle.std.proofs.Common.{ℕ, ◌≡◌, ◌+◌, ◌-◌, ◌*◌, ◌≤�
 use Rattle.lists.proofs.Shifts.{shares}
 use Rattle.represent.specs.Image.{page_image}
 use Rattle.represent.proofs.PageImage.{page_count_lem}
-use Rattle.put.proofs.WordLaws.{moved, end_room}
+use Rattle.put.proofs.WordLaws.{end_room}
 use Rattle.put.proofs.PutLaws.{room_more, put_words, insert_first}
 use Rattle.put.proofs.put_record.Goals.{After-words_of-w}
 use Rattle.put.proofs.put_record.Goals as goal
@@ -30,14 +30,14 @@ room c =
       ),
     )
 
-pub copy_within-requires-clause-dest_in_bounds : goal.copy_within-requires-clause-dest_in_bounds
-copy_within-requires-clause-dest_in_bounds c = omega (arith, room (goal.at.copy_within-requires-clause-dest_in_bounds c).After-words_of-w)
+pub move_up-requires : goal.move_up-requires
+move_up-requires c = omega (arith, room (goal.at.move_up-requires c).After-words_of-w)
 
 pub write_item-requires : goal.write_item-requires
 write_item-requires c =
     let r = room (goal.at.write_item-requires c).After-words_of-w in
-    end_room c.copy_within.new.self (1 + c.words_of-w.result * c.first_above-i.result) _
-    (omega (arith, r, c.copy_within.ensures.len, c.words_of-w.ensures.0))
+    end_room c.move_up.new.part (1 + c.words_of-w.result * c.first_above-i.result) _
+    (omega (arith, r, c.move_up.auto.part, c.words_of-w.ensures.0))
 
 pub returns : goal.returns
 returns c rs is lawful =
@@ -47,7 +47,6 @@ returns c rs is lawful =
     let i : ℕ = c.first_above-i.result in
     let r = room (goal.at.returns c).After-words_of-w in
     let size : n.result ≡ length rs = n.ensures.0 ∙ page_count_lem a.f a.capacity a.part.now rs is in
-    put_words a.f a.capacity rs a.item a.part.now c.copy_within.new.self c.write_item.new.part w.result n.result i is r.0
-    (omega (arith, n.ensures.0, c.requires.1)) size w.ensures.0
-    (c.copy_within.ensures.after ∙ moved a.part.now _ _ _ _ r.1) c.write_item.ensures
+    put_words a.f a.capacity rs a.item a.part.now c.move_up.new.part c.write_item.new.part w.result n.result i is r.0
+    (omega (arith, n.ensures.0, c.requires.1)) size w.ensures.0 c.move_up.ensures c.write_item.ensures
     ∙ ap (page_image a.f a.capacity) (sym (insert_first a.f a.capacity a.part.now rs is lawful a.item _ c.first_above-i.ensures.0))

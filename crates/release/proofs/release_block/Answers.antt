@@ -2,7 +2,6 @@
 use Rattle.std.proofs.Common.{ℕ, List, ◌≡◌, ◌+◌, ◌-◌, replicate, refl, ap, ◌∙◌}
 use Rattle.std.proofs.Math.ListN.{set}
 use borrow.Rule.Slice.PartMut.{put_mid}
-use Rattle.store.specs.Head.{word}
 use Rattle.release.proofs.ReleaseLaws.{part_long_lem, given_back}
 use Rattle.release.proofs.release_block.Goals as goal
 
@@ -12,5 +11,5 @@ returns c =
     let s : List ℕ = a.store.now in
     let zeros : c.fill.new.self ≡ replicate a.size 0 =
     c.fill.ensures.after (λ y e. e) ∙ ap (λ k. replicate k 0) (part_long_lem s a.at a.size (a.at + a.size) refl c.requires.0) in
-    ap (λ b. set (set (put_mid a.at (a.at + a.size - a.at) s (set b a.link (word s a.last))) a.last a.n) (a.last + 2) (word s (a.last + 2) + 1)) zeros
-    ∙ ap (λ l. set (set l a.last a.n) (a.last + 2) (word s (a.last + 2) + 1)) (given_back s _ a.at a.size (a.at + a.size) refl)
+    ap (λ b. set (set (put_mid a.at (a.at + a.size - a.at) s (set b a.link a.next)) a.last a.n) (a.last + 2) a.count) zeros
+    ∙ ap (λ l. set (set l a.last a.n) (a.last + 2) a.count) (given_back s _ a.at a.size (a.at + a.size) refl)

@@ -1,0 +1,12 @@
+use Rattle.std.proofs.Common.{ℕ, ◌≡◌, ◌+◌, refl, arith, ◌∙◌}
+use lib.ListN.{length-take, take-append-drop}
+use Rattle.lists.specs.Lists.{replaced}
+use Rattle.put.proofs.WordLaws.{row, moved}
+use Rattle.put.proofs.copy_words.Goals as goal
+
+pub returns : goal.returns
+returns c =
+    let a = c.args in
+    let copied : c.copy_within.new.self ≡ replaced a.to a.n (row a.store.now a.from a.n) a.store.now =
+    c.copy_within.ensures.after ∙ moved a.store.now a.from (a.from + a.n) a.to a.n refl in
+    grind (arith, length-take {A = ℕ}, take-append-drop {A = ℕ}, copied)
