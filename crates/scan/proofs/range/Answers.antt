@@ -1,4 +1,5 @@
 -- One law for each way out; the second pass writes what the first one found.
+use borrow.Author.Rules.{rules}
 use mathlib.Core.Path.{sym, ap, ◌∙◌}
 use Prim.Native.Nat.{◌/◌}
 use native.Mathlib.Omega.{arith}
@@ -16,7 +17,7 @@ pub returns-then-not-head_ok : goal.returns-then-not-head_ok
 returns-then-not-head_ok c = range_head _ _ _ _ _ (sym c.head_ok.ensures ∙ c.if-not-head_ok.true)
 
 pub returns-then-high-low : goal.returns-then-high-low
-returns-then-high-low c = range_order _ _ _ _ _ (sym c.head_ok.ensures ∙ c.if-not-head_ok.false) c.if-high-low.true
+returns-then-high-low c = range_order _ _ _ _ _ (search rules) c.if-high-low.true
 
 pub head_of-head-requires : goal.head_of-head-requires
 head_of-head-requires c = head_long _ _ (sym c.head_ok.ensures ∙ c.if-not-head_ok.false)

@@ -1,5 +1,6 @@
 -- One law for each way out.
 use mathlib.Core.Path.{sym, ap, ◌∙◌}
+use native.Mathlib.Omega.{arith}
 use Rattle.store.proofs.HeadLaws.{head_long}
 use Rattle.search.proofs.WayLaws.{answered_err, damage_passed}
 use Rattle.scan.specs.Summary.{summary_reply}
@@ -14,7 +15,7 @@ returns-then-high-low c = summary_order _ _ _ _ _ (sym c.head_ok.ensures ∙ c.i
 
 pub returns-then-not-lawful_day : goal.returns-then-not-lawful_day
 returns-then-not-lawful_day c =
-    summary_day _ _ _ _ _ (sym c.head_ok.ensures ∙ c.if-not-head_ok.false) c.if-high-low.false
+    summary_day _ _ _ _ _ (sym c.head_ok.ensures ∙ c.if-not-head_ok.false) (omega arith)
     (sym c.lawful_day.ensures ∙ c.if-not-lawful_day.true)
 
 pub head_of-requires : goal.head_of-requires
