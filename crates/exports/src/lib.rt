@@ -62,6 +62,7 @@ fn told_key(reply: &mut [u64], answer: Result<u32, Refusal>) -> u32
 }
 
 // Sets a store up: refused with 4 or 5, or cleared and headed. Words beyond the size stay.
+#[tactic(auto, unfolding(crate::specs::Reply::size_values))]
 pub fn plots_set_up(
     store: &mut [u32],
     theta: u32,
@@ -163,6 +164,7 @@ pub fn plots_summary(store: &[u32], low: u32, high: u32, today: u32, reply: &mut
 }
 
 // What is left of a price today.
+#[tactic(auto, unfolding(crate::specs::Reply::balance_values))]
 pub fn plots_balance(price: u32, lease: u32, last: u32, today: u32, reply: &mut [u64]) -> u32
     ensures { let a = balance_reply price lease last today in
         (result ≡ a.number) × (reply.new ≡ filled (balance_values a) reply.old) }
