@@ -17,7 +17,7 @@ ghost use Rattle.put.specs.Put.{Halvable, cut_to};
 use store::{Format, Item};
 
 // Moves n words up by so many places.
-fn move_up(part: &mut [u32], from: usize, n: usize, by: usize)
+pub fn move_up(part: &mut [u32], from: usize, n: usize, by: usize)
     requires { from + n + by ≤ length part.old }
     ensures { part.new ≡ replaced (from + by) n (take n (drop from part.old)) part.old }
 {
@@ -77,7 +77,7 @@ pub fn low_count(page: &[u32], f: Format, bit: u32) -> usize
 }
 
 // Copies n words to another place.
-fn copy_words(store: &mut [u32], from: usize, to: usize, n: usize)
+pub fn copy_words(store: &mut [u32], from: usize, to: usize, n: usize)
     requires { (from + n ≤ length store.old) × (to + n ≤ length store.old) }
     ensures { store.new ≡ replaced to n (take n (drop from store.old)) store.old }
 {
