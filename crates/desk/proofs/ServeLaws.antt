@@ -1,7 +1,7 @@
 -- Serving bytes: a line is gathered, answered at its byte 0A, and what is put and what is left to be written make up what was to be
 -- written.
 use mathlib.Core.Path.{◌≡◌, refl, sym, ap, ◌∙◌}
-use mathlib.Core.Bool.{Bool, true, false, ◌||◌, false≢true}
+use mathlib.Core.Bool.{Bool, true, false, not, cond, ◌||◌, false≢true}
 use mathlib.Core.List.{List, [], ◌∷◌, ◌++◌, append_assoc, append-nil}
 use mathlib.Core.Logic.{◌⊎◌, inl, inr}
 use Prim.Native.Nat.{ℕ, suc, ◌+◌, ◌-◌, ◌^◌, ◌≤◌, ◌<◌, min}
@@ -9,12 +9,13 @@ use native.Mathlib.Decide.{dec_le, ℕ_discrete}
 use native.Mathlib.Numerals.{add-one}
 use native.Mathlib.Omega.{arith}
 use lib.Dec.{leb, ltb, eqb}
-use lib.ListN.{length, take, drop, get_or, length-append, length-take, length-drop}
-use lib.Seq.{drop-cons, drop-drop, take_all, drop-length, take_at, drop_at, take-append-add}
-use borrow.Author.Tests.{eq-eqb, ne_eqb, eqb-true, ltb-true, ltb-false, leb-true, leb-false}
+use lib.ListN.{length, take, drop, length-append, length-take, length-drop}
+use lib.Seq.{drop-drop, take_all, drop-length, take_at, drop_at, take-append-add}
+use borrow.Author.Tests.{eqb-true, ltb-true, ltb-false, leb-true, leb-false}
 use Rattle.lists.proofs.Cases.{by_cases}
 use Rattle.lists.proofs.Tests.{and_true}
-use Rattle.std.specs.Prelude.{Option, Some, None, is_some}
+use Rattle.std.specs.Prelude.{Option, Some, None, is_some, unwrap_or, nat_eq}
+use Rattle.std.specs.List.{position_or_len}
 use Rattle.lines.specs.declared.Reply.{Reply}
 use Rattle.lines.specs.declared.Reply.TheVariants.{WrongLine}
 use Rattle.lines.specs.Request.{parsed}
@@ -34,18 +35,32 @@ use Rattle.desk.proofs.PartLaws.{lines_some}
 
 -- the first byte 0A
 
-pub until_here : (bs : List ℕ) (i : ℕ) → i < length bs → get_or bs i 0 ≡ line_feed → until_feed (drop i bs) ≡ 0
-unfolding until_feed
-until_here bs i h e = rw (drop-cons bs i 0 h) (rw (eq-eqb (get_or bs i 0) line_feed e, until_feed))
+abbrev pub feed : ℕ → Bool
+feed b = nat_eq b line_feed
 
-pub until_later : (bs : List ℕ) (i : ℕ) → i < length bs → (get_or bs i 0 ≡ line_feed → ⊥) → until_feed (drop i bs) ≡ 1 + until_feed (drop (i + 1) bs)
+pub until_first : (bs : List ℕ) → (until_feed bs ≡ position_or_len feed bs) × (position_or_len feed bs ≤ length bs)
 unfolding until_feed
-until_later bs i h e =
-    rw (add-one i, drop-cons bs i 0 h) (rw (ne_eqb (get_or bs i 0) line_feed e, until_feed) (omega arith))
+until_first [] = (refl, omega arith)
+until_first (b ∷ bs) =
+    let n : ℕ = position_or_len feed bs in
+    let r = until_first bs in
+    let e : suc n ≡ 1 + n = omega arith in
+    elim (eqb b line_feed) as (λ v.
+    (◌≡◌ {A = ℕ} (elim v [ true ↦ 0 | false ↦ suc (until_feed bs) ]) (cond (not v) (1 + n) 0)) × (cond (not v) (1 + n) 0 ≤ length (b ∷ bs))) [
+      | true ↦ (refl, omega arith)
+      | false ↦ (ap suc r.0 ∙ e, omega (arith, r.1))
+    ]
 
-pub until_end : (bs : List ℕ) (i : ℕ) → i ≡ length bs → until_feed (drop i bs) ≡ 0
-unfolding until_feed
-until_end bs i e = rw (e, drop-length bs)
+pub until_found : (bs : List ℕ) (o : Option ℕ)
+    → o ≡ cond (ltb (position_or_len feed bs) (length bs)) (Some (position_or_len feed bs)) None
+    → (unwrap_or o (length bs) ≡ until_feed bs) × (unwrap_or o (length bs) ≤ length bs)
+until_found bs o e =
+    let r = until_first bs in
+    let n : ℕ = position_or_len feed bs in
+    let w : unwrap_or o (length bs) ≡ n =
+    ap (λ (q : Option ℕ). unwrap_or q (length bs)) e
+    ∙ by_cases (ltb n (length bs)) (λ t. rw t) (λ t. rw t (omega (arith, r.1, ltb-false n (length bs) t))) in
+    (w ∙ sym r.0, omega (arith, w, r.1))
 
 until_within : (bs : List ℕ) → until_feed bs ≤ length bs
 unfolding until_feed

@@ -294,12 +294,10 @@ fn list_part(store: &[u32], l: Listing, out: &mut [u8]) -> Listed
 fn until_feed(input: &[u8]) -> usize
     ensures { (result ≡ until_feed input.now) × (result ≤ length input.now) }
 {
-    for (i, byte) in input.iter().enumerate() {
-        if *byte == b'\n' {
-            return i;
-        }
-    }
-    input.len()
+    input
+        .iter()
+        .position(|b| *b == b'\n')
+        .unwrap_or(input.len())
 }
 
 // The desk with more bytes of its line; of a line that is too long only as many as show that.
