@@ -73,7 +73,8 @@ fn failure(rt: &impl Print, tally: &mut [u64]) -> bool
     true
 }
 
-// A trial of a fact.
+// A trial of a fact. (Out of line: where it stands in each caller, a call that is watched is not.)
+#[inline(never)]
 pub fn hold(rt: &impl Print, tally: &mut [u64], holds: bool, fact: &[u8])
     ensures { tally.new ≡ tried tally.old holds }
 {
