@@ -1,6 +1,7 @@
 -- Calls of serve, one after another: a chunk is served whole, chunk after chunk makes the input, and the bytes put are the transcript.
 --   Reaches s d input w t e v from == the input up to from is taken: what the rest brings, with the bytes put so far, is what the whole
 --                                brings; a writer that held w holds v, with those bytes behind w
+--   ReadSoFar s e left r q w v == as SoFar, with a chunk for each read, also for one that brought nothing; so many reads are left to make
 use mathlib.Core.Path.{◌≡◌, refl, sym, ap, ap₂, ◌∙◌, subst}
 use mathlib.Core.Bool.{Bool, true, false, false≢true}
 use mathlib.Core.List.{List, [], ◌∷◌, ◌++◌, append_assoc, append-nil}
@@ -21,7 +22,7 @@ use Rattle.desk.proofs.ServeLaws.{part_from, part_long_lem}
 use Rattle.desk.proofs.Delivery.{delivered, end_put}
 use Rattle.counter.specs.declared.Failure.{Failure}
 use Rattle.counter.specs.declared.Failure.TheVariants.{Reading, Writing, Ending}
-use Rattle.counter.specs.Program.{Known, Whole, Turned, most_reads, joined, NoneEmpty, SoFar, ServedAll, Ran, Transcribed, OutOfReads, Ended}
+use Rattle.counter.specs.Program.{Known, Whole, Turned, Answered, most_reads, joined, NoneEmpty, SoFar, ServedAll, Ran, Transcribed, OutOfReads, Ended}
 
 -- runs, one after another
 pub run_then : {s : List ℕ} {d : Desk} {is xs t : List ℕ} {e : Desk} {bs ys u : List ℕ} {f : Desk} → Run s d is xs t e → Run t e bs ys u f
@@ -144,27 +145,36 @@ so_start s d r w zeros empty none = (
   Appends-nil w,
 )
 
+-- chunks that are answered so, and one more
+module _ (s : List ℕ) (d : Desk) (chunk t : List ℕ) (e : Desk) (r q p w v x : Known) (cs : List (List ℕ)) (bytes : List ℕ)
+    (a : Answered s d (joined cs) bytes) (taken : Consumes r q (joined cs)) (put : Appends w v bytes) (b : Whole s d chunk t e v x)
+    (came : Consumes q p chunk) where
+  on_with : (input : List ℕ) → input ≡ joined cs ++ chunk
+      → Answered t e input (bytes ++ b.0) × Consumes r p input × Appends w x (bytes ++ b.0)
+  on_with input is = (
+    (
+      a.0,
+      a.1,
+      a.2,
+      subst (λ is. Run (replicate store_words 0) a.0 is (bytes ++ b.0) t e) (sym is) (run_then a.3 b.1),
+      b.2,
+    ),
+    subst (Consumes r p) (sym is) (Consumes-trans r q p (joined cs) chunk taken came),
+    Appends-trans w v x bytes b.0 put b.3,
+  )
+
+abbrev pub ReadSoFar : List ℕ → Desk → ℕ → Known → Known → Known → Known → Type 0
+ReadSoFar s e left r q w v =
+    (chunks : List (List ℕ)) × (bytes : List ℕ) × (length chunks + left ≡ most_reads) × Answered s e (joined chunks) bytes
+    × Consumes r q (joined chunks) × Appends w v bytes
+
 -- one read more: chunks, and then what it brought
 module _ (s : List ℕ) (d : Desk) (chunk t : List ℕ) (e : Desk) (left : ℕ) (r q p w v x : Known) (a : SoFar s d left r q w v)
     (b : Whole s d chunk t e v x) (came : Consumes q p chunk) where
   so_on : (next : ℕ) (cs : List (List ℕ)) → length cs + next ≡ most_reads → NoneEmpty cs → joined cs ≡ joined a.0 ++ chunk
       → SoFar t e next r p w x
   so_on next cs n full is =
-      let c = a.4 in (
-        cs,
-        a.1 ++ b.0,
-        n,
-        full,
-        (
-          c.0,
-          c.1,
-          c.2,
-          subst (λ input. Run (replicate store_words 0) c.0 input (a.1 ++ b.0) t e) (sym is) (run_then c.3 b.1),
-          b.2,
-        ),
-        subst (Consumes r p) (sym is) (Consumes-trans r q p (joined a.0) chunk a.5 came),
-        Appends-trans w v x a.1 b.0 a.6 b.3,
-      )
+      let c = on_with s d chunk t e r q p w v x a.0 a.1 a.4 a.5 a.6 b came (joined cs) is in (cs, a.1 ++ b.0, n, full, c.0, c.1, c.2)
 
   pub so_then : (next : ℕ) → next + 1 ≡ left → 1 ≤ length chunk → SoFar t e next r p w x
   so_then next one full =
@@ -176,6 +186,44 @@ module _ (s : List ℕ) (d : Desk) (chunk t : List ℕ) (e : Desk) (left : ℕ) 
   pub so_still : chunk ≡ [] → SoFar t e left r p w x
   so_still none =
       so_on left a.0 a.2 a.3 (sym (append-nil (joined a.0)) ∙ ap (λ (c : List ℕ). joined a.0 ++ c) (sym none))
+
+-- the same with a chunk for each read, also for one that brought nothing: so many reads are left to make
+pub read_then : (s : List ℕ) (d : Desk) (chunk t : List ℕ) (e : Desk) (left next : ℕ) (r q p w v x : Known) → next + 1 ≡ left
+    → ReadSoFar s d left r q w v → Whole s d chunk t e v x → Consumes q p chunk → ReadSoFar t e next r p w x
+read_then s d chunk t e left next r q p w v x one a b came =
+    let cs : List (List ℕ) = a.0 ++ chunk ∷ [] in
+    let n : length cs + next ≡ most_reads = omega (arith, length-append a.0 (chunk ∷ []), a.2, one) in
+    let c = on_with s d chunk t e r q p w v x a.0 a.1 a.3 a.4 a.5 b came (joined cs) (joined_then a.0 chunk) in
+    (cs, a.1 ++ b.0, n, c.0, c.1, c.2)
+
+pub so_far_read : (s : List ℕ) (e : Desk) (left : ℕ) (r q w v : Known) → SoFar s e left r q w v → ReadSoFar s e left r q w v
+so_far_read s e left r q w v a = (a.0, a.1, a.2, a.4, a.5, a.6)
+
+full_chunks : (cs : List (List ℕ)) → (ds : List (List ℕ)) × NoneEmpty ds × (joined ds ≡ joined cs) × (length ds ≤ length cs)
+full_chunks [] = ([], tt, refl, omega arith)
+full_chunks ([] ∷ cs) = let a = full_chunks cs in (a.0, a.1, a.2, omega (arith, a.3))
+full_chunks ((b ∷ bs) ∷ cs) =
+    let a = full_chunks cs in
+    ((b ∷ bs) ∷ a.0, (omega arith, a.1), ap (λ (xs : List ℕ). (b ∷ bs) ++ xs) a.2, omega (arith, a.3))
+
+-- without the reads that brought nothing
+pub so_far_full : (s : List ℕ) (e : Desk) (left : ℕ) (r q w v : Known) → ReadSoFar s e left r q w v
+    → (more : ℕ) × (left ≤ more) × SoFar s e more r q w v
+so_far_full s e left r q w v a =
+    let b = full_chunks a.0 in
+    let more = left + (length a.0 - length b.0) in (
+      more,
+      omega arith,
+      (
+        b.0,
+        a.1,
+        omega (arith, a.2, b.3),
+        b.1,
+        subst (λ is. Answered s e is a.1) (sym b.2) a.3,
+        subst (Consumes r q) (sym b.2) a.4,
+        a.5,
+      ),
+    )
 
 pub so_quiet : (s : List ℕ) (d : Desk) (left : ℕ) (r q w v : Known) → SoFar s d left r q w v → d.listing ≡ None
 so_quiet s d left r q w v a = a.4.4
