@@ -199,41 +199,18 @@ read_then s d chunk t e left next r q p w v x one a b came =
 pub so_far_read : (s : List ℕ) (e : Desk) (left : ℕ) (r q w v : Known) → SoFar s e left r q w v → ReadSoFar s e left r q w v
 so_far_read s e left r q w v a = (a.0, a.1, a.2, a.4, a.5, a.6)
 
-full_chunks : (cs : List (List ℕ)) → (ds : List (List ℕ)) × NoneEmpty ds × (joined ds ≡ joined cs) × (length ds ≤ length cs)
-full_chunks [] = ([], tt, refl, omega arith)
-full_chunks ([] ∷ cs) = let a = full_chunks cs in (a.0, a.1, a.2, omega (arith, a.3))
-full_chunks ((b ∷ bs) ∷ cs) =
-    let a = full_chunks cs in
-    ((b ∷ bs) ∷ a.0, (omega arith, a.1), ap (λ (xs : List ℕ). (b ∷ bs) ++ xs) a.2, omega (arith, a.3))
-
--- without the reads that brought nothing
-pub so_far_full : (s : List ℕ) (e : Desk) (left : ℕ) (r q w v : Known) → ReadSoFar s e left r q w v
-    → (more : ℕ) × (left ≤ more) × SoFar s e more r q w v
-so_far_full s e left r q w v a =
-    let b = full_chunks a.0 in
-    let more = left + (length a.0 - length b.0) in (
-      more,
-      omega arith,
-      (
-        b.0,
-        a.1,
-        omega (arith, a.2, b.3),
-        b.1,
-        subst (λ is. Answered s e is a.1) (sym b.2) a.3,
-        subst (Consumes r q) (sym b.2) a.4,
-        a.5,
-      ),
-    )
-
 pub so_quiet : (s : List ℕ) (d : Desk) (left : ℕ) (r q w v : Known) → SoFar s d left r q w v → d.listing ≡ None
 so_quiet s d left r q w v a = a.4.4
 
 -- the last reply, where all is well
+pub answered_whole : (s : List ℕ) (e : Desk) (last input bytes : List ℕ) → Answered s e input bytes → last ≡ ending (line_of e)
+    → bytes ++ last ≡ transcript input
+answered_whole s e last input bytes a end =
+    ap (λ (xs : List ℕ). bytes ++ xs) end ∙ delivered input bytes s a.0 e a.1 a.2 a.3 a.4
+
 module _ (s : List ℕ) (e : Desk) (last : List ℕ) (left : ℕ) (r q w v : Known) (a : SoFar s e left r q w v) where
   whole_transcript : last ≡ ending (line_of e) → a.1 ++ last ≡ transcript (joined a.0)
-  whole_transcript end =
-      let b = a.4 in
-      ap (λ (xs : List ℕ). a.1 ++ xs) end ∙ delivered (joined a.0) a.1 s b.0 e b.1 b.2 b.3 b.4
+  whole_transcript = answered_whole s e last (joined a.0) a.1 a.4
 
   pub ran_well : (ok : Bool) → last ≡ ending (line_of e) → Ran s e ok last left
   ran_well ok end = (a.0, a.1, a.2, a.3, a.4, λ well. whole_transcript end)
