@@ -176,8 +176,9 @@ module _ (s : List ℕ) (d : Desk) (chunk t : List ℕ) (e : Desk) (left : ℕ) 
   so_on next cs n full is =
       let c = on_with s d chunk t e r q p w v x a.0 a.1 a.4 a.5 a.6 b came (joined cs) is in (cs, a.1 ++ b.0, n, full, c.0, c.1, c.2)
 
-  pub so_then : (next : ℕ) → next + 1 ≡ left → 1 ≤ length chunk → SoFar t e next r p w x
-  so_then next one full =
+  -- it brought a byte
+  pub so_some : (next : ℕ) → next + 1 ≡ left → 1 ≤ length chunk → SoFar t e next r p w x
+  so_some next one full =
       let cs : List (List ℕ) = a.0 ++ chunk ∷ [] in
       let n : length cs + next ≡ most_reads = omega (arith, length-append a.0 (chunk ∷ []), a.2, one) in
       so_on next cs n (none_empty_then a.0 chunk a.3 full) (joined_then a.0 chunk)
@@ -188,9 +189,9 @@ module _ (s : List ℕ) (d : Desk) (chunk t : List ℕ) (e : Desk) (left : ℕ) 
       so_on left a.0 a.2 a.3 (sym (append-nil (joined a.0)) ∙ ap (λ (c : List ℕ). joined a.0 ++ c) (sym none))
 
 -- the same with a chunk for each read, also for one that brought nothing: so many reads are left to make
-pub read_then : (s : List ℕ) (d : Desk) (chunk t : List ℕ) (e : Desk) (left next : ℕ) (r q p w v x : Known) → next + 1 ≡ left
+pub so_then : (s : List ℕ) (d : Desk) (chunk t : List ℕ) (e : Desk) (left next : ℕ) (r q p w v x : Known) → next + 1 ≡ left
     → ReadSoFar s d left r q w v → Whole s d chunk t e v x → Consumes q p chunk → ReadSoFar t e next r p w x
-read_then s d chunk t e left next r q p w v x one a b came =
+so_then s d chunk t e left next r q p w v x one a b came =
     let cs : List (List ℕ) = a.0 ++ chunk ∷ [] in
     let n : length cs + next ≡ most_reads = omega (arith, length-append a.0 (chunk ∷ []), a.2, one) in
     let c = on_with s d chunk t e r q p w v x a.0 a.1 a.3 a.4 a.5 b came (joined cs) (joined_then a.0 chunk) in
@@ -260,7 +261,7 @@ module _ (s : List ℕ) (d : Desk) (left : ℕ) (r q w v : Known) (a : SoFar s d
       → SoFar t e next r p w x
   more_read next o e one turned is =
       let b = subst (λ (i : Option Desk). Turned s d chunk t v x (Ok i)) is turned in
-      so_then s d chunk t e left r q p w v x a b.1 came next one b.0
+      so_some s d chunk t e left r q p w v x a b.1 came next one b.0
 
   pub all_read : (room : ℕ) (o : Option Desk) → Turned s d chunk t v x (Ok o) → o ≡ None → (0 < room → IsAtEnd p)
       → ServedAll t room r p w x (Ok d)
