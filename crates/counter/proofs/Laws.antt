@@ -119,6 +119,10 @@ joined_then : (cs : List (List ℕ)) (c : List ℕ) → joined (cs ++ c ∷ []) 
 joined_then [] c = append-nil c
 joined_then (b ∷ cs) c = ap (λ (xs : List ℕ). b ++ xs) (joined_then cs c) ∙ sym (append_assoc b (joined cs) c)
 
+count_then : (cs : List (List ℕ)) (c : List ℕ) (left next : ℕ) → next + 1 ≡ left → length cs + left ≡ most_reads
+    → length (cs ++ c ∷ []) + next ≡ most_reads
+count_then cs c left next one n = omega (arith, length-append cs (c ∷ []), n, one)
+
 none_empty_then : (cs : List (List ℕ)) (c : List ℕ) → NoneEmpty cs → 1 ≤ length c → NoneEmpty (cs ++ c ∷ [])
 none_empty_then [] c all full = (full, tt)
 none_empty_then (b ∷ cs) c all full = (all.0, none_empty_then cs c all.1 full)
@@ -179,23 +183,20 @@ module _ (s : List ℕ) (d : Desk) (chunk t : List ℕ) (e : Desk) (left : ℕ) 
   -- it brought a byte
   pub so_some : (next : ℕ) → next + 1 ≡ left → 1 ≤ length chunk → SoFar t e next r p w x
   so_some next one full =
-      let cs : List (List ℕ) = a.0 ++ chunk ∷ [] in
-      let n : length cs + next ≡ most_reads = omega (arith, length-append a.0 (chunk ∷ []), a.2, one) in
-      so_on next cs n (none_empty_then a.0 chunk a.3 full) (joined_then a.0 chunk)
+      so_on next (a.0 ++ chunk ∷ []) (count_then a.0 chunk left next one a.2) (none_empty_then a.0 chunk a.3 full) (joined_then a.0 chunk)
 
   -- it brought nothing
   pub so_still : chunk ≡ [] → SoFar t e left r p w x
   so_still none =
       so_on left a.0 a.2 a.3 (sym (append-nil (joined a.0)) ∙ ap (λ (c : List ℕ). joined a.0 ++ c) (sym none))
 
--- the same with a chunk for each read, also for one that brought nothing: so many reads are left to make
+-- one read more, whether or not it brought a byte
 pub so_then : (s : List ℕ) (d : Desk) (chunk t : List ℕ) (e : Desk) (left next : ℕ) (r q p w v x : Known) → next + 1 ≡ left
     → ReadSoFar s d left r q w v → Whole s d chunk t e v x → Consumes q p chunk → ReadSoFar t e next r p w x
 so_then s d chunk t e left next r q p w v x one a b came =
     let cs : List (List ℕ) = a.0 ++ chunk ∷ [] in
-    let n : length cs + next ≡ most_reads = omega (arith, length-append a.0 (chunk ∷ []), a.2, one) in
     let c = on_with s d chunk t e r q p w v x a.0 a.1 a.3 a.4 a.5 b came (joined cs) (joined_then a.0 chunk) in
-    (cs, a.1 ++ b.0, n, c.0, c.1, c.2)
+    (cs, a.1 ++ b.0, count_then a.0 chunk left next one a.2, c.0, c.1, c.2)
 
 pub so_far_read : (s : List ℕ) (e : Desk) (left : ℕ) (r q w v : Known) → SoFar s e left r q w v → ReadSoFar s e left r q w v
 so_far_read s e left r q w v a = (a.0, a.1, a.2, a.4, a.5, a.6)
